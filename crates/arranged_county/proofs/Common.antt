@@ -3,11 +3,11 @@ pub use Rattle.canonical_form.proofs.Arrangements.ArrangedNumbers.{few_landmarks
 pub use Rattle.canonical_form.proofs.Arrangements.PlacesFit.{FitsPlaces, few_names, places_fit}
 pub use Rattle.canonical_form.proofs.Arrangements.PolygonNumbers.{by_number, content_at_number, key_numbered}
 pub use Rattle.canonical_form.proofs.Common.{AllByRecursion, IsPermutation-map, IsPermutation-trans, landmarks_in_order, length_permutation}
-pub use Rattle.canonical_form.proofs.Common.{AllKeysStandIn, Body5, first_seen_after, has_repeat-apart, ordering_reverse, polygons_in_order}
+pub use Rattle.canonical_form.proofs.Common.{AllKeysContained, Body5, first_seen_after, has_repeat-apart, ordering_reverse, polygons_in_order}
 pub use Rattle.canonical_form.proofs.Common.{AreWhole, Bool, IsCounty, Ordering, drop_all, flat_map, in_order, key_keys, link_cmp, ltb-true}
 pub use Rattle.canonical_form.proofs.Common.{Arrangement, HasChainsOf, among_known, arranged_by, cons_option, under_number, uses_of_name, ℕ}
 pub use Rattle.canonical_form.proofs.Common.{Body7, IsTotalOrder, link_part_cmp, nat_cmp_total, numbered_from, ordering_then, slice_get-map}
-pub use Rattle.canonical_form.proofs.Common.{Chain, HasAtMost, IsInOrder, all_among, link_keys, link_part, slice_get, stands_in, true≢false}
+pub use Rattle.canonical_form.proofs.Common.{Chain, HasAtMost, IsInOrder, all_among, link_keys, link_part, slice_get, contains, true≢false}
 pub use Rattle.canonical_form.proofs.Common.{County, IfSome, IsTrue, Option, Use, filter, get_or, length, lt-ltb, nat_cmp, tlid_at, use_cmp}
 pub use Rattle.canonical_form.proofs.Common.{DirectedChain, IsPermutation, NamesEachOnce, ap, length-append, polygons_along, range_with_len}
 pub use Rattle.canonical_form.proofs.Common.{Equal, Known, arith, false, feats, image, is_eq, is_gt, is_lt, lands, placed, ranked, rules}
@@ -39,7 +39,7 @@ pub use Rattle.canonical_form.specs.WholeArrangements.{AreReadAt, link_bounds, l
 pub use Rattle.county_chart.proofs.Common.{PolygonSide, bodies_at, links_at, links_with, ranks_by, set, slice_cmp, unwrap_or}
 pub use Rattle.county_chart.proofs.Common.{YieldsList-from_map, YieldsList-from_range, YieldsList-from_slice, in_order-from_sorted, tests}
 pub use Rattle.county_chart.proofs.Common.{always_returns_same, distinct-in_order, false_from_ne_true, one_more_taken, slice_get_within}
-pub use Rattle.county_chart.proofs.Profile.Places.{is_some_from, stands_at}
+pub use Rattle.county_chart.proofs.Profile.Places.{is_some_from, is_at}
 pub use Rattle.county_chart.proofs.{ByKey.PlacesOfCenids.known_at, Limits.FewChains.few_chains}
 pub use Rattle.county_chart.specs.{BodyOrder.name_body_cmp, Renumbering.side_of}
 pub use Rattle.ordered_lists.proofs.Common.{Err, IfOk, Ok, Result, enumerate_from, get_or-set_other, get_or-set_same, items_from_collect}

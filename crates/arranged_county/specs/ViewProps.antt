@@ -2,7 +2,7 @@
 use Rattle.std.specs.{Prelude.List, Prelude.ℕ, declared.cmp.Ordering.Ordering}
 use Rattle.std.proofs.Props.{props}
 use Rattle.county_chart.specs.{County.County, LimitsProps.IsWithinLimits-prop, declared.directed_chain.DirectedChain.DirectedChain}
-use Rattle.county_chart.specs.{CountyProps.IsCounty-prop, CountyRules.AllKeysStandIn, CountyRules.polygon_keys, CountyRules.polygons_along}
+use Rattle.county_chart.specs.{CountyProps.IsCounty-prop, CountyRules.AllKeysContained, CountyRules.polygon_keys, CountyRules.polygons_along}
 use Rattle.arranged_county.specs.ViewFacts.{MatchesLandmarks, MatchesNames, MatchesNodes, MatchesPolygons}
 use Rattle.arranged_county.specs.{ContentItems.AreClasses, declared.arranged_tables.LandmarkTables.LandmarkTables}
 use Rattle.arranged_county.specs.{declared.arranged_tables.NameTables.NameTables, declared.arranged_tables.NodeTables.NodeTables}
@@ -12,8 +12,8 @@ use Rattle.canonical_form.specs.WholeArrangements.{AreWhole}
 pub AreWhole-prop : (county : County) (arrangement : List DirectedChain) → IsProp (AreWhole county arrangement)
 AreWhole-prop county arrangement = hlevel (props, IsCounty-prop, IsWithinLimits-prop)
 
-pub StandOnSides-prop : (county : County) → IsProp (AllKeysStandIn (polygons_along county.chains) (polygon_keys county))
-StandOnSides-prop county = hlevel props
+pub AreSidesContained-prop : (county : County) → IsProp (AllKeysContained (polygons_along county.chains) (polygon_keys county))
+AreSidesContained-prop county = hlevel props
 
 pub MatchesNodes-prop : (county : County) (arrangement : List DirectedChain) (tables : NodeTables) → IsProp (MatchesNodes county arrangement tables)
 MatchesNodes-prop county arrangement tables = hlevel props

@@ -2,17 +2,17 @@
 
 ghost use Rattle.std.specs.Prelude.{Some, length, option_map, slice_get, ◌<◌, ◌≡◌};
 ghost use Rattle.std.specs.{Option.option_and_then, Ordering.nat_cmp};
-ghost use Rattle.county_chart.specs.CountyRules.{AllKeysStandIn, polygon_keys, polygons_along};
+ghost use Rattle.county_chart.specs.CountyRules.{AllKeysContained, polygon_keys, polygons_along};
 ghost use Rattle.county_chart.specs.{ChartWords.chain_at, ChartWords.polygon_under, DirectedChains.directed_chain, Renumbering.renumbered};
 ghost use Rattle.ordered_lists.specs.{Entries.entry_values, Pairs.image};
 ghost use Rattle.canonical_form.specs.{Arrangement.renaming_of, EndsAndSides.ends_of, EndsAndSides.sides_of, WholeArrangements.AreWhole};
 ghost use Rattle.canonical_form.specs.{ByNumber.polygons_by_number, DirectedChains.arrangement_of, WholeArrangements.arranged_by};
 ghost use Rattle.arranged_county.specs.ViewFacts.{MatchesLandmarks, MatchesNames, MatchesNodes, MatchesPolygons};
 ghost use Rattle.arranged_county.specs.ViewProps.{AreWhole-prop, MatchesLandmarks-prop, MatchesNames-prop, MatchesNodes-prop};
-ghost use Rattle.arranged_county.specs.ViewProps.{MatchesPolygons-prop, StandOnSides-prop};
+ghost use Rattle.arranged_county.specs.ViewProps.{MatchesPolygons-prop, AreSidesContained-prop};
 
 use crate::arranged_tables::{Ends, LandmarkTables, NameTables, NodeTables, PolygonTables, Sides};
-use crate::numbers::stands_at;
+use crate::numbers::is_at;
 use crate::renumbering::new_feat;
 use county_chart::{Chart, DirectedChain, PolygonKey};
 use std::marker::PhantomData;
@@ -46,7 +46,7 @@ pub struct Arranged<C: Chart, S: Evidence = Unknown> {
     pub(crate) landmarks: LandmarkTables,
     pub(crate) evidence: PhantomData<S>,
     ghost whole: { AreWhole (C.county chart) arrangement.items } by { AreWhole-prop (C.county chart) arrangement.items },
-    ghost sides: { AllKeysStandIn (polygons_along (C.county chart).chains) (polygon_keys (C.county chart)) } by { StandOnSides-prop (C.county chart) },
+    ghost sides: { AllKeysContained (polygons_along (C.county chart).chains) (polygon_keys (C.county chart)) } by { AreSidesContained-prop (C.county chart) },
     ghost nodes_stated: { MatchesNodes (C.county chart) arrangement.items nodes } by { MatchesNodes-prop (C.county chart) arrangement.items nodes },
     ghost polygons_stated: { MatchesPolygons (C.county chart) arrangement.items polygons } by { MatchesPolygons-prop (C.county chart) arrangement.items polygons },
     ghost names_stated: { MatchesNames (C.county chart) arrangement.items names } by { MatchesNames-prop (C.county chart) arrangement.items names },
@@ -136,7 +136,7 @@ impl<C: Chart, S: Evidence> Arranged<C, S> {
     {
         let cenid = old.0;
         let new = (cenid, place as u64 + 1);
-        if !stands_at(&self.polygons.keys, place, new) {
+        if !is_at(&self.polygons.keys, place, new) {
             return self.chart.polygon_body_of(old);
         }
         self.polygon_body_at_key(place).flatten()

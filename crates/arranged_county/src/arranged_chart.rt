@@ -5,7 +5,7 @@
 
 ghost use Rattle.std.specs.Ordering.{nat_cmp};
 ghost use Rattle.std.specs.Prelude.{◌≡◌, IfSome, Some, is_some, slice_get};
-ghost use Rattle.ordered_lists.specs.Orders.{stands_in};
+ghost use Rattle.ordered_lists.specs.Orders.{contains};
 ghost use Rattle.canonical_form.specs.Growth.{up_to};
 
 use crate::arranged::{Arranged, Evidence, old_place};
@@ -15,7 +15,7 @@ use ordered_lists::place_of;
 use tl_layout::{Body1, Body5, Body7, BodyI, BodyP, Point, Ranges, Rec8, Side};
 
 /// The number at a place, counted from 0, or `None` past the last one.
-pub(crate) fn number_at(count: usize, place: usize) -> Option<u64>
+pub(crate) fn number_of_place(count: usize, place: usize) -> Option<u64>
     ensures { result ≡ slice_get (up_to count) place }
 {
     if place < count {
@@ -28,7 +28,7 @@ pub(crate) fn number_at(count: usize, place: usize) -> Option<u64>
 /// The place of a number, counted from 0, or `None` if it isn't one of them.
 pub(crate) fn place_of_number(count: usize, number: u64) -> Option<usize>
     ensures found { IfSome result (λ place. slice_get (up_to count) place ≡ Some number) }
-    ensures known { is_some result ≡ stands_in nat_cmp number (up_to count) }
+    ensures known { is_some result ≡ contains nat_cmp number (up_to count) }
 {
     if number == 0 {
         return None;
@@ -48,7 +48,7 @@ impl<C: Chart, S: Evidence> Chart for Arranged<C, S> {
     }
 
     fn tlid_at(&self, place: usize) -> Option<u64> {
-        number_at(self.arrangement.as_slice().len(), place)
+        number_of_place(self.arrangement.as_slice().len(), place)
     }
 
     fn chain_place(&self, tlid: u64) -> Option<usize> {
@@ -60,7 +60,7 @@ impl<C: Chart, S: Evidence> Chart for Arranged<C, S> {
     }
 
     fn feat_at(&self, place: usize) -> Option<u32> {
-        match number_at(self.names.feats.len(), place) {
+        match number_of_place(self.names.feats.len(), place) {
             Some(feat) => Some(feat as u32),
             None => None,
         }
@@ -87,7 +87,7 @@ impl<C: Chart, S: Evidence> Chart for Arranged<C, S> {
     }
 
     fn land_at(&self, place: usize) -> Option<u64> {
-        number_at(self.landmarks.places.as_slice().len(), place)
+        number_of_place(self.landmarks.places.as_slice().len(), place)
     }
 
     fn landmark_place(&self, land: u64) -> Option<usize> {
@@ -99,7 +99,7 @@ impl<C: Chart, S: Evidence> Chart for Arranged<C, S> {
     }
 
     fn node_at(&self, place: usize) -> Option<u64> {
-        number_at(self.nodes.numbers.len(), place)
+        number_of_place(self.nodes.numbers.len(), place)
     }
 
     fn node_place(&self, node: u64) -> Option<usize> {

@@ -1,7 +1,7 @@
 //! Making the county of an arrangement.
 
 ghost use Rattle.std.specs.Prelude.{IfOk, length, ◌<◌, ◌^◌, ◌≡◌};
-ghost use Rattle.county_chart.specs.CountyRules.{AllKeysStandIn, polygon_keys, polygons_along};
+ghost use Rattle.county_chart.specs.CountyRules.{AllKeysContained, polygon_keys, polygons_along};
 ghost use Rattle.canonical_form.specs.{Arrangement.arranged, Arrangement.polygons_in_order, DirectedChains.HasChainsOf};
 ghost use Rattle.canonical_form.specs.{DirectedChains.arrangement_of, WholeArrangements.AreWhole, WholeArrangements.NamesEachOnce};
 ghost use Rattle.arranged_county.specs.ViewFacts.{MatchTables, MatchesLandmarks, MatchesNames};
@@ -20,7 +20,7 @@ use std::alloc::{AllocError, Global};
 use std::marker::PhantomData;
 
 /// The tables of a county in an arrangement, for its nodes, polygons, names and landmarks.
-type Tables = (NodeTables, PolygonTables, NameTables, LandmarkTables);
+type AllTables = (NodeTables, PolygonTables, NameTables, LandmarkTables);
 
 /// The names and the landmarks of a county in this arrangement, with its polygons by first appearance.
 fn arrange_names_and_landmarks<C: Chart>(
@@ -47,10 +47,10 @@ fn arrange_tables<C: Chart>(
     alloc: Global,
     classes: &Classes<'_, C>,
     arrangement: &[DirectedChain],
-) -> Result<Tables, AllocError>
+) -> Result<AllTables, AllocError>
     requires there { HasChainsOf (classed_county classes.now) arrangement.now }
     requires once { NamesEachOnce (classed_county classes.now) (arrangement_of (classed_county classes.now) arrangement.now) }
-    requires sides { AllKeysStandIn (polygons_along (classed_county classes.now).chains) (polygon_keys (classed_county classes.now)) }
+    requires sides { AllKeysContained (polygons_along (classed_county classes.now).chains) (polygon_keys (classed_county classes.now)) }
     ensures { IfOk result (MatchTables (classed_county classes.now) arrangement.now) }
 {
     let (nodes, polygons) = arrange_nodes_and_polygons(alloc, classes.chart, arrangement)?;
@@ -63,11 +63,11 @@ fn arrange_tables<C: Chart>(
 fn with_tables<C: Chart + Drop>(
     chart: C,
     arrangement: Vec<DirectedChain>,
-    tables: Tables,
+    tables: AllTables,
 ) -> Arranged<C>
     requires there { HasChainsOf (C.county chart) arrangement.items }
     requires once { NamesEachOnce (C.county chart) (arrangement_of (C.county chart) arrangement.items) }
-    requires sides { AllKeysStandIn (polygons_along (C.county chart).chains) (polygon_keys (C.county chart)) }
+    requires sides { AllKeysContained (polygons_along (C.county chart).chains) (polygon_keys (C.county chart)) }
     requires tables { MatchTables (C.county chart) arrangement.items tables }
     ensures source { source_of result ≡ chart }
     ensures order { directed_chains_of result ≡ arrangement }
@@ -100,7 +100,7 @@ pub fn arrange_in_classes<C: Chart, D: Chart + Drop>(
     requires classes { classed_county classes.now ≡ D.county chart }
     requires there { HasChainsOf (D.county chart) arrangement.items }
     requires once { NamesEachOnce (D.county chart) (arrangement_of (D.county chart) arrangement.items) }
-    requires sides { AllKeysStandIn (polygons_along (D.county chart).chains) (polygon_keys (D.county chart)) }
+    requires sides { AllKeysContained (polygons_along (D.county chart).chains) (polygon_keys (D.county chart)) }
     ensures source { IfOk result (λ view. source_of view ≡ chart) }
     ensures order { IfOk result (λ view. directed_chains_of view ≡ arrangement) }
     ensures county { IfOk result
@@ -115,10 +115,10 @@ fn tables_of<C: Chart>(
     alloc: Global,
     chart: &C,
     arrangement: &[DirectedChain],
-) -> Result<Tables, AllocError>
+) -> Result<AllTables, AllocError>
     requires there { HasChainsOf (C.county chart.now) arrangement.now }
     requires once { NamesEachOnce (C.county chart.now) (arrangement_of (C.county chart.now) arrangement.now) }
-    requires sides { AllKeysStandIn (polygons_along (C.county chart.now).chains) (polygon_keys (C.county chart.now)) }
+    requires sides { AllKeysContained (polygons_along (C.county chart.now).chains) (polygon_keys (C.county chart.now)) }
     ensures { IfOk result (MatchTables (C.county chart.now) arrangement.now) }
 {
     let classes = Classes::of(alloc, chart)?;
@@ -137,7 +137,7 @@ pub fn arrange<C: Chart + Drop>(
 ) -> Result<Arranged<C>, AllocError>
     requires there { HasChainsOf (C.county chart) arrangement.items }
     requires once { NamesEachOnce (C.county chart) (arrangement_of (C.county chart) arrangement.items) }
-    requires sides { AllKeysStandIn (polygons_along (C.county chart).chains) (polygon_keys (C.county chart)) }
+    requires sides { AllKeysContained (polygons_along (C.county chart).chains) (polygon_keys (C.county chart)) }
     ensures source { IfOk result (λ view. source_of view ≡ chart) }
     ensures order { IfOk result (λ view. directed_chains_of view ≡ arrangement) }
     ensures county { IfOk result

@@ -28,7 +28,7 @@ use tl_layout::{NumberOrNone, Side};
 /// # Errors
 ///
 /// `AllocError` if an allocation failed.
-pub fn links_along<C: Chart>(
+pub fn topologies_along<C: Chart>(
     alloc: Global,
     chart: &C,
     arrangement: &[DirectedChain],
@@ -176,7 +176,7 @@ pub(crate) fn number_pairs<T: Half>(
 
 /// The nodes and the polygons of a county in the order of their first appearance along these directed chains, start before end and left
 /// before right, and the ends and the sides of these chains with the new numbers and keys.
-pub(crate) fn number_links<C: Chart>(
+pub(crate) fn number_topologies<C: Chart>(
     alloc: Global,
     chart: &C,
     arrangement: &[DirectedChain],
@@ -186,7 +186,7 @@ pub(crate) fn number_links<C: Chart>(
     ensures polygons { IfOk result (λ tables. tables.1 ≡ polygons_in_order (C.county chart.now) (arrangement_of (C.county chart.now) arrangement.now)) }
     ensures sides { IfOk result (λ tables. tables.2.items ≡ map sides_of (entry_values (arranged_by (C.county chart.now) arrangement.now).chains)) }
 {
-    let (ends, sides) = links_along(alloc, chart, arrangement)?;
+    let (ends, sides) = topologies_along(alloc, chart, arrangement)?;
     let (nodes, ends) = number_pairs(alloc, ends)?;
     let (polygons, sides) = number_pairs(alloc, sides)?;
     Ok((

@@ -9,7 +9,7 @@ ghost use Rattle.arranged_county.specs.LandmarkItems.{link_under};
 
 use crate::numbers::Interner;
 use crate::renumbering::{new_key, new_land};
-use county_chart::{Chart, PolygonKey, are_in_order, put_in_order, split_group};
+use county_chart::{Chart, PolygonKey, are_in_order, sort_by_keys, split_group};
 use ordered_lists::bring_close;
 use std::alloc::{AllocError, Global};
 use tl_layout::Rec8;
@@ -99,7 +99,7 @@ fn order_links(alloc: Global, links: &mut Vec<Rec8>, polygons: u64) -> Result<()
         return Ok(());
     }
     bring_close_by_land(alloc, links, polygons)?;
-    put_in_order::<LinkKey, Rec8>(links)
+    sort_by_keys::<LinkKey, Rec8>(links)
 }
 
 /// The links of a county in order, with these numbers of their polygons, and with their landmarks numbered by their places in a table.

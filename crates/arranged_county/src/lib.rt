@@ -30,6 +30,6 @@ pub use arranged_tables::{Ends, LandmarkTables, NameTables, NodeTables, PolygonT
 pub use arranging::{arrange, arrange_in_classes, with_evidence};
 pub use canon_county::{CanonCounty, CanonCountyIn, Canonical};
 pub use content_classes::Classes;
-pub use first_appearance::{Half, links_along};
+pub use first_appearance::{Half, topologies_along};
 pub use numbers::{Interner, NumericKey, marks_for};
 pub use pairing::{both, if_done};

@@ -9,7 +9,7 @@ ghost use Rattle.std.specs.BTreeMap.{get as found_in_order};
 ghost use Rattle.std.specs.Prelude.{IfOk, IfSome, IsTrue, OnErr, OnOk, Some, [], false, is_some, length, slice_get, slice_index, ℕ, ◌%◌};
 ghost use Rattle.std.specs.Prelude.{◌++◌, ◌+◌, ◌<◌, ◌^◌, ◌↔◌, ◌∷◌, ◌≡◌};
 ghost use Rattle.std.specs.{List.position, Ordering.is_eq};
-ghost use Rattle.ordered_lists.specs.Orders.{has_repeat, stands_in};
+ghost use Rattle.ordered_lists.specs.Orders.{has_repeat, contains};
 ghost use Rattle.canonical_form.specs.Growth.{first_seen_after};
 ghost use Rattle.arranged_county.specs.PlacedKeys.{AreApart, ArePlaced, found_by_either};
 
@@ -164,7 +164,7 @@ fn is_free(marks: &[u32], slot: usize) -> bool
 
 /// Whether this key is at a place.
 #[inline(always)]
-pub(crate) fn stands_at<K: Key>(keys: &[K], place: usize, key: K) -> bool
+pub(crate) fn is_at<K: Key>(keys: &[K], place: usize, key: K) -> bool
     ensures { IsTrue result ↔ (slice_get keys.now place ≡ Some key) }
 {
     match keys.get(place) {
@@ -181,7 +181,7 @@ fn place_among<K: Key + Hash>(keys: &[K], others: &OtherPlaces<K>, key: K) -> Op
     ensures stated { (place : ℕ) → found_by_either (found_in_order K.cmp others.now.many) (found_by_hash K.eq others.now.few) key ≡ Some place → slice_get keys.now place ≡ Some key → result ≡ Some place }
 {
     match others.get(key) {
-        Some(place) if stands_at(keys, place, key) => Some(place),
+        Some(place) if is_at(keys, place, key) => Some(place),
         _ => None,
     }
 }
@@ -201,7 +201,7 @@ fn place_of_key<K: Key + Hash + NumericKey>(
     ensures stated { (place : ℕ) → slice_get keys.now place ≡ Some key → result ≡ Some place }
 {
     let mark = mark_at(marks, slot_of(marks.len(), key.number())) as usize;
-    if mark > 0 && stands_at(keys, mark - 1, key) {
+    if mark > 0 && is_at(keys, mark - 1, key) {
         return Some(mark - 1);
     }
     place_among(keys, others, key)
@@ -262,7 +262,7 @@ impl<K: Key + Hash + NumericKey> Interner<K> {
 
     /// Adds a key that wasn't seen before, and returns its place, counted from 0.
     fn add(&mut self, key: K) -> Result<usize, AllocError>
-        requires new { stands_in K.cmp key self.old ≡ false }
+        requires new { contains K.cmp key self.old ≡ false }
         ensures added { OnOk result (self.new ≡ self.old ++ key ∷ []) }
         ensures place { IfOk result (λ place. place ≡ length self.old) }
         ensures small { IfOk result (λ place. place < 2 ^ 63) }
@@ -364,7 +364,7 @@ impl<K: Key + Hash + NumericKey> Interner<K> {
     /// The place of a key, counted from 0, or `None` if it wasn't seen.
     pub fn place(&self, key: K) -> Option<usize>
         ensures found { IfSome result (λ place. slice_get self.now place ≡ Some key) }
-        ensures known { is_some result ≡ stands_in K.cmp key self.now }
+        ensures known { is_some result ≡ contains K.cmp key self.now }
         ensures first { result ≡ position (λ other. is_eq (K.cmp key other)) self.now }
         ensures small { IfSome result (λ place. place < 2 ^ 63) }
     {

@@ -48,7 +48,7 @@ fn put_by_hash<K: Key + Hash>(
 }
 
 /// Puts the place of a key among those that are found in order.
-fn put_in_order<K: Key>(
+fn put_among_many<K: Key>(
     many: &mut BTreeMap<K, usize>,
     key: K,
     place: usize,
@@ -89,7 +89,7 @@ impl<K: Key + Hash> OtherPlaces<K> {
         if self.few.len() < MOST_HASHED && is_absent(&self.many, key) {
             put_by_hash(&mut self.few, key, place)
         } else {
-            put_in_order(&mut self.many, key, place)
+            put_among_many(&mut self.many, key, place)
         }
     }
 }

@@ -1,7 +1,7 @@
 -- The names from below that the proofs of this crate cite, passed on from one place. Declares nothing.
 pub use Rattle.county_chart.proofs.Common.{AllByRecursion, IsPermutation-refl, IsStrictlySortedBy, known_from_distinct}
-pub use Rattle.county_chart.proofs.Common.{AllKeysStandIn, AreAllOnSides, IsNumberOrNone, in_order-strict, length-in_order, reverse-reverse}
-pub use Rattle.county_chart.proofs.Common.{AllStandIn, IsFirstBrokenClause, IsPermutation-trans, apart_from_no_repeat, map_agree_everywhere}
+pub use Rattle.county_chart.proofs.Common.{AllKeysContained, AreAllOnSides, IsNumberOrNone, in_order-strict, length-in_order, reverse-reverse}
+pub use Rattle.county_chart.proofs.Common.{AllContained, IsFirstBrokenClause, IsPermutation-trans, apart_from_no_repeat, map_agree_everywhere}
 pub use Rattle.county_chart.proofs.Common.{Among, FitsPolygon, IsInProfile, Renumbering, along_shape}
 pub use Rattle.county_chart.proofs.Common.{AreInShapeOrder, ArePaired, carried_polygon, distinct-strict, ordering_reverse, slice_get-get_or}
 pub use Rattle.county_chart.proofs.Common.{AreSame, Carries, Decides, Fields1, Fields2, Fields4, Fields5, One, times-no, two_rtsq, two_tlid}
@@ -25,7 +25,7 @@ pub use Rattle.county_chart.proofs.Common.{IsCounty, of_number, of_type_1, of_ty
 pub use Rattle.county_chart.proofs.Common.{IsFirstBrokenRule, IsPermutation-map, IsPermutation-sym, landmark_body_keys, renumbered_polygon}
 pub use Rattle.county_chart.proofs.Common.{IsKeyOrder, NumbersFit, PolygonKey, RecordType, all_append, all_filter, all_joined}
 pub use Rattle.county_chart.proofs.Common.{IsLinked, of_type_i, of_type_p, points_at, points_of, record_of, same-true, side_keys, slice_get}
-pub use Rattle.county_chart.proofs.Common.{IsNumber, ListsFit, Ordering, [], all_both, all_drop, stands_in, times-yes, to_filter, turned_if}
+pub use Rattle.county_chart.proofs.Common.{IsNumber, ListsFit, Ordering, [], all_both, all_drop, contains, times-yes, to_filter, turned_if}
 pub use Rattle.county_chart.proofs.Common.{IsText, filter-append, from_in_order, further_names, is_either_way, length-append, map_agree_all}
 pub use Rattle.county_chart.proofs.Common.{IsTrue, masked_bodies, masked_body_7, nat_cmp_total, open_place_at, ordering_then, packed_within}
 pub use Rattle.county_chart.proofs.Common.{IsWithinLimits, all_everywhere, apart-distinct, by_type_within}
@@ -52,7 +52,7 @@ pub use Rattle.county_chart.proofs.Rules.LinkedCounty.{apart_chains, county-is_c
 pub use Rattle.county_chart.proofs.Sameness.Carried.{among-swapped, among-turned, among-unpieces, chain_nodes-renumbered}
 pub use Rattle.county_chart.proofs.Sameness.Carried.{chain_polygons-renumbered}
 pub use Rattle.county_chart.proofs.Sameness.Equivalence.{image-keeps, keys_known, same-reflexive, same-symmetric, same-transitive}
-pub use Rattle.county_chart.proofs.{ByKey.KeySets.any-stands_in, Limits.FieldsFit.link_content_turned, Masks.MaskedReads.chain_count_masked}
+pub use Rattle.county_chart.proofs.{ByKey.KeySets.any-contains, Limits.FieldsFit.link_content_turned, Masks.MaskedReads.chain_count_masked}
 pub use Rattle.county_chart.proofs.{Limits.FitsCounty.county-within_limits, Profile.SameChoices.choices_of_shapes}
 pub use Rattle.county_chart.proofs.{Limits.FitsCounty.county_counts, Profile.SameProfile.same_in_profile, Profile.ShapePoints.least_reverse}
 pub use Rattle.county_chart.proofs.{Limits.FitsPacked.packed-fits, Profile.Factorials.running-same, Profile.Places.along_from}
@@ -88,9 +88,9 @@ pub use Rattle.canonical_form.specs.Arrangement.{entries_of, entry_shape, landma
 pub use Rattle.canonical_form.specs.Arrangement.{nodes_in_order, placed, polygons_in_order, relinked, renaming_of, turned_tlids}
 pub use Rattle.canonical_form.specs.Arrangement.{under_cenid}
 pub use Rattle.canonical_form.specs.{Accepted.IsAccepted, Accepted.IsRefusal, Canonical.IsPacked, Tidy.HasShapesApart, Tidy.directed_shape}
-pub use Rattle.canonical_form.specs.{Accepted.IsCanonicalOf, DirectedChains.tlid_at, Growth.first_seen_after, SeenRecords.ShowsNoMore}
-pub use Rattle.canonical_form.specs.{Accepted.IsCanonicalThrough, RecordNumbers.greatest_number, Uses.Use, WholeArrangements.arranged_by}
-pub use Rattle.canonical_form.specs.{Accepted.OutOfProfile, MovedChains.AgreeApart, NumberedChoices.chosen, Strict.IsStrictThrough}
+pub use Rattle.canonical_form.specs.{Accepted.IsCanonicalOf, DirectedChains.tlid_at, Growth.first_seen_after, ViewRecords.ShowsNoMore}
+pub use Rattle.canonical_form.specs.{Accepted.IsCanonicalInView, RecordNumbers.greatest_number, Uses.Use, WholeArrangements.arranged_by}
+pub use Rattle.canonical_form.specs.{Accepted.OutOfProfile, MovedChains.AgreeApart, NumberedChoices.chosen, Strict.IsStrictInView}
 pub use Rattle.canonical_form.specs.{Accepted.RecordsRefusal, Canonical.IsArrangedList, LeastNumber.IsLeastBelow, Strict.IsStrictlyAccepted}
 pub use Rattle.canonical_form.specs.{Accepted.Unlinked, Canonical.AreFull, Growth.first_seen, Tidy.IsLeastChoice, Tidy.arranged_list}
 pub use Rattle.canonical_form.specs.{ArrangedCounty.HasOneCenidEach, DirectedChains.arrangement_of, WholeArrangements.NamesEachOnce}
@@ -99,9 +99,9 @@ pub use Rattle.canonical_form.specs.{ArrangedCounty.IsTidy, ByNumber.entry_polyi
 pub use Rattle.canonical_form.specs.{ArrangedCounty.entry_points, ByNumber.polygons_by_number, CanonCounties.IsCanonCounty, Growth.numbered}
 pub use Rattle.canonical_form.specs.{Canonical.IsTidyList, Tidy.IsChoice, Tidy.numbered_choice, Tidy.turned_directed, Uses.landmark_key_cmp}
 pub use Rattle.canonical_form.specs.{Canonical.KeepsChainNumbers, DirectedChains.HasChainsOf, Growth.GrowsFrom, NumberedChoices.first_stood}
-pub use Rattle.canonical_form.specs.{Canonical.StandsInOrder, MovedChains.StandInOrder, NumberedChoices.moved_at, RecordNumbers.numbers_of}
-pub use Rattle.canonical_form.specs.{Growth.Grows, Sights.IsSight, Strict.IsStrict, Uses.landmark_key, Uses.name_key_cmp, Uses.uses_of_name}
-pub use Rattle.canonical_form.specs.{Growth.up_to, Sights.plain, Uses.all_uses, Uses.links_of, Uses.name_key, Uses.use_cmp, Uses.uses_from}
+pub use Rattle.canonical_form.specs.{Canonical.AreRecordsInOrder, MovedChains.ArePlacesInOrder, NumberedChoices.moved_at, RecordNumbers.numbers_of}
+pub use Rattle.canonical_form.specs.{Growth.Grows, CountyViews.IsView, Strict.IsStrict, Uses.landmark_key, Uses.name_key_cmp, Uses.uses_of_name}
+pub use Rattle.canonical_form.specs.{Growth.up_to, CountyViews.plain, Uses.all_uses, Uses.links_of, Uses.name_key, Uses.use_cmp, Uses.uses_from}
 pub use Rattle.canonical_form.specs.{MovedChains.AreWithin, MovedChains.other_way, NumberedChoices.moved, NumberedChoices.stood}
 pub use Rattle.std.proofs.Common.{below_more, max, min, slice_index, sum_by, take-append-drop}
 pub use Rattle.std.proofs.lemmas.Nat.{div-mul-add, mod-mul-add, mod_below, mul-add-lt, mul-le}

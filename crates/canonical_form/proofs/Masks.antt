@@ -1,4 +1,4 @@
 -- Counties under a mask.
 pub mod MaskedCounties
 pub mod MaskedProfile
-pub mod MaskedSights
+pub mod MaskedViews

@@ -4,7 +4,7 @@ use Rattle.tl_layout.specs.declared.record_type.Record.{Record}
 use Rattle.county_chart.specs.{County.County, County.county_of, LinkRules.IsFirstBrokenRule, LinkRules.IsLinked}
 use Rattle.county_chart.specs.{Profile.IsFirstBrokenClause, Profile.IsInProfile, Renumbering.AreSame, declared.fault.LinkFault.LinkFault}
 use Rattle.county_chart.specs.{declared.profile_fault.ProfileFault.ProfileFault}
-use Rattle.canonical_form.specs.{Canonical.IsCanonical, Sights.plain}
+use Rattle.canonical_form.specs.{Canonical.IsCanonical, CountyViews.plain}
 
 -- the records fit together, and their county is in the profile
 pub record IsAccepted (records : List Record) : Type 0 where
@@ -23,12 +23,12 @@ IsRefusal records (OutOfProfile fault) = IsLinked records × IsFirstBrokenClause
 
 -- an accepted list, and a canonical list whose county the view shows whole and which is the same as the view of the first
 -- list's county
-pub record IsCanonicalThrough (seen : County → County) (records answer : List Record) : Type 0 where
+pub record IsCanonicalInView (view : County → County) (records answer : List Record) : Type 0 where
   pub accepted : IsAccepted records
   pub canonical : IsCanonical answer
-  pub own : seen (county_of answer) ≡ county_of answer
-  pub same : AreSame (seen (county_of records)) (county_of answer)
+  pub own : view (county_of answer) ≡ county_of answer
+  pub same : AreSame (view (county_of records)) (county_of answer)
 
 -- an accepted list, and a canonical list with the same county
 abbrev pub IsCanonicalOf : List Record → List Record → Type 0
-IsCanonicalOf = IsCanonicalThrough plain
+IsCanonicalOf = IsCanonicalInView plain

@@ -3,7 +3,7 @@ use Rattle.std.specs.Prelude.{List, false, length, map, reverse, ℕ, ◌≡◌}
 use Rattle.std.specs.{List.AllByRecursion, Ordering.is_gt, Ordering.on}
 use Rattle.tl_layout.specs.Coordinates.{Coordinates}
 use Rattle.tl_shape.specs.{Chain.Chain, PointOrder.points_cmp}
-use Rattle.county_chart.specs.CountyRules.{AllKeysStandIn, feats, lands, nodes_along, polygon_keys, polygons_along, tlids}
+use Rattle.county_chart.specs.CountyRules.{AllKeysContained, feats, lands, nodes_along, polygon_keys, polygons_along, tlids}
 use Rattle.county_chart.specs.{County.County, PolygonKeys.PolygonKey}
 use Rattle.ordered_lists.specs.Orders.{IsInOrder}
 use Rattle.canonical_form.specs.Growth.{Grows, up_to}
@@ -25,7 +25,7 @@ pub record IsArranged (county : County) : Type 0 where
   pub polygons : Grows (map (λ key. key.1) (polygons_along county.chains))
   pub one_cenid : HasOneCenidEach (polygons_along county.chains)
   -- each polygon is on a side
-  pub on_sides : AllKeysStandIn (polygons_along county.chains) (polygon_keys county)
+  pub on_sides : AllKeysContained (polygons_along county.chains) (polygon_keys county)
   -- names are in the order of their content and then of their uses
   pub names : IsInOrder (on (name_key (all_uses county.chains)) name_key_cmp) county.names
   -- landmarks are in the order of their bodies and then of their polygons

@@ -11,7 +11,7 @@ use Rattle.canonical_form.specs.{ArrangedCounty.IsArranged, ArrangedCounty.IsTid
 
 -- The records come type after type. Within a type they ascend: records of chains by TLID and, if they have one, RTSQ; names by
 -- FEAT; landmarks by LAND and content; links by LAND, POLYID, CENID and FILE; polygons by POLYID.
-pub record StandsInOrder (records : List Record) : Type 0 where
+pub record AreRecordsInOrder (records : List Record) : Type 0 where
   pub types : records ≡ flat_map (λ t. filter (λ r. is_some (as_type t r)) records) types
   pub of_type_1 : IsInOrder (on (λ r. r.tlid) nat_cmp) (of_type Type1 records)
   pub of_type_2 : IsInOrder (then_cmp (on (λ r. r.tlid) nat_cmp) (on (λ r. r.rtsq) nat_cmp)) (of_type Type2 records)
@@ -39,7 +39,7 @@ pub record IsPacked (records : List Record) : Type 0 where
 -- A list of records in the canonical order, packing and numbering; the choice of TLIDs and directions is left open.
 pub record IsArrangedList (records : List Record) : Type 0 where
   pub linked : IsLinked records
-  pub order : StandsInOrder records
+  pub order : AreRecordsInOrder records
   pub packed : IsPacked records
   pub numbers : IsArranged (county_of records)
 

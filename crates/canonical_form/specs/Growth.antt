@@ -1,7 +1,7 @@
 -- Numbers by first appearance.
 use Rattle.std.specs.Prelude.{List, [], cond, map, max, ℕ, ⊤, ◌++◌, ◌+◌, ◌∷◌, ◌≤◌}
 use Rattle.std.specs.{List.range_with_len, declared.cmp.Ordering.Ordering}
-use Rattle.ordered_lists.specs.Orders.{stands_in}
+use Rattle.ordered_lists.specs.Orders.{contains}
 use Rattle.county_chart.specs.Packing.{numbered_from}
 
 -- the numbers up to greatest have occurred; each further number has occurred before or is the next one
@@ -21,7 +21,7 @@ up_to n = range_with_len 1 n
 abbrev pub first_seen_after : {K : Type 0} → (K → K → Ordering) → List K → List K → List K
 first_seen_after cmp seen [] = seen
 first_seen_after cmp seen (key ∷ keys) =
-    cond (stands_in cmp key seen) (first_seen_after cmp seen keys) (first_seen_after cmp (seen ++ (key ∷ [])) keys)
+    cond (contains cmp key seen) (first_seen_after cmp seen keys) (first_seen_after cmp (seen ++ (key ∷ [])) keys)
 
 -- the keys in the order of their first occurrence, without repetition
 abbrev pub first_seen : {K : Type 0} → (K → K → Ordering) → List K → List K

@@ -4,12 +4,12 @@ pub mod Uses
 pub mod ArrangedCounty
 pub mod Canonical
 pub mod Arrangement
-pub mod Sights
+pub mod CountyViews
 pub mod Accepted
 pub mod NumberedChoices
 pub mod Tidy
 pub mod Strict
-pub mod SeenRecords
+pub mod ViewRecords
 pub mod LeastNumber
 pub mod DirectedChains
 pub mod EndsAndSides

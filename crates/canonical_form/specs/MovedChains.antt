@@ -27,9 +27,9 @@ abbrev pub AgreeApart : {X : Type 0} → List OpenPlace → List X → List X �
 AgreeApart places xs ys = (place : ℕ) → AllByRecursion (IsApart place) places → slice_get xs place ≡ slice_get ys place
 
 -- the open places ascend
-abbrev pub StandInOrder : List OpenPlace → Type 0
-StandInOrder [] = ⊤
-StandInOrder (at ∷ places) = AllByRecursion (λ later. at.place ≤ later.place) places × StandInOrder places
+abbrev pub ArePlacesInOrder : List OpenPlace → Type 0
+ArePlacesInOrder [] = ⊤
+ArePlacesInOrder (at ∷ places) = AllByRecursion (λ later. at.place ≤ later.place) places × ArePlacesInOrder places
 
 -- two arrangements of a county, which agree except for what open places move
 pub record AgreeButOpen (county : County) (places : List OpenPlace) (one other : List DirectedChain) : Type 0 where
@@ -37,7 +37,7 @@ pub record AgreeButOpen (county : County) (places : List OpenPlace) (one other :
   pub other_whole : AreWhole county other
   pub count : length one ≡ length other
   pub within : AreWithin (length one) places
-  pub in_order : StandInOrder places
+  pub in_order : ArePlacesInOrder places
   pub apart : AgreeApart places one other
 
 -- two lists of directed chains have the same chain at a place, or both have none

@@ -5,7 +5,7 @@ use Rattle.std.specs.{List.AllByRecursion, List.Sorted.IsStrictlySortedBy, Order
 use Rattle.tl_layout.specs.declared.record_type.Record.{Record}
 use Rattle.tl_shape.specs.PointOrder.{points_cmp}
 use Rattle.county_chart.specs.{County.County, County.county_of, LinkRules.IsLinked, Profile.AreAllOnSides, Renumbering.AreSame}
-use Rattle.canonical_form.specs.{ArrangedCounty.entry_points, Canonical.IsArrangedList, Sights.plain, Tidy.HasShapesApart}
+use Rattle.canonical_form.specs.{ArrangedCounty.entry_points, Canonical.IsArrangedList, CountyViews.plain, Tidy.HasShapesApart}
 
 -- each chain's points come before their reverse, and before those of each later chain
 pub record IsStrict (county : County) : Type 0 where
@@ -26,12 +26,12 @@ pub record IsStrictlyAccepted (records : List Record) : Type 0 where
 
 -- a list that the stricter rules accept, and a strict list whose county the view shows whole and which is the same as the view
 -- of the first list's county
-pub record IsStrictThrough (seen : County → County) (records answer : List Record) : Type 0 where
+pub record IsStrictInView (view : County → County) (records answer : List Record) : Type 0 where
   pub accepted : IsStrictlyAccepted records
   pub strict : IsStrictList answer
-  pub own : seen (county_of answer) ≡ county_of answer
-  pub same : AreSame (seen (county_of records)) (county_of answer)
+  pub own : view (county_of answer) ≡ county_of answer
+  pub same : AreSame (view (county_of records)) (county_of answer)
 
 -- a list that the stricter rules accept, and a strict list with the same county
 abbrev pub IsStrictOf : List Record → List Record → Type 0
-IsStrictOf = IsStrictThrough plain
+IsStrictOf = IsStrictInView plain

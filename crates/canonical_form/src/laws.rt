@@ -2,18 +2,18 @@
 
 ghost use Rattle.std.specs.List.{AllByRecursion};
 ghost use Rattle.std.specs.Prelude.{List, ℕ, ◌<◌, ◌≡◌, ◌≤◌, ◌⊎◌};
-ghost use Rattle.county_chart.specs.CountyRules.{AllKeysStandIn, IsCounty, polygon_keys, polygons_along};
+ghost use Rattle.county_chart.specs.CountyRules.{AllKeysContained, IsCounty, polygon_keys, polygons_along};
 ghost use Rattle.county_chart.specs.{Choices.choices, County.County, County.county_of, Limits.most_records, MaskedCounty.masked};
 ghost use Rattle.county_chart.specs.{Packing.packed, Renumbering.AreSame, Renumbering.Carries, Renumbering.Renumbering};
 ghost use Rattle.tl_layout.specs.{Limits.IsWithinLimit, Limits.count_of_type, Masked.no_mask, RecordText.FitsRecord, RecordText.text_of};
 ghost use Rattle.tl_layout.specs.{declared.mask.Mask.Mask, declared.record_type.Record.Record};
-ghost use Rattle.canonical_form.specs.Accepted.{IsAccepted, IsCanonicalOf, IsCanonicalThrough, IsRefusal, RecordsRefusal};
+ghost use Rattle.canonical_form.specs.Accepted.{IsAccepted, IsCanonicalOf, IsCanonicalInView, IsRefusal, RecordsRefusal};
 ghost use Rattle.canonical_form.specs.Arrangement.{Arrangement, Arranges, arranged, ascending, renaming_of};
 ghost use Rattle.canonical_form.specs.Canonical.{IsArrangedList, IsCanonical, IsTidyList, KeepsChainNumbers};
-ghost use Rattle.canonical_form.specs.Strict.{IsStrictOf, IsStrictThrough, IsStrictlyAccepted};
+ghost use Rattle.canonical_form.specs.Strict.{IsStrictOf, IsStrictInView, IsStrictlyAccepted};
 ghost use Rattle.canonical_form.specs.Tidy.{HasShapesApart, IsChoice, IsLeastChoice, arranged_list, numbered_choice};
 ghost use Rattle.canonical_form.specs.{ArrangedCounty.IsArranged, RecordNumbers.greatest_number, RecordNumbers.numbers_of};
-ghost use Rattle.canonical_form.specs.{SeenRecords.ShowsNoMore, Sights.IsSight, Sights.plain};
+ghost use Rattle.canonical_form.specs.{ViewRecords.ShowsNoMore, CountyViews.IsView, CountyViews.plain};
 
 /// A list in the canonical order, packing and numbering is the packing of its county, for any choice of TLIDs and directions.
 pub fn arranged_lists_are_the_packing_of_their_county()
@@ -37,10 +37,10 @@ pub fn canonical_lists_of_one_county_have_one_text()
 /// the arrangement's order and directions, and an arranged list of records.
 pub fn an_arrangement_gives_an_arranged_list()
     ensures carries { (county : County) (arrangement : Arrangement) →
-        IsCounty county → Arranges arrangement county → AllKeysStandIn (polygons_along county.chains) (polygon_keys county) →
+        IsCounty county → Arranges arrangement county → AllKeysContained (polygons_along county.chains) (polygon_keys county) →
         Carries (renaming_of county arrangement) county (arranged county arrangement) }
     ensures county { (county : County) (arrangement : Arrangement) →
-        IsCounty county → Arranges arrangement county → AllKeysStandIn (polygons_along county.chains) (polygon_keys county) →
+        IsCounty county → Arranges arrangement county → AllKeysContained (polygons_along county.chains) (polygon_keys county) →
         IsCounty (arranged county arrangement) × IsArranged (arranged county arrangement) }
     ensures list { (county : County) → IsCounty county → IsArranged county → IsArrangedList (packed county) }
 {}
@@ -80,16 +80,16 @@ pub fn canonical_lists_keep_the_limits()
 
 /// Through each view that shows at most as many records of a county as the county has, a canonical list keeps the same limits
 /// relative to its list.
-pub fn canonical_lists_keep_the_limits_through_each_sight()
-    ensures counts { (seen : County → County) (records canonical : List Record) →
-        IsSight seen → ShowsNoMore seen → AllByRecursion FitsRecord records → IsCanonicalThrough seen records canonical →
+pub fn canonical_lists_keep_the_limits_in_each_view()
+    ensures counts { (view : County → County) (records canonical : List Record) →
+        IsView view → ShowsNoMore view → AllByRecursion FitsRecord records → IsCanonicalInView view records canonical →
         (rtype : ℕ) → count_of_type rtype canonical ≤ count_of_type rtype records }
-    ensures limits { (seen : County → County) (limit : ℕ) (records canonical : List Record) →
-        IsSight seen → limit ≤ most_records → AllByRecursion FitsRecord records → IsWithinLimit limit records →
-        IsCanonicalThrough seen records canonical → AllByRecursion FitsRecord canonical × IsWithinLimit limit canonical }
-    ensures numbers { (seen : County → County) (records canonical : List Record) →
-        IsSight seen → AllByRecursion FitsRecord records → IsWithinLimit most_records records →
-        IsCanonicalThrough seen records canonical →
+    ensures limits { (view : County → County) (limit : ℕ) (records canonical : List Record) →
+        IsView view → limit ≤ most_records → AllByRecursion FitsRecord records → IsWithinLimit limit records →
+        IsCanonicalInView view records canonical → AllByRecursion FitsRecord canonical × IsWithinLimit limit canonical }
+    ensures numbers { (view : County → County) (records canonical : List Record) →
+        IsView view → AllByRecursion FitsRecord records → IsWithinLimit most_records records →
+        IsCanonicalInView view records canonical →
         AllByRecursion (λ r. AllByRecursion (λ n. n ≤ greatest_number) (numbers_of r)) canonical }
 {}
 
@@ -98,14 +98,14 @@ pub fn canonical_lists_keep_the_limits_through_each_sight()
 pub fn canonical_lists_keep_the_limits_under_each_mask()
     ensures no_more { (mask : Mask) → ShowsNoMore (masked mask) }
     ensures counts { (mask : Mask) (records canonical : List Record) →
-        AllByRecursion FitsRecord records → IsCanonicalThrough (masked mask) records canonical →
+        AllByRecursion FitsRecord records → IsCanonicalInView (masked mask) records canonical →
         (rtype : ℕ) → count_of_type rtype canonical ≤ count_of_type rtype records }
     ensures limits { (mask : Mask) (limit : ℕ) (records canonical : List Record) →
         limit ≤ most_records → AllByRecursion FitsRecord records → IsWithinLimit limit records →
-        IsCanonicalThrough (masked mask) records canonical → AllByRecursion FitsRecord canonical × IsWithinLimit limit canonical }
+        IsCanonicalInView (masked mask) records canonical → AllByRecursion FitsRecord canonical × IsWithinLimit limit canonical }
     ensures numbers { (mask : Mask) (records canonical : List Record) →
         AllByRecursion FitsRecord records → IsWithinLimit most_records records →
-        IsCanonicalThrough (masked mask) records canonical →
+        IsCanonicalInView (masked mask) records canonical →
         AllByRecursion (λ r. AllByRecursion (λ n. n ≤ greatest_number) (numbers_of r)) canonical }
 {}
 
@@ -130,19 +130,19 @@ pub fn one_canonical_text_for_one_map()
 /// Through each view, an accepted list has canonical lists, all with the same text. Canonical lists of two accepted lists have
 /// the same text if the views of their counties are the same, and are equal only then. A canonical list is its own canonical
 /// list, both through the view and without it.
-pub fn one_canonical_text_through_each_sight()
-    ensures exists { (seen : County → County) (records : List Record) →
-        IsSight seen → IsAccepted records → (answer : List Record) × IsCanonicalThrough seen records answer }
-    ensures only { (seen : County → County) (records c d : List Record) →
-        IsSight seen → IsCanonicalThrough seen records c → IsCanonicalThrough seen records d → text_of c ≡ text_of d }
-    ensures same { (seen : County → County) (xs ys c d : List Record) →
-        IsSight seen → IsCanonicalThrough seen xs c → IsCanonicalThrough seen ys d →
-        AreSame (seen (county_of xs)) (seen (county_of ys)) → text_of c ≡ text_of d }
-    ensures equal { (seen : County → County) (xs ys c d : List Record) →
-        IsSight seen → IsCanonicalThrough seen xs c → IsCanonicalThrough seen ys d →
-        c ≡ d → AreSame (seen (county_of xs)) (seen (county_of ys)) }
-    ensures itself { (seen : County → County) (xs c : List Record) →
-        IsSight seen → IsCanonicalThrough seen xs c → IsCanonicalThrough seen c c × IsCanonicalOf c c }
+pub fn one_canonical_text_in_each_view()
+    ensures exists { (view : County → County) (records : List Record) →
+        IsView view → IsAccepted records → (answer : List Record) × IsCanonicalInView view records answer }
+    ensures only { (view : County → County) (records c d : List Record) →
+        IsView view → IsCanonicalInView view records c → IsCanonicalInView view records d → text_of c ≡ text_of d }
+    ensures same { (view : County → County) (xs ys c d : List Record) →
+        IsView view → IsCanonicalInView view xs c → IsCanonicalInView view ys d →
+        AreSame (view (county_of xs)) (view (county_of ys)) → text_of c ≡ text_of d }
+    ensures equal { (view : County → County) (xs ys c d : List Record) →
+        IsView view → IsCanonicalInView view xs c → IsCanonicalInView view ys d →
+        c ≡ d → AreSame (view (county_of xs)) (view (county_of ys)) }
+    ensures itself { (view : County → County) (xs c : List Record) →
+        IsView view → IsCanonicalInView view xs c → IsCanonicalInView view c c × IsCanonicalOf c c }
 {}
 
 /// Viewing counties under a mask is a view, and under the mask that leaves nothing out it shows the county itself. Under each
@@ -150,20 +150,20 @@ pub fn one_canonical_text_through_each_sight()
 /// same text if their counties are the same under the mask, and are equal only then. A canonical list is its own canonical
 /// list, both under the mask and without it.
 pub fn one_canonical_text_under_each_mask()
-    ensures sight { (mask : Mask) → IsSight (masked mask) }
+    ensures view { (mask : Mask) → IsView (masked mask) }
     ensures no_mask { masked no_mask ≡ plain }
     ensures exists { (mask : Mask) (records : List Record) →
-        IsAccepted records → (answer : List Record) × IsCanonicalThrough (masked mask) records answer }
+        IsAccepted records → (answer : List Record) × IsCanonicalInView (masked mask) records answer }
     ensures only { (mask : Mask) (records c d : List Record) →
-        IsCanonicalThrough (masked mask) records c → IsCanonicalThrough (masked mask) records d → text_of c ≡ text_of d }
+        IsCanonicalInView (masked mask) records c → IsCanonicalInView (masked mask) records d → text_of c ≡ text_of d }
     ensures same { (mask : Mask) (xs ys c d : List Record) →
-        IsCanonicalThrough (masked mask) xs c → IsCanonicalThrough (masked mask) ys d →
+        IsCanonicalInView (masked mask) xs c → IsCanonicalInView (masked mask) ys d →
         AreSame (masked mask (county_of xs)) (masked mask (county_of ys)) → text_of c ≡ text_of d }
     ensures equal { (mask : Mask) (xs ys c d : List Record) →
-        IsCanonicalThrough (masked mask) xs c → IsCanonicalThrough (masked mask) ys d →
+        IsCanonicalInView (masked mask) xs c → IsCanonicalInView (masked mask) ys d →
         c ≡ d → AreSame (masked mask (county_of xs)) (masked mask (county_of ys)) }
     ensures itself { (mask : Mask) (xs c : List Record) →
-        IsCanonicalThrough (masked mask) xs c → IsCanonicalThrough (masked mask) c c × IsCanonicalOf c c }
+        IsCanonicalInView (masked mask) xs c → IsCanonicalInView (masked mask) c c × IsCanonicalOf c c }
 {}
 
 /// Before chains with the same shape and chains that are their own reverse were accepted, canonical lists were those in which
@@ -174,11 +174,11 @@ pub fn strict_lists_are_canonical()
     ensures accepted { (records : List Record) → IsStrictlyAccepted records → IsAccepted records }
     ensures exists { (records : List Record) → IsStrictlyAccepted records → (answer : List Record) × IsStrictOf records answer }
     ensures exists_masked { (mask : Mask) (records : List Record) →
-        IsStrictlyAccepted records → (answer : List Record) × IsStrictThrough (masked mask) records answer }
-    ensures canonical { (seen : County → County) (records answer : List Record) →
-        IsStrictThrough seen records answer → IsCanonicalThrough seen records answer }
-    ensures only { (seen : County → County) (records answer canonical : List Record) →
-        IsSight seen → IsStrictThrough seen records answer → IsCanonicalThrough seen records canonical → canonical ≡ answer }
+        IsStrictlyAccepted records → (answer : List Record) × IsStrictInView (masked mask) records answer }
+    ensures canonical { (view : County → County) (records answer : List Record) →
+        IsStrictInView view records answer → IsCanonicalInView view records answer }
+    ensures only { (view : County → County) (records answer canonical : List Record) →
+        IsView view → IsStrictInView view records answer → IsCanonicalInView view records canonical → canonical ≡ answer }
 {}
 
 /// Each number selects a choice of a county: an arrangement in which no chain's points come after their reverse, or after those
@@ -203,10 +203,10 @@ pub fn one_choice_where_shapes_are_apart()
 /// map is made by a choice.
 pub fn tidy_lists_are_those_of_choices()
     ensures list { (county : County) (arrangement : Arrangement) →
-        IsCounty county → AllKeysStandIn (polygons_along county.chains) (polygon_keys county) → IsChoice county arrangement →
+        IsCounty county → AllKeysContained (polygons_along county.chains) (polygon_keys county) → IsChoice county arrangement →
         IsTidyList (arranged_list county arrangement) × AreSame county (county_of (arranged_list county arrangement)) }
     ensures choice { (county : County) (records : List Record) →
-        IsCounty county → AllKeysStandIn (polygons_along county.chains) (polygon_keys county) →
+        IsCounty county → AllKeysContained (polygons_along county.chains) (polygon_keys county) →
         IsTidyList records → AreSame county (county_of records) →
         (arrangement : Arrangement) × IsChoice county arrangement × (records ≡ arranged_list county arrangement) }
 {}
@@ -215,13 +215,13 @@ pub fn tidy_lists_are_those_of_choices()
 /// of the same map, and each canonical list of the same map is the list of such a choice.
 pub fn canonical_lists_are_those_of_least_choices()
     ensures exists { (county : County) →
-        IsCounty county → AllKeysStandIn (polygons_along county.chains) (polygon_keys county) →
+        IsCounty county → AllKeysContained (polygons_along county.chains) (polygon_keys county) →
         (number : ℕ) × (number < choices county) × IsLeastChoice county (numbered_choice county number) }
     ensures list { (county : County) (arrangement : Arrangement) →
-        IsCounty county → AllKeysStandIn (polygons_along county.chains) (polygon_keys county) → IsLeastChoice county arrangement →
+        IsCounty county → AllKeysContained (polygons_along county.chains) (polygon_keys county) → IsLeastChoice county arrangement →
         IsCanonical (arranged_list county arrangement) × AreSame county (county_of (arranged_list county arrangement)) }
     ensures choice { (county : County) (records : List Record) →
-        IsCounty county → AllKeysStandIn (polygons_along county.chains) (polygon_keys county) →
+        IsCounty county → AllKeysContained (polygons_along county.chains) (polygon_keys county) →
         IsCanonical records → AreSame county (county_of records) →
         (arrangement : Arrangement) × IsLeastChoice county arrangement × (records ≡ arranged_list county arrangement) }
 {}

@@ -10,7 +10,7 @@ use crate::point::{is_point, is_point_or_none};
 use tl_layout::{Rec1, Rec2, Rec4, Rec5, Rec6, Rec7, Rec8, RecI, RecP, Tabled};
 
 /// A record type that can recognise lines in canonical spelling, whatever their version, without reading them.
-pub trait Canonical: Tabled {
+pub trait CanonicalLine: Tabled {
     /// Whether the full line is recognised: it is in canonical spelling, except for its version. `false` says nothing about the line.
     fn is_canonical(line: &[u8]) -> bool
         requires { IsLine Self.RTYPE Self.LEN line.now }
@@ -20,7 +20,7 @@ pub trait Canonical: Tabled {
     ghost is_ascii: { Self.RTYPE < 128 };
 }
 
-impl Canonical for Rec1 {
+impl CanonicalLine for Rec1 {
     ghost use Rattle.std.proofs.Common.{lit<};
 
     #[inline(always)]
@@ -34,7 +34,7 @@ impl Canonical for Rec1 {
     ghost is_ascii = { lit< tt };
 }
 
-impl Canonical for Rec2 {
+impl CanonicalLine for Rec2 {
     ghost use Rattle.std.proofs.Common.{lit<};
 
     #[inline(always)]
@@ -48,7 +48,7 @@ impl Canonical for Rec2 {
     ghost is_ascii = { lit< tt };
 }
 
-impl Canonical for Rec4 {
+impl CanonicalLine for Rec4 {
     ghost use Rattle.std.proofs.Common.{lit<};
 
     #[inline(always)]
@@ -62,7 +62,7 @@ impl Canonical for Rec4 {
     ghost is_ascii = { lit< tt };
 }
 
-impl Canonical for Rec5 {
+impl CanonicalLine for Rec5 {
     ghost use Rattle.std.proofs.Common.{lit<};
 
     #[inline(always)]
@@ -73,7 +73,7 @@ impl Canonical for Rec5 {
     ghost is_ascii = { lit< tt };
 }
 
-impl Canonical for Rec6 {
+impl CanonicalLine for Rec6 {
     ghost use Rattle.std.proofs.Common.{lit<};
 
     #[inline(always)]
@@ -84,7 +84,7 @@ impl Canonical for Rec6 {
     ghost is_ascii = { lit< tt };
 }
 
-impl Canonical for Rec7 {
+impl CanonicalLine for Rec7 {
     ghost use Rattle.std.proofs.Common.{lit<};
 
     #[inline(always)]
@@ -98,7 +98,7 @@ impl Canonical for Rec7 {
     ghost is_ascii = { lit< tt };
 }
 
-impl Canonical for Rec8 {
+impl CanonicalLine for Rec8 {
     ghost use Rattle.std.proofs.Common.{lit<};
 
     #[inline(always)]
@@ -112,7 +112,7 @@ impl Canonical for Rec8 {
     ghost is_ascii = { lit< tt };
 }
 
-impl Canonical for RecI {
+impl CanonicalLine for RecI {
     ghost use Rattle.std.proofs.Common.{lit<};
 
     #[inline(always)]
@@ -127,7 +127,7 @@ impl Canonical for RecI {
     ghost is_ascii = { lit< tt };
 }
 
-impl Canonical for RecP {
+impl CanonicalLine for RecP {
     ghost use Rattle.std.proofs.Common.{lit<};
 
     #[inline(always)]

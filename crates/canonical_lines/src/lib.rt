@@ -1,6 +1,6 @@
 //! Finds lines that are already spelled as they would be written, so that they can be copied without being read.
 //!
-//! [`Canonical::is_canonical`] tests a full line by its columns: numbers, points and places must be spelled canonically, fillers
+//! [`CanonicalLine::is_canonical`] tests a full line by its columns: numbers, points and places must be spelled canonically, fillers
 //! must be blank, and the version may be any. [`copy_line`] appends such a line with the version 2006.
 #![tactic(auto)]
 
@@ -10,5 +10,5 @@ mod number;
 mod places;
 mod point;
 
-pub use canonical::Canonical;
+pub use canonical::CanonicalLine;
 pub use copy::copy_line;

@@ -7,7 +7,7 @@ use crate::number::{is_blank, is_number};
 use crate::point::{is_point, is_unused};
 
 /// Places of one kind, side by side.
-pub(crate) trait Places {
+pub(crate) trait LinePlaces {
     /// The item of a used place.
     ghost Item: { Type 0 };
 
@@ -42,7 +42,7 @@ pub(crate) trait Places {
 #[derive(Drop)]
 pub(crate) struct PointPlaces;
 
-impl Places for PointPlaces {
+impl LinePlaces for PointPlaces {
     ghost use Rattle.tl_layout.specs.{Coordinates.Coordinates, Coordinates.IsOnMap, FieldTexts.point_place_text};
 
     ghost Item = { Coordinates };
@@ -74,7 +74,7 @@ impl Places for PointPlaces {
 #[derive(Drop)]
 pub(crate) struct NumberPlaces;
 
-impl Places for NumberPlaces {
+impl LinePlaces for NumberPlaces {
     ghost use Rattle.std.specs.Prelude.{ℕ};
     ghost use Rattle.tl_layout.specs.{FieldTexts.number_place_text, Numbers.IsNumber};
 
@@ -105,7 +105,7 @@ impl Places for NumberPlaces {
 
 /// Whether the columns hold the canonical text of places. It goes through them from the last one.
 #[inline(always)]
-pub(crate) fn are_places<P: Places>(columns: &[u8]) -> bool
+pub(crate) fn are_places<P: LinePlaces>(columns: &[u8]) -> bool
     requires { length columns.now ≡ P.WIDTH * P.COUNT }
     ensures { IsTrue result → IsPlacesText P.Fits P.text P.COUNT columns.now }
 {

@@ -17,7 +17,7 @@ pub use Rattle.ordered_lists.proofs.Common.{IsPermutation-map, IsPermutation-sym
 pub use Rattle.ordered_lists.proofs.Common.{IsPermutation-refl, IsPermutation-trans, Ordering, YieldsList-from_range, YieldsList-from_slice}
 pub use Rattle.ordered_lists.proofs.Common.{Less, List, None, Some, cond, drop, refl, take, times, true, upto, zero, ◌&&◌, ◌++◌, ◌==◌, ◌||◌}
 pub use Rattle.ordered_lists.proofs.Common.{[], ap, ap₂, inl, inr, map, not, on, set, suc, sym, ℕ, ◌+◌, ◌-◌, ◌<◌, ◌∙◌, ◌∷◌, ◌≡◌, ◌≤◌, ◌⊎◌}
-pub use Rattle.ordered_lists.proofs.Common.{and_parts, cases_eq, distinct, ltb-false, replicate, slice_cmp, slice_get, stands_in, unwrap_or}
+pub use Rattle.ordered_lists.proofs.Common.{and_parts, cases_eq, distinct, ltb-false, replicate, slice_cmp, slice_get, contains, unwrap_or}
 pub use Rattle.ordered_lists.proofs.Common.{arith, false, get_or, is_eq, is_gt, is_le, length, lt-ltb, nat_lt, ne_eqb, rules, subst, tests}
 pub use Rattle.ordered_lists.proofs.Lists.Counted.{all_drop, all_selected, all_take, few_in_groups, few_numbers, filter-agree, hits_once}
 pub use Rattle.ordered_lists.proofs.Lists.Counted.{shorter_pieces}
@@ -34,7 +34,7 @@ pub use Rattle.ordered_lists.proofs.Lists.{Among.among_right, ByPlace.sorted_in_
 pub use Rattle.ordered_lists.proofs.Lists.{Among.known_among, ByPlace.same_next, Groups.strict_tail, Places.length_keys, Reordered.same-map}
 pub use Rattle.ordered_lists.proofs.Lists.{ByPlace.places_decide, Distinct.apart-distinct, Distinct.known-distinct, Reordered.distinct_same}
 pub use Rattle.ordered_lists.proofs.Lists.{Distinct.apart_from_no_repeat, Distinct.known_from_distinct, Reordered.from_permutation}
-pub use Rattle.ordered_lists.proofs.Lists.{InOrder.in_order-map, Places.one_more_taken, Reordered.SameElements, Reordered.stands_alike}
+pub use Rattle.ordered_lists.proofs.Lists.{InOrder.in_order-map, Places.one_more_taken, Reordered.SameElements, Reordered.contains_alike}
 pub use Rattle.ordered_lists.specs.Pairs.{ArePaired, composed, image, is_named, swapped, to_itself}
 pub use Rattle.tl_shape.proofs.InPlace.{mapped_all, mapped_next}
 pub use Rattle.tl_shape.specs.{Chain.Chain, PointOrder.points_cmp, TurnLaws.turned-turned, Turned.turned_if}
@@ -56,7 +56,7 @@ pub use Rattle.county_chart.specs.Choices.{open_place_at, open_places, product, 
 pub use Rattle.county_chart.specs.County.{County, chain_of, chains_of, county_of, eight_land, first, five_feat, four_rtsq, four_tlid}
 pub use Rattle.county_chart.specs.County.{further_names, further_ranges, i_tlid, link_key, one_tlid, p_key, polygon_body, seven_land}
 pub use Rattle.county_chart.specs.County.{shape_points, side_keys, six_rtsq, six_tlid, two_rtsq, two_tlid}
-pub use Rattle.county_chart.specs.CountyRules.{AllKeysStandIn, AllStandIn, IsClosed, IsCounty, IsWhole, chain_nodes, chain_polygons, feats}
+pub use Rattle.county_chart.specs.CountyRules.{AllKeysContained, AllContained, IsClosed, IsCounty, IsWhole, chain_nodes, chain_polygons, feats}
 pub use Rattle.county_chart.specs.CountyRules.{has_body, lands, nodes, nodes_along, polygon_keys, polygons_along, tlids}
 pub use Rattle.county_chart.specs.Limits.{ContentsFit, FitsChain, FitsLandmark, FitsLink, FitsLinkContent, FitsNameBody, FitsNumbers}
 pub use Rattle.county_chart.specs.Limits.{FitsPolygon, IsWithinLimits, ListsFit, NumbersFit, greatest_rtsq, most_records}

@@ -4,7 +4,7 @@ use Rattle.std.specs.{List.AllByRecursion, List.Sorted.IsStrictlySortedBy, List.
 use Rattle.county_chart.specs.PolygonKeys.{PolygonKey, key_cmp, key_on}
 use Rattle.county_chart.specs.{BodyOrder.landmark_body_cmp, BodyOrder.link_cmp, County.County, County.link_key}
 use Rattle.tl_shape.specs.Chain.{Chain}
-use Rattle.ordered_lists.specs.Orders.{IsInOrder, distinct, stands_in}
+use Rattle.ordered_lists.specs.Orders.{IsInOrder, distinct, contains}
 
 -- the county's TLIDs, FEATs, polygons and LANDs, each in order
 abbrev pub tlids : County → List ℕ
@@ -41,18 +41,18 @@ has_body county key = list_any (λ entry. is_eq (key_cmp key entry.0) && is_some
 
 -- whether this polygon has a type P record and is on no side of a chain
 abbrev pub is_without_chain : County → PolygonKey → Bool
-is_without_chain county key = has_body county key && not (stands_in key_cmp key (polygons_along county.chains))
+is_without_chain county key = has_body county key && not (contains key_cmp key (polygons_along county.chains))
 
 -- the county's nodes, in order
 abbrev pub nodes : County → List ℕ
 nodes county = distinct nat_cmp (nodes_along county.chains)
 
 -- each of these numbers is in that list
-abbrev pub AllStandIn : List ℕ → List ℕ → Type 0
-AllStandIn known named = AllByRecursion (λ n. IsTrue (stands_in nat_cmp n known)) named
+abbrev pub AllContained : List ℕ → List ℕ → Type 0
+AllContained known named = AllByRecursion (λ n. IsTrue (contains nat_cmp n known)) named
 
-abbrev pub AllKeysStandIn : List PolygonKey → List PolygonKey → Type 0
-AllKeysStandIn known named = AllByRecursion (λ k. IsTrue (stands_in key_cmp k known)) named
+abbrev pub AllKeysContained : List PolygonKey → List PolygonKey → Type 0
+AllKeysContained known named = AllByRecursion (λ k. IsTrue (contains key_cmp k known)) named
 
 -- the numbers of each list ascend, and none occurs twice
 pub record IsAscending (county : County) : Type 0 where
@@ -65,16 +65,16 @@ pub record IsAscending (county : County) : Type 0 where
 
 -- each name of a chain, each polygon on a side, and each landmark and each polygon of a link is in the county
 pub record IsClosed (county : County) : Type 0 where
-  pub names : AllByRecursion (λ entry. AllStandIn (feats county) entry.1.feats) county.chains
-  pub sides : AllByRecursion (λ entry. AllKeysStandIn (polygon_keys county) (chain_polygons entry.1)) county.chains
-  pub link_lands : AllByRecursion (λ link. IsTrue (stands_in nat_cmp link.land (lands county))) county.links
-  pub link_polygons : AllByRecursion (λ link. IsTrue (stands_in key_cmp (link_key link) (polygon_keys county))) county.links
+  pub names : AllByRecursion (λ entry. AllContained (feats county) entry.1.feats) county.chains
+  pub sides : AllByRecursion (λ entry. AllKeysContained (polygon_keys county) (chain_polygons entry.1)) county.chains
+  pub link_lands : AllByRecursion (λ link. IsTrue (contains nat_cmp link.land (lands county))) county.links
+  pub link_polygons : AllByRecursion (λ link. IsTrue (contains key_cmp (link_key link) (polygon_keys county))) county.links
 
 -- a chain has a start and an end, a landmark has content, and a polygon has content or is on a side
 pub record IsWhole (county : County) : Type 0 where
   pub points : AllByRecursion (λ entry. 2 ≤ length entry.1.points) county.chains
   pub bodies : AllByRecursion (λ entry. 1 ≤ length entry.1) county.landmarks
-  pub polygons : AllByRecursion (λ entry. IsTrue (is_some entry.1 || stands_in key_cmp entry.0
+  pub polygons : AllByRecursion (λ entry. IsTrue (is_some entry.1 || contains key_cmp entry.0
       (polygons_along county.chains))) county.polygons
 
 -- a county as linking makes it

@@ -10,7 +10,7 @@ use Rattle.county_chart.specs.declared.fault.LinkedType.TheVariants.{Four, I, Si
 use Rattle.county_chart.specs.County.{link_key, p_key, side_keys}
 use Rattle.county_chart.specs.{FirstOf.IsFirst, LinkedTypes.linked_type, PolygonKeys.key_cmp, declared.fault.LinkFault.LinkFault}
 use Rattle.county_chart.specs.{declared.fault.LinkedType.LinkedType, declared.fault.SequencedType.SequencedType}
-use Rattle.ordered_lists.specs.Orders.{has_repeat, stands_in, times}
+use Rattle.ordered_lists.specs.Orders.{has_repeat, contains, times}
 use Rattle.county_chart.specs.declared.fault.SequencedType.TheVariants as sequenced
 
 -- the TLIDs of the type 1 records
@@ -38,21 +38,21 @@ named_feats tlid records = flat_map (λ r. r.feats) (of_number (λ r. r.tlid) tl
 abbrev pub is_rule_broken : List Record → LinkFault → Bool
 is_rule_broken records (ChainTwice tlid) = nat_lt 1 (times nat_cmp tlid (chain_tlids records))
 is_rule_broken records (NoChain rtype tlid) =
-    stands_in nat_cmp tlid (linked_tlids rtype records) && not (stands_in nat_cmp tlid (chain_tlids records))
+    contains nat_cmp tlid (linked_tlids rtype records) && not (contains nat_cmp tlid (chain_tlids records))
 is_rule_broken records (SequenceBroken rtype tlid) = has_repeat nat_cmp (rtsqs rtype tlid records)
 is_rule_broken records (LinkMissing tlid) =
-    stands_in nat_cmp tlid (chain_tlids records) && not (stands_in nat_cmp tlid (map (λ r. r.tlid) (of_type TypeI records)))
+    contains nat_cmp tlid (chain_tlids records) && not (contains nat_cmp tlid (map (λ r. r.tlid) (of_type TypeI records)))
 is_rule_broken records (LinkTwice tlid) = nat_lt 1 (times nat_cmp tlid (map (λ r. r.tlid) (of_type TypeI records)))
 is_rule_broken records (NameTwice feat) = nat_lt 1 (times nat_cmp feat (map (λ r. r.feat) (of_type Type5 records)))
 is_rule_broken records (NameUnknown tlid feat) =
-    stands_in nat_cmp feat (named_feats tlid records) && not (stands_in nat_cmp feat (map (λ r. r.feat) (of_type Type5 records)))
+    contains nat_cmp feat (named_feats tlid records) && not (contains nat_cmp feat (map (λ r. r.feat) (of_type Type5 records)))
 is_rule_broken records (PolygonTwice cenid polyid) = nat_lt 1 (times key_cmp (cenid, polyid) (map p_key (of_type TypeP records)))
 is_rule_broken records (LandUnknown land) =
-    stands_in nat_cmp land (map (λ r. r.land) (of_type Type8 records)) && not
-    (stands_in nat_cmp land (map (λ r. r.land) (of_type Type7 records)))
+    contains nat_cmp land (map (λ r. r.land) (of_type Type8 records)) && not
+    (contains nat_cmp land (map (λ r. r.land) (of_type Type7 records)))
 is_rule_broken records (PolygonUnknown cenid polyid) =
-    stands_in key_cmp (cenid, polyid) (map link_key (of_type Type8 records)) && not
-    (stands_in key_cmp (cenid, polyid) (flat_map side_keys (of_type TypeI records) ++ map p_key (of_type TypeP records)))
+    contains key_cmp (cenid, polyid) (map link_key (of_type Type8 records)) && not
+    (contains key_cmp (cenid, polyid) (flat_map side_keys (of_type TypeI records) ++ map p_key (of_type TypeP records)))
 is_rule_broken records Memory = false
 
 -- the place of a record type among the four: 2, 4 and 6 before I

@@ -6,7 +6,7 @@ use Rattle.tl_layout.specs.{declared.type_p.BodyP.BodyP}
 use Rattle.tl_shape.specs.{Chain.Chain, Turned.turned_if}
 use Rattle.county_chart.specs.CountyRules.{feats, lands, nodes, polygon_keys, tlids}
 use Rattle.county_chart.specs.{County.County, County.link_key, PolygonKeys.PolygonKey, PolygonKeys.key_cmp}
-use Rattle.ordered_lists.specs.Orders.{has_repeat, stands_in}
+use Rattle.ordered_lists.specs.Orders.{has_repeat, contains}
 use Rattle.ordered_lists.specs.Pairs.{ArePaired, composed, image, is_named, swapped, to_itself}
 
 -- Each old number with its new one, kind by kind, and the old TLIDs of the chains that are turned.
@@ -20,7 +20,7 @@ pub record Renumbering : Type 0 where
 
 -- whether the renaming turns the chain of this old TLID
 abbrev pub turns : Renumbering → ℕ → Bool
-turns r tlid = stands_in nat_cmp tlid r.turned
+turns r tlid = contains nat_cmp tlid r.turned
 
 -- a side with a polygon
 abbrev pub side_of : PolygonKey → PolygonSide
@@ -72,7 +72,7 @@ pub record NumbersArePaired (r : Renumbering) (a b : County) : Type 0 where
   pub lands : ArePaired r.lands (lands a) (lands b)
   pub nodes : ArePaired r.nodes (nodes a) (nodes b)
   pub cenids : AllByRecursion (λ pair. pair.0.0 ≡ pair.1.0) r.polygons
-  pub turned_known : AllByRecursion (λ tlid. IsTrue (stands_in nat_cmp tlid (tlids a))) r.turned
+  pub turned_known : AllByRecursion (λ tlid. IsTrue (contains nat_cmp tlid (tlids a))) r.turned
   pub turned_once : has_repeat nat_cmp r.turned ≡ false
 
 -- each part of a, renamed, is a part of b, and b has no others

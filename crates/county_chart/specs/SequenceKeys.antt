@@ -2,7 +2,7 @@
 use Rattle.std.specs.Prelude.{Bool, List, Option, map, not, ℕ, ◌&&◌}
 use Rattle.std.specs.{Ordering.nat_cmp, Ordering.ordering_then, declared.cmp.Ordering.Ordering}
 use Rattle.tl_layout.specs.{Coordinates.Coordinates, Fields.Fields2, Fields.Fields4, Fields.Fields6, Fields.Fields7, Fields.Fields8}
-use Rattle.ordered_lists.specs.Orders.{stands_in}
+use Rattle.ordered_lists.specs.Orders.{contains}
 
 -- the TLID, then the RTSQ
 abbrev pub two_sequence : Fields2 → ℕ × ℕ
@@ -32,4 +32,4 @@ sequence_cmp a b = ordering_then (nat_cmp a.0 b.0) (nat_cmp a.1 b.1)
 
 -- whether a chain's FEAT is one of these uses and isn't one of the names
 abbrev pub is_unnamed : List (ℕ × ℕ) → List ℕ → ℕ × ℕ → Bool
-is_unnamed uses names pair = stands_in sequence_cmp pair uses && not (stands_in nat_cmp pair.1 names)
+is_unnamed uses names pair = contains sequence_cmp pair uses && not (contains nat_cmp pair.1 names)

@@ -10,7 +10,7 @@ use tl_layout::{Body7, Point};
 type LandmarkFields = ([u8; 5], ([u8; 1], ([u8; 3], ([u8; 30], Option<Point>))));
 
 /// The fields of a landmark's content, in the order of comparison.
-fn fields_of(body: &Body7) -> LandmarkFields
+fn landmark_fields(body: &Body7) -> LandmarkFields
     ensures { result ≡ (body.now.file, (body.now.source, (body.now.cfcc, (body.now.laname, body.now.point)))) }
 {
     let file = body.file();
@@ -25,5 +25,5 @@ fn fields_of(body: &Body7) -> LandmarkFields
 pub fn cmp_landmark_bodies(a: &Body7, b: &Body7) -> Ordering
     ensures { result ≡ landmark_body_cmp a.now b.now }
 {
-    fields_of(a).cmp(&fields_of(b))
+    landmark_fields(a).cmp(&landmark_fields(b))
 }

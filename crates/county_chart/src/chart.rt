@@ -6,7 +6,7 @@ ghost use Rattle.county_chart.specs.ChartWords.{bodies_at, bodies_under, chain_a
 ghost use Rattle.county_chart.specs.ChartWords.{name_under, points_of, polygon_at, polygon_under, ranges_of};
 ghost use Rattle.county_chart.specs.CountyRules.{IsCounty, feats, lands, nodes, polygon_keys, tlids};
 ghost use Rattle.county_chart.specs.{County.County, Limits.IsWithinLimits, Limits.most_records, PolygonKeys.key_cmp};
-ghost use Rattle.ordered_lists.specs.Orders.{stands_in};
+ghost use Rattle.ordered_lists.specs.Orders.{contains};
 ghost use Rattle.tl_layout.specs.{Columns.joined, Turned.body_towards, Type1Groups.body_1_texts};
 
 use crate::keys::record_keys::PolygonKey;
@@ -31,7 +31,7 @@ pub trait Chart {
     /// The place of the chain with this TLID, or `None` if no chain has it.
     fn chain_place(&self, tlid: u64) -> Option<usize>
         ensures found { IfSome result (λ place. slice_get (tlids (county self.now)) place ≡ Some tlid) }
-        ensures known { is_some result ≡ stands_in nat_cmp tlid (tlids (county self.now)) };
+        ensures known { is_some result ≡ contains nat_cmp tlid (tlids (county self.now)) };
 
     /// The number of names.
     fn name_count(&self) -> usize
@@ -44,7 +44,7 @@ pub trait Chart {
     /// The place of the name with this FEAT, or `None` if no name has it.
     fn name_place(&self, feat: u32) -> Option<usize>
         ensures found { IfSome result (λ place. slice_get (feats (county self.now)) place ≡ Some feat) }
-        ensures known { is_some result ≡ stands_in nat_cmp feat (feats (county self.now)) };
+        ensures known { is_some result ≡ contains nat_cmp feat (feats (county self.now)) };
 
     /// The number of polygons.
     fn polygon_count(&self) -> usize
@@ -57,7 +57,7 @@ pub trait Chart {
     /// The place of the polygon with this key, or `None` if no polygon has it.
     fn polygon_place(&self, key: PolygonKey) -> Option<usize>
         ensures found { IfSome result (λ place. slice_get (polygon_keys (county self.now)) place ≡ Some key) }
-        ensures known { is_some result ≡ stands_in key_cmp key (polygon_keys (county self.now)) };
+        ensures known { is_some result ≡ contains key_cmp key (polygon_keys (county self.now)) };
 
     /// The number of landmarks.
     fn landmark_count(&self) -> usize
@@ -70,7 +70,7 @@ pub trait Chart {
     /// The place of the landmark with this LAND, or `None` if no landmark has it.
     fn landmark_place(&self, land: u64) -> Option<usize>
         ensures found { IfSome result (λ place. slice_get (lands (county self.now)) place ≡ Some land) }
-        ensures known { is_some result ≡ stands_in nat_cmp land (lands (county self.now)) };
+        ensures known { is_some result ≡ contains nat_cmp land (lands (county self.now)) };
 
     /// The number of nodes.
     fn node_count(&self) -> usize
@@ -83,7 +83,7 @@ pub trait Chart {
     /// The place of a node, or `None` if no chain starts or ends there.
     fn node_place(&self, node: u64) -> Option<usize>
         ensures found { IfSome result (λ place. slice_get (nodes (county self.now)) place ≡ Some node) }
-        ensures known { is_some result ≡ stands_in nat_cmp node (nodes (county self.now)) };
+        ensures known { is_some result ≡ contains nat_cmp node (nodes (county self.now)) };
 
     /// The content of the type 1 record of the chain at a place.
     fn chain_body_at(&self, place: usize) -> Option<Body1>
@@ -330,8 +330,8 @@ pub trait Chart {
     /// The place of the chain with this TLID, or the number of chains if no chain has it.
     final fn chain_place_or_end(&self, tlid: u64) -> usize
         ensures chain { chain_at (county self.now) result ≡ chain_under (county self.now) tlid }
-        ensures found { stands_in nat_cmp tlid (tlids (county self.now)) ≡ true → slice_get (tlids (county self.now)) result ≡ Some tlid }
-        ensures end { stands_in nat_cmp tlid (tlids (county self.now)) ≡ false → result ≡ length (county self.now).chains }
+        ensures found { contains nat_cmp tlid (tlids (county self.now)) ≡ true → slice_get (tlids (county self.now)) result ≡ Some tlid }
+        ensures end { contains nat_cmp tlid (tlids (county self.now)) ≡ false → result ≡ length (county self.now).chains }
     {
         self.chain_place(tlid).unwrap_or(self.chain_count())
     }
@@ -339,8 +339,8 @@ pub trait Chart {
     /// The place of the name with this FEAT, or the number of names if no name has it.
     final fn name_place_or_end(&self, feat: u32) -> usize
         ensures name { name_at (county self.now) result ≡ name_under (county self.now) feat }
-        ensures found { stands_in nat_cmp feat (feats (county self.now)) ≡ true → slice_get (feats (county self.now)) result ≡ Some feat }
-        ensures end { stands_in nat_cmp feat (feats (county self.now)) ≡ false → result ≡ length (county self.now).names }
+        ensures found { contains nat_cmp feat (feats (county self.now)) ≡ true → slice_get (feats (county self.now)) result ≡ Some feat }
+        ensures end { contains nat_cmp feat (feats (county self.now)) ≡ false → result ≡ length (county self.now).names }
     {
         self.name_place(feat).unwrap_or(self.name_count())
     }
@@ -348,8 +348,8 @@ pub trait Chart {
     /// The place of the polygon with this key, or the number of polygons if no polygon has it.
     final fn polygon_place_or_end(&self, key: PolygonKey) -> usize
         ensures polygon { polygon_at (county self.now) result ≡ polygon_under (county self.now) key }
-        ensures found { stands_in key_cmp key (polygon_keys (county self.now)) ≡ true → slice_get (polygon_keys (county self.now)) result ≡ Some key }
-        ensures end { stands_in key_cmp key (polygon_keys (county self.now)) ≡ false → result ≡ length (county self.now).polygons }
+        ensures found { contains key_cmp key (polygon_keys (county self.now)) ≡ true → slice_get (polygon_keys (county self.now)) result ≡ Some key }
+        ensures end { contains key_cmp key (polygon_keys (county self.now)) ≡ false → result ≡ length (county self.now).polygons }
     {
         self.polygon_place(key).unwrap_or(self.polygon_count())
     }
@@ -358,8 +358,8 @@ pub trait Chart {
     final fn landmark_place_or_end(&self, land: u64) -> usize
         ensures bodies { bodies_at (county self.now) result ≡ bodies_under (county self.now) land }
         ensures links { links_at (county self.now) result ≡ links_under (county self.now) land }
-        ensures found { stands_in nat_cmp land (lands (county self.now)) ≡ true → slice_get (lands (county self.now)) result ≡ Some land }
-        ensures end { stands_in nat_cmp land (lands (county self.now)) ≡ false → result ≡ length (county self.now).landmarks }
+        ensures found { contains nat_cmp land (lands (county self.now)) ≡ true → slice_get (lands (county self.now)) result ≡ Some land }
+        ensures end { contains nat_cmp land (lands (county self.now)) ≡ false → result ≡ length (county self.now).landmarks }
     {
         self.landmark_place(land).unwrap_or(self.landmark_count())
     }

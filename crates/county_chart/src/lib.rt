@@ -27,7 +27,7 @@ pub use chart_lists::LandmarkBodies;
 pub use directed_chain::{ChainFeats, ChainPoints, ChainRanges, DirectedChain};
 pub use fault::{LinkFault, LinkedType, SequencedType};
 pub use keys::key_set::KeySet;
-pub use keys::keyed::{Keyed, are_in_order, least_unknown, put_in_order, split_group};
+pub use keys::keyed::{Keyed, are_in_order, least_unknown, sort_by_keys, split_group};
 pub use keys::polygon_set::{OnPolygons, cenids_of, distinct_polygons};
 pub use keys::record_keys::{LandmarkKey, LinkKey, PolygonKey, polygon_number};
 pub use listed::{Listed, Same, Tested, all_hold, are_same, compare, push_all};

@@ -25,7 +25,7 @@ pub struct Masked<C: Chart> {
 }
 
 /// A content under a mask.
-fn under_mask<B: Blank + Copy>(content: B, mask: Mask) -> B
+fn content_masked<B: Blank + Copy>(content: B, mask: Mask) -> B
     ensures { result ≡ B.masked mask content }
 {
     let mut content = content;
@@ -133,7 +133,7 @@ impl<C: Chart> Chart for Masked<C> {
     #[tactic(auto, using(crate::proofs::Masks::MaskedReads::body_masked))]
     fn chain_body_at(&self, place: usize) -> Option<Body1> {
         match self.chart.chain_body_at(place) {
-            Some(body) => Some(under_mask(body, self.mask)),
+            Some(body) => Some(content_masked(body, self.mask)),
             None => None,
         }
     }
@@ -175,7 +175,7 @@ impl<C: Chart> Chart for Masked<C> {
     #[tactic(auto, using(crate::proofs::Masks::MaskedReads::topology_masked))]
     fn topology_at(&self, place: usize) -> Option<BodyI> {
         match self.chart.topology_at(place) {
-            Some(link) => Some(under_mask(link, self.mask)),
+            Some(link) => Some(content_masked(link, self.mask)),
             None => None,
         }
     }

@@ -36,7 +36,7 @@ pub struct StoredCounty<C: StoredChain, N: StoredName, L: StoredLandmark> {
     ghost is_county: { IsCounty (county_with (map_values C.chain chains) (map_values N.name names) polygons (map_values L.landmark landmarks)) } by { IsCounty-prop (county_with (map_values C.chain chains) (map_values N.name names) polygons (map_values L.landmark landmarks)) },
     ghost within_limits: { IsWithinLimits most_records (county_with (map_values C.chain chains) (map_values N.name names) polygons (map_values L.landmark landmarks)) } by { IsWithinLimits-prop most_records (county_with (map_values C.chain chains) (map_values N.name names) polygons (map_values L.landmark landmarks)) },
     ghost links_under_lands: { LinksUnderLands (map_values L.landmark landmarks) } by { LinksUnderLands-prop (map_values L.landmark landmarks) },
-    ghost nodes_stand: { nodes.items ≡ nodes_in_order (county_with (map_values C.chain chains) (map_values N.name names) polygons (map_values L.landmark landmarks)) },
+    ghost nodes_contained: { nodes.items ≡ nodes_in_order (county_with (map_values C.chain chains) (map_values N.name names) polygons (map_values L.landmark landmarks)) },
 }
 
 /// The map of one county that a set of records describes, as linking makes it, with lists of its own. The getters lend what linking

@@ -1,5 +1,5 @@
 -- The names from below that the proofs of this crate cite, passed on from one place. Declares nothing.
-pub use Rattle.ordered_lists.specs.Orders.{IsInOrder, distinct, has_repeat, in_order, put_in_order, stands_in, times}
+pub use Rattle.ordered_lists.specs.Orders.{IsInOrder, distinct, has_repeat, in_order, put_in_order, contains, times}
 pub use Rattle.ordered_lists.specs.{Entries.entry_keys, Entries.entry_values, Entries.map_values, Entries.value_under, Keyed.IsLeastPassing}
 pub use Rattle.ordered_lists.specs.{Keyed.is_repeated, Keyed.is_unknown, Marks.AreMarksOf, NumberSets.marked, Places.at_places}
 pub use Rattle.std.proofs.Common.{Bool, Contains, Equal, Err, Greater, IfOk, IfSome, IsPermutation, Less, List, None, Ok, Option, Ordering}

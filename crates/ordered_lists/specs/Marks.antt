@@ -1,8 +1,8 @@
 -- Marks by number.
 use Rattle.std.specs.Prelude.{◌≡◌, ◌<◌, ℕ, Bool, List, length, Some, slice_get}
 use Rattle.std.specs.Ordering.{nat_cmp}
-use Rattle.ordered_lists.specs.Orders.{stands_in}
+use Rattle.ordered_lists.specs.Orders.{contains}
 
 -- each number that has a place in the marks is marked exactly if it is in the list
 abbrev pub AreMarksOf : List ℕ → List Bool → Type 0
-AreMarksOf numbers marks = (number : ℕ) → number < length marks → slice_get marks number ≡ Some (stands_in nat_cmp number numbers)
+AreMarksOf numbers marks = (number : ℕ) → number < length marks → slice_get marks number ≡ Some (contains nat_cmp number numbers)

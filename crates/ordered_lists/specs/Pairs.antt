@@ -1,7 +1,7 @@
 -- Pairs of an old key and its new one: the new key of each old one, pairs reversed, and pairs one after other pairs.
 use Rattle.std.specs.Prelude.{Bool, IsPermutation, List, [], cond, filter, map, ◌∷◌}
 use Rattle.std.specs.{Ordering.is_eq, declared.cmp.Ordering.Ordering}
-use Rattle.ordered_lists.specs.Orders.{stands_in}
+use Rattle.ordered_lists.specs.Orders.{contains}
 
 -- the new key of an old one, or the old one itself if no pair names it
 abbrev pub image : {K : Type 0} → (K → K → Ordering) → List (K × K) → K → K
@@ -23,7 +23,7 @@ swapped = map (λ pair. (pair.1, pair.0))
 
 -- whether a pair names the key on its left
 abbrev pub is_named : {K : Type 0} → (K → K → Ordering) → List (K × K) → K → Bool
-is_named cmp pairs x = stands_in cmp x (map (λ pair. pair.0) pairs)
+is_named cmp pairs x = contains cmp x (map (λ pair. pair.0) pairs)
 
 -- first by some pairs and then by others; a key whose image the others don't name is left out
 abbrev pub composed : {K : Type 0} → (K → K → Ordering) → List (K × K) → List (K × K) → List (K × K)

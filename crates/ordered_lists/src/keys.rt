@@ -1,6 +1,6 @@
 //! Keys in order: sorted, sorted without repetitions, and the place of a key.
 
-ghost use Rattle.ordered_lists.specs.Orders.{IsInOrder, distinct, stands_in};
+ghost use Rattle.ordered_lists.specs.Orders.{IsInOrder, distinct, contains};
 ghost use Rattle.std.specs.Prelude.{◌≡◌, Some, IfSome, IsPermutation, slice_get, is_some};
 ghost use Rattle.std.specs.declared.cmp.Ordering.TheVariants.{Equal};
 
@@ -60,7 +60,7 @@ pub fn sort_distinct<K: Key>(keys: &mut Vec<K>)
 pub fn place_of<K: Key>(keys: &[K], key: K) -> Option<usize>
     requires { IsInOrder K.cmp keys.now }
     ensures found { IfSome result (λ place. slice_get keys.now place ≡ Some key) }
-    ensures known { is_some result ≡ stands_in K.cmp key keys.now }
+    ensures known { is_some result ≡ contains K.cmp key keys.now }
 {
     keys.binary_search(&key).ok()
 }

@@ -2,7 +2,7 @@
 
 ghost use Rattle.std.specs.Ordering.{nat_cmp};
 ghost use Rattle.std.specs.Prelude.{IfOk, length, ◌*◌, ◌≡◌, ◌≤◌};
-ghost use Rattle.ordered_lists.specs.{Marks.AreMarksOf, Orders.IsInOrder, Orders.stands_in};
+ghost use Rattle.ordered_lists.specs.{Marks.AreMarksOf, Orders.IsInOrder, Orders.contains};
 
 use crate::keys::place_of;
 use std::alloc::{AllocError, Global};
@@ -45,7 +45,7 @@ pub fn marks_of(alloc: Global, numbers: &[u32]) -> Result<Vec<bool>, AllocError>
 pub fn is_marked(marks: &[bool], numbers: &[u32], number: u32) -> bool
     requires marks { AreMarksOf numbers.now marks.now }
     requires numbers { IsInOrder nat_cmp numbers.now }
-    ensures { result ≡ stands_in nat_cmp number numbers.now }
+    ensures { result ≡ contains nat_cmp number numbers.now }
 {
     match marks.get(number as usize) {
         Some(mark) => *mark,

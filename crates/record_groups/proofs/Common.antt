@@ -9,7 +9,7 @@ pub use Rattle.canonical_form.proofs.Common.{Bool, length-append, nat_cmp_total,
 pub use Rattle.canonical_form.proofs.Common.{Coordinates, arranged_by, inner_points, most_records, packed_fours, packed_sixes, put_in_order}
 pub use Rattle.canonical_form.proofs.Common.{Decides, Fields2, Fields4, Fields6, nat_keys, on_total, p_polyid, packed_i, packed_p, take_all}
 pub use Rattle.canonical_form.proofs.Common.{DirectedChain, in_order-in_order, length-numbered_from, length_permutation, polygons_by_number}
-pub use Rattle.canonical_form.proofs.Common.{FitsRecord, IsTotalOrder, StandInOrder, all-in_order, append_assoc, entry_polyid, entry_values}
+pub use Rattle.canonical_form.proofs.Common.{FitsRecord, IsTotalOrder, ArePlacesInOrder, all-in_order, append_assoc, entry_polyid, entry_values}
 pub use Rattle.canonical_form.proofs.Common.{Four, all_left, all_take, chain_at, drop_all, eqb-true, feats_of, flat_map, in_order, ltb-true}
 pub use Rattle.canonical_form.proofs.Common.{I, Two, ap₂, inl, inr, map, min, suc, sym, ◌%◌, ◌&&◌, ◌*◌, ◌++◌, ◌+◌, ◌-◌, ◌/◌, ◌<◌, ◌==◌, ◌^◌}
 pub use Rattle.canonical_form.proofs.Common.{IsCounty, IsNumber, Ordering, all_drop, in_pieces, ltb-false, points_of, slice_get, turned_if}

@@ -12,7 +12,7 @@ pub record HaveSameCounts (a b : County) : Type 0 where
   pub landmarks : length a.landmarks ≡ length b.landmarks
 
 -- the same records of types 1 and I for each chain, which has one of each
-pub record HaveSameHeads (a b : County) : Type 0 where
+pub record HaveSameSingleRecords (a b : County) : Type 0 where
   pub chains : type_1_by_chain a ≡ type_1_by_chain b
   pub links : type_i_by_chain a ≡ type_i_by_chain b
 
@@ -24,7 +24,7 @@ pub record HaveSameLists (a b : County) : Type 0 where
 
 -- the same records for each chain
 pub record HaveSameChains (a b : County) : Type 0 where
-  pub heads : HaveSameHeads a b
+  pub heads : HaveSameSingleRecords a b
   pub lists : HaveSameLists a b
 
 -- the same records of types 7 and 8 for each landmark

@@ -3,7 +3,7 @@
 ghost use Rattle.std.specs.Bool.{Decides};
 ghost use Rattle.std.specs.Prelude.{◌≡◌, ◌<◌, ◌≤◌, ◌+◌, length, drop, take, slice_get};
 ghost use Rattle.record_groups.specs.Groups.{AreHeads, group_at};
-ghost use Rattle.record_groups.specs.SharedGroups.{HaveSameChains, HaveSameCounts, HaveSameHeads, HaveSameLists};
+ghost use Rattle.record_groups.specs.SharedGroups.{HaveSameChains, HaveSameCounts, HaveSameSingleRecords, HaveSameLists};
 
 use crate::chain_records::{ChainRecords, SequencedRecord, SequencedRecords, TopologyRecords};
 use crate::groups::{RecordGroups, read_heads};
@@ -118,13 +118,13 @@ fn have_same_counts<A: Chart, B: Chart>(a: &A, b: &B) -> bool
 }
 
 /// Whether two counties have the same records of types 1 and I.
-fn have_same_heads<A: Chart, B: Chart>(
+fn have_same_single_records<A: Chart, B: Chart>(
     a: &A,
     b: &B,
     buffer: &mut HeadBuffers,
     other: &mut HeadBuffers,
 ) -> bool
-    ensures { Decides result (HaveSameHeads (A.county a.now) (B.county b.now)) }
+    ensures { Decides result (HaveSameSingleRecords (A.county a.now) (B.county b.now)) }
 {
     are_same_groups(
         &ChainRecords { chart: a },
@@ -181,6 +181,6 @@ pub fn have_same_chains<A: Chart, B: Chart>(
     ensures { Decides result (HaveSameCounts (A.county a.now) (B.county b.now) × HaveSameChains (A.county a.now) (B.county b.now)) }
 {
     have_same_counts(a, b)
-        && have_same_heads(a, b, buffer, other)
+        && have_same_single_records(a, b, buffer, other)
         && have_same_lists(a, b, buffer, other)
 }

@@ -2,7 +2,7 @@
 use Rattle.renamings.proofs.Common.{IsAllAdjacentAnswer, apart-permutation, ltb, order_antisymm, sorted_from_all_adjacent, true≢false}
 use Rattle.county_chart.proofs.Common.{Bool, Decides, IsInOrder, IsPermutation, Less, List, [], apart_from_no_repeat, apart_from_sorted}
 use Rattle.county_chart.proofs.Common.{arith, false, false≢true, get_or, has_repeat, has_repeat-apart, is_gt, length, lt-ltb, ltb-false}
-use Rattle.county_chart.proofs.Common.{ltb-true, nat_cmp, nat_cmp_total, nat_keys, or_left, or_right, refl, stands_in, subst, suc, sym}
+use Rattle.county_chart.proofs.Common.{ltb-true, nat_cmp, nat_cmp_total, nat_keys, or_left, or_right, refl, contains, subst, suc, sym}
 use Rattle.county_chart.proofs.Common.{times, times-yes, true, zero, ℕ, ◌+◌, ◌<◌, ◌∙◌, ◌∷◌, ◌≡◌}
 
 -- in a list in order, a number that isn't less than the next one is repeated
@@ -13,14 +13,14 @@ not_ascending (x ∷ []) k h low e = absurd (omega arith)
 not_ascending (x ∷ y ∷ xs) zero h low e =
     let same : x ≡ y = order_antisymm nat_keys x y h.0.0 (not_below x y e) in
     let some = times-yes nat_keys x y xs same in
-    or_left (stands_in nat_cmp x (y ∷ xs)) (has_repeat nat_cmp (y ∷ xs)) (lt-ltb 0 (times nat_cmp x (y ∷ xs)) (omega (arith, some)))
+    or_left (contains nat_cmp x (y ∷ xs)) (has_repeat nat_cmp (y ∷ xs)) (lt-ltb 0 (times nat_cmp x (y ∷ xs)) (omega (arith, some)))
   where
     not_below : (x y : ℕ) → ltb x y ≡ false → is_gt (nat_cmp y x) ≡ false
     not_below x y e = let least = ltb-false x y e in grind arith
 not_ascending (x ∷ y ∷ xs) (suc k) h low e =
     let next : suc k + 1 ≡ suc (k + 1) = omega arith in
     let P : ℕ → Type 0 = λ n. ltb (get_or (y ∷ xs) k 0) (get_or (x ∷ y ∷ xs) n 0) ≡ false in
-    or_right (stands_in nat_cmp x (y ∷ xs)) _ (not_ascending (y ∷ xs) k h.1 (omega arith) (subst P next e))
+    or_right (contains nat_cmp x (y ∷ xs)) _ (not_ascending (y ∷ xs) k h.1 (omega arith) (subst P next e))
 
 -- a list in order has no repetition exactly if each number is less than the next one
 pub ascend_decides : (xs : List ℕ) (answer : Bool) → IsInOrder nat_cmp xs → IsAllAdjacentAnswer (λ x y b. b ≡ ltb x y) xs answer

@@ -1,7 +1,7 @@
 -- Pairs of an old and a new number: the new number in the first pair of an old one.
 use Rattle.std.specs.Prelude.{Bool, List, Option, filter_map, option_map, ℕ}
 use Rattle.std.specs.{Ordering.nat_cmp, declared.cmp.Ordering.Ordering}
-use Rattle.ordered_lists.specs.{Entries.value_under, Orders.stands_in, Pairs.image}
+use Rattle.ordered_lists.specs.{Entries.value_under, Orders.contains, Pairs.image}
 use Rattle.county_chart.specs.Renumbering.{exactly_one}
 
 -- the new numbers of the old ones that pairs name
@@ -14,4 +14,4 @@ pair_on {K} cmp nexts pair = option_map (λ new. (pair.0, new)) (value_under cmp
 
 -- whether exactly one of two lists has the chain of an old TLID: the first one under its old TLID, or the second one under its new TLID
 abbrev pub is_turned_once : List (ℕ × ℕ) → List ℕ → List ℕ → ℕ → Bool
-is_turned_once chains firsts nexts tlid = exactly_one (stands_in nat_cmp tlid firsts) (stands_in nat_cmp (image nat_cmp chains tlid) nexts)
+is_turned_once chains firsts nexts tlid = exactly_one (contains nat_cmp tlid firsts) (contains nat_cmp (image nat_cmp chains tlid) nexts)

@@ -2,7 +2,7 @@
 
 ghost use Rattle.std.specs.Prelude.{IfOk, false, ◌≡◌};
 ghost use Rattle.std.specs.{Bool.Decides, Ordering.nat_cmp};
-ghost use Rattle.ordered_lists.specs.Orders.{has_repeat, stands_in};
+ghost use Rattle.ordered_lists.specs.Orders.{has_repeat, contains};
 
 use ordered_lists::place_of;
 use std::alloc::{AllocError, Global};
@@ -38,7 +38,7 @@ impl<'a> SortedNumbers<'a> {
 
     /// Whether a number is in the list.
     pub fn contains(&self, number: u64) -> bool
-        ensures { result ≡ stands_in nat_cmp number self.now }
+        ensures { result ≡ contains nat_cmp number self.now }
     {
         place_of(&self.sorted, number).is_some()
     }

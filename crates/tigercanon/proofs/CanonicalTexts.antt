@@ -1,8 +1,8 @@
 -- The canonical text of records that were read, and why there may be none.
 use Rattle.tigercanon.proofs.Common.{◌≡◌, ◌∙◌, ℕ, List, Result, Ok, Err, [], ◌∷◌, subst, sym, ◌+◌, ◌++◌, ◌<◌, length, take, MatchResult}
 use Rattle.tigercanon.proofs.Common.{if◌then◌else◌, is_ok, WriteFault, text_of, Record, County, county_of, IsCounty, packed}
-use Rattle.tigercanon.proofs.Common.{Renumbering, Carries, packed_county, IsSight, IsOnlyTextThrough, StopsShort, CarriesSetThrough}
-use Rattle.tigercanon.proofs.Common.{IsAcceptedSet, IsCanonSetThrough, IsCanonicalTextThrough, IsOneCanonicalTextThrough}
+use Rattle.tigercanon.proofs.Common.{Renumbering, Carries, packed_county, IsView, IsOnlyTextInView, StopsShort, CarriesSetInView}
+use Rattle.tigercanon.proofs.Common.{IsAcceptedSet, IsCanonSetInView, IsCanonicalTextInView, IsOneCanonicalTextInView}
 use Rattle.std.proofs.Common.{IfOk, IfErr}
 use Rattle.tigercanon.specs.Normalising.{GoesOut}
 use Rattle.tigercanon.proofs.Sets.{one_text, only_text, text_accepted, text_itself}
@@ -45,26 +45,26 @@ goes_out failed holds old new text (Ok n) long short failures bytes = ((long, by
 goes_out failed holds old new text (Err f) long short failures bytes = ((short, bytes), failures)
 
 -- canonical texts through a view
-module _ (seen : County → County) (sight : IsSight seen) where
+module _ (view : County → County) (view_laws : IsView view) where
   -- a canonical text is its own canonical text
-  pub again : (parts : List (List ℕ)) (answer : List ℕ) → IsCanonicalTextThrough seen parts answer → (text : List ℕ)
-      → IsOneCanonicalTextThrough seen parts text → answer ≡ text
+  pub again : (parts : List (List ℕ)) (answer : List ℕ) → IsCanonicalTextInView view parts answer → (text : List ℕ)
+      → IsOneCanonicalTextInView view parts text → answer ≡ text
   again parts answer h text one =
-      one_text seen sight parts answer text h
-      (subst (λ ps. IsCanonicalTextThrough seen ps text) (sym one.parts_are) (text_itself seen sight one.whole text one.canonical))
+      one_text view view_laws parts answer text h
+      (subst (λ ps. IsCanonicalTextInView view ps text) (sym one.parts_are) (text_itself view view_laws one.whole text one.canonical))
 
   -- and is accepted
-  pub one_text_accepted : (parts : List (List ℕ)) (text : List ℕ) → IsOneCanonicalTextThrough seen parts text
+  pub one_text_accepted : (parts : List (List ℕ)) (text : List ℕ) → IsOneCanonicalTextInView view parts text
       → (records : List Record) × IsAcceptedSet parts records
   one_text_accepted parts text one = (
     one.canonical.canonical,
     subst (λ ps. IsAcceptedSet ps one.canonical.canonical) (sym one.parts_are)
-        (text_accepted seen sight one.whole text one.canonical),
+        (text_accepted view view_laws one.whole text one.canonical),
   )
 
   -- products of a set's canonical county
-  module _ (parts : List (List ℕ)) (a canon : County) (set : IsCanonSetThrough seen parts a canon) where
-    abbrev pub text_of_set : (text : List ℕ) → text ≡ text_of (packed canon) → IsCanonicalTextThrough seen parts text
+  module _ (parts : List (List ℕ)) (a canon : County) (set : IsCanonSetInView view parts a canon) where
+    abbrev pub text_of_set : (text : List ℕ) → text ≡ text_of (packed canon) → IsCanonicalTextInView view parts text
     text_of_set text e = record {
       records = set.records;
       canonical = packed canon;
@@ -73,17 +73,17 @@ module _ (seen : County → County) (sight : IsSight seen) where
       text_is = sym e;
     }
 
-    pub only_of_set : (text : List ℕ) → text ≡ text_of (packed canon) → IsOnlyTextThrough seen parts text
-    only_of_set text e = only_text seen sight parts text (text_of_set text e)
+    pub only_of_set : (text : List ℕ) → text ≡ text_of (packed canon) → IsOnlyTextInView view parts text
+    only_of_set text e = only_text view view_laws parts text (text_of_set text e)
 
     -- the renaming onto the canonical county carries the set onto its text
     pub carried_of_set : IsCounty canon → (text : List ℕ) → text ≡ text_of (packed canon) → (renaming : Renumbering)
-        → Carries renaming a canon → CarriesSetThrough seen renaming parts (text ∷ [])
+        → Carries renaming a canon → CarriesSetInView view renaming parts (text ∷ [])
     carried_of_set is text e renaming carries = record {
       records = set.records;
       other_records = packed canon;
       accepted = set.accepted;
-      other_accepted = text_accepted seen sight parts text (text_of_set text e);
-      carries = subst (Carries renaming (seen (county_of set.records))) (sym (set.canonical.own ∙ packed_county canon is))
+      other_accepted = text_accepted view view_laws parts text (text_of_set text e);
+      carries = subst (Carries renaming (view (county_of set.records))) (sym (set.canonical.own ∙ packed_county canon is))
           (subst (λ c. Carries renaming c canon) set.county_is carries);
     }

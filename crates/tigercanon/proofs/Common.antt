@@ -8,21 +8,21 @@ pub use Rattle.std.proofs.lemmas.List.{length-append, map-append}
 pub use Rattle.std.proofs.lemmas.Result.{IfOk-weaker, err_from_is_err_and}
 pub use Rattle.std.specs.Io.KnownBytes.{Consumes, IsAtEnd}
 pub use Rattle.std.specs.Prelude.{All, IfSome, MatchResult, OnOk, if◌then◌else◌, is_ok}
-pub use Rattle.tigercanon.specs.Comparing.{AreDifferentThrough, AreOneMapThrough, IsAcceptable, ReportsRefusalOfOneRead}
+pub use Rattle.tigercanon.specs.Comparing.{AreDifferentInView, AreOneMapInView, IsAcceptable, ReportsRefusalOfOneRead}
 pub use Rattle.tigercanon.specs.Devices.{StopsReading, set_of_sources, to_sink}
 pub use Rattle.tigercanon.specs.Faults.{IsOfNoLines, IsWantOfMemory, ReportsRefusal, ReportsRefusalOfRead}
 pub use Rattle.tigercanon.specs.Files.{bytes_of}
 pub use Rattle.tigercanon.specs.Findings.{IsFound}
 pub use Rattle.tigercanon.specs.LentParts.{bytes_of_parts}
-pub use Rattle.tigercanon.specs.Normalising.{IsOnlyTextThrough, ReportsRead, StopsShort, Took}
+pub use Rattle.tigercanon.specs.Normalising.{IsOnlyTextInView, ReportsRead, StopsShort, Took}
 pub use Rattle.tigercanon.specs.Outcomes.{GivenOutput, GivenSet, HoldsAccepted, ReportsLine, ReportsSet}
 pub use Rattle.tigercanon.specs.Reading.{AreRead, AreReadUpTo, IsUnread, NoneFailed, OneFailed, SomeUnread}
 pub use Rattle.tigercanon.specs.Refusals.{fault_line}
 pub use Rattle.tl_layout.specs.Limits.{most_records}
 pub use Rattle.tigercanon.specs.Respelling.{IsFirstFault}
 pub use Rattle.tigercanon.specs.Running.{IsOfMissing, set_of_files, to_writer}
-pub use Rattle.tigercanon.specs.Sets.{CarriesSetThrough, IsAcceptedSet, IsCanonSetThrough, IsCanonicalTextThrough}
-pub use Rattle.tigercanon.specs.Sets.{IsOneCanonicalTextThrough, IsSetRefusal}
+pub use Rattle.tigercanon.specs.Sets.{CarriesSetInView, IsAcceptedSet, IsCanonSetInView, IsCanonicalTextInView}
+pub use Rattle.tigercanon.specs.Sets.{IsOneCanonicalTextInView, IsSetRefusal}
 pub use Rattle.tigercanon.specs.TwoSets.{Does, IsTextOf, LeavesStopped, ReportsFor, line_of_ending}
 pub use Rattle.tigercanon.specs.declared.fault.Fault.{Fault}
 pub use Rattle.tigercanon.specs.declared.fault.Fault.TheVariants.{Link, Load, Memory, Profile, Write}
@@ -52,8 +52,8 @@ pub use Rattle.tl_load.specs.Outcome.{SpellsWithin}
 pub use Rattle.tl_load.specs.Sources.{Gave, RoseBy}
 pub use Rattle.tl_load.specs.declared.fault.LoadFault.{LoadFault}
 pub use Rattle.tl_load.specs.declared.fault.LoadFault.TheVariants.{Device}
-pub use Rattle.canonical_form.proofs.CanonicalLists.Accepted.{one_canonical_same, plain_sight}
-pub use Rattle.canonical_form.proofs.Masks.MaskedSights.{masked_sight}
-pub use Rattle.canonical_form.specs.Sights.{IsSight, plain}
+pub use Rattle.canonical_form.proofs.CanonicalLists.Accepted.{one_canonical_same, plain_view}
+pub use Rattle.canonical_form.proofs.Masks.MaskedViews.{masked_view}
+pub use Rattle.canonical_form.specs.CountyViews.{IsView, plain}
 pub use Rattle.county_chart.specs.Profile.{IsFirstBrokenClause}
 pub use Rattle.tl_write.specs.declared.fault.WriteFault.{WriteFault}

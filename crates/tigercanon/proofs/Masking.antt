@@ -1,7 +1,7 @@
 -- Sets under a mask: the view of a set's county, and the mask that leaves nothing out.
 use Rattle.tigercanon.proofs.Common.{◌≡◌, ◌∙◌, ℕ, List, sym, subst, no_mask, Mask, County, county_of, masked, plain, IsAcceptable}
 use Rattle.canonical_form.proofs.Masks.MaskedCounties.{masked_by_none}
-use Rattle.tigercanon.specs.Sets.{IsSeenSet}
+use Rattle.tigercanon.specs.Sets.{IsViewedSet}
 
 -- a mask that leaves nothing out shows counties as they are
 pub none_is_plain : masked no_mask ≡ plain
@@ -16,13 +16,13 @@ under_none P = subst P (sym none_is_plain)
 
 module _ (mask : Mask) (parts : List (List ℕ)) where
   -- if the mask leaves nothing out, the county under it is the county itself
-  pub seen_by_none : mask ≡ no_mask → (county : County) → IsSeenSet plain parts county → IsSeenSet (masked mask) parts county
-  seen_by_none none county set = record {
+  pub viewed_by_none : mask ≡ no_mask → (county : County) → IsViewedSet plain parts county → IsViewedSet (masked mask) parts county
+  viewed_by_none none county set = record {
     records = set.records;
     accepted = set.accepted;
     county_is = subst (λ (m : Mask). county ≡ masked m (county_of set.records)) (sym none)
         (set.county_is ∙ sym (masked_by_none (county_of set.records)));
   }
 
-pub seen_acceptable : {seen : County → County} (parts : List (List ℕ)) (county : County) → IsSeenSet seen parts county → IsAcceptable parts
-seen_acceptable parts county set = (set.records, set.accepted)
+pub viewed_acceptable : {view : County → County} (parts : List (List ℕ)) (county : County) → IsViewedSet view parts county → IsAcceptable parts
+viewed_acceptable parts county set = (set.records, set.accepted)

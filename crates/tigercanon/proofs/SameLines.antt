@@ -1,6 +1,6 @@
 -- Sets with the same lines are accepted alike, refused alike except for a faulty line's part and line, and have one canonical text.
 use Rattle.tigercanon.proofs.Common.{◌≡◌, ℕ, List, refl, ap, Record, tiger, SpellsWithin, County, most_records, IsAcceptedSet}
-use Rattle.tigercanon.proofs.Common.{IsSetRefusal, IsCanonicalTextThrough, Fault, Load, Link, Profile, Write, Memory}
+use Rattle.tigercanon.proofs.Common.{IsSetRefusal, IsCanonicalTextInView, Fault, Load, Link, Profile, Write, Memory}
 use Rattle.tl_load.specs.Lines.{HaveSameLines}
 use Rattle.tl_load.proofs.CutParts.{spells_as, fault_elsewhere}
 use Rattle.tigercanon.specs.Sets.{refusal_without_place}
@@ -12,8 +12,8 @@ module _ (parts others : List (List ℕ)) (same : HaveSameLines parts others) wh
   pub accepted_alike : (records : List Record) → IsAcceptedSet parts records → IsAcceptedSet others records
   accepted_alike records h = record { spelled = spelled_alike records h.spelled; accepted = h.accepted }
 
-  pub text_alike : (seen : County → County) (text : List ℕ) → IsCanonicalTextThrough seen parts text → IsCanonicalTextThrough seen others text
-  text_alike seen text h = record {
+  pub text_alike : (view : County → County) (text : List ℕ) → IsCanonicalTextInView view parts text → IsCanonicalTextInView view others text
+  text_alike view text h = record {
     records = h.records;
     canonical = h.canonical;
     spelled = spelled_alike h.records h.spelled;

@@ -1,8 +1,8 @@
 -- Each set is accepted or has one refusal; two sets have one canonical text exactly if their counties are the same.
 use Rattle.tigercanon.proofs.Common.{◌≡◌, ◌⊎◌, ℕ, List, [], ◌∷◌, refl, sym, ap, ◌∙◌, subst, inl, inr, All, text_of, Record}
 use Rattle.tigercanon.proofs.Common.{SpellsWithin, LoadFault, tiger_is_sound, spelled_fit, accepted_within, County, county_of, AreSame}
-use Rattle.tigercanon.proofs.Common.{IsSight, plain, IsOnlyTextThrough, most_records, IsAcceptedSet, IsSetRefusal}
-use Rattle.tigercanon.proofs.Common.{IsCanonicalTextThrough, Fault, Load, Link, Profile, Write, Memory, IsFirstBrokenClause}
+use Rattle.tigercanon.proofs.Common.{IsView, plain, IsOnlyTextInView, most_records, IsAcceptedSet, IsSetRefusal}
+use Rattle.tigercanon.proofs.Common.{IsCanonicalTextInView, Fault, Load, Link, Profile, Write, Memory, IsFirstBrokenClause}
 use Rattle.tigercanon.proofs.Common.{one_canonical_same}
 use Rattle.std.proofs.Common.{lit≤}
 use Rattle.std.specs.List.{AllByRecursion}
@@ -14,7 +14,7 @@ use Rattle.tl_load.specs.Outcome.{Spells, FaultAt, IsSpelled, IsFaulty}
 use Rattle.tl_load.proofs.Reading.{one_verdict}
 use Rattle.tl_load.proofs.TextLemmas.{text_spells, text_spells_only}
 use Rattle.canonical_form.specs.Accepted.{IsAccepted, RecordsRefusal, Unlinked, OutOfProfile, IsRefusal}
-use Rattle.canonical_form.specs.Strict.{IsStrictThrough}
+use Rattle.canonical_form.specs.Strict.{IsStrictInView}
 use Rattle.tigercanon.specs.Normalising.{IsOnlyText}
 use Rattle.tigercanon.specs.Sets.{IsCanonicalText}
 use Rattle.county_chart.specs.LinkRules.{IsLinked, IsFirstBrokenRule}
@@ -24,7 +24,7 @@ use Rattle.canonical_form.proofs.CanonicalLists.Accepted.{accepted_or_refused, s
 use Rattle.canonical_form.proofs.CanonicalLists.Accepted.{canonical_accepted, canonical_as_it_is, canonical_of_itself}
 use Rattle.canonical_form.proofs.CanonicalLists.Ascending.{canonical_exists}
 use Rattle.canonical_form.proofs.Arrangements.ArrangedNumbers.{canonical_within}
-use Rattle.canonical_form.proofs.CanonicalLists.StrictLists.{strict_through}
+use Rattle.canonical_form.proofs.CanonicalLists.StrictLists.{strict_in_view}
 use Rattle.county_chart.proofs.Sameness.Equivalence.{same-reflexive}
 
 pub set_accepted_or_refused : (parts : List (List ℕ))
@@ -99,21 +99,21 @@ one_set_refusal parts f (Write g) h k = absurd k
 one_set_refusal parts f Memory h k = absurd k
 
 -- canonical texts through a view
-module _ (seen : County → County) (sight : IsSight seen) where
+module _ (view : County → County) (view_laws : IsView view) where
   -- the printed records of a canonical list fit their columns and keep the limit
-  fitting : (parts : List (List ℕ)) (text : List ℕ) (h : IsCanonicalTextThrough seen parts text)
+  fitting : (parts : List (List ℕ)) (text : List ℕ) (h : IsCanonicalTextInView view parts text)
       → All FitsRecord h.canonical × IsWithinLimit most_records h.canonical
   fitting parts text h =
       let read : AllByRecursion FitsRecord h.records =
       recursion_from_All FitsRecord h.records (spelled_fit parts h.records h.spelled.spells) in
-      let kept = canonical_within seen sight h.records h.canonical_of.accepted h.canonical h.canonical_of read most_records (lit≤ tt)
+      let kept = canonical_within view view_laws h.records h.canonical_of.accepted h.canonical h.canonical_of read most_records (lit≤ tt)
       (accepted_within most_records parts h.records h.spelled) in
       (All-from_recursion FitsRecord h.canonical kept.0, kept.1)
 
-  module _ (p q : List (List ℕ)) (t u : List ℕ) (h : IsCanonicalTextThrough seen p t) (k : IsCanonicalTextThrough seen q u) where
-    pub same_one_text : AreSame (seen (county_of h.records)) (seen (county_of k.records)) → t ≡ u
+  module _ (p q : List (List ℕ)) (t u : List ℕ) (h : IsCanonicalTextInView view p t) (k : IsCanonicalTextInView view q u) where
+    pub same_one_text : AreSame (view (county_of h.records)) (view (county_of k.records)) → t ≡ u
     same_one_text s = sym h.text_is
-        ∙ same_canonical_text seen sight h.records k.records h.canonical k.canonical h.canonical_of k.canonical_of s
+        ∙ same_canonical_text view view_laws h.records k.records h.canonical k.canonical h.canonical_of k.canonical_of s
         ∙ k.text_is
 
     -- lists that fit are one list if their texts are
@@ -124,28 +124,28 @@ module _ (seen : County → County) (sight : IsSight seen) where
         subst (λ bytes. Spells tiger (bytes ∷ []) k.canonical) texts (text_spells k.canonical (fitting q u k).0) in
         sym (text_spells_only h.canonical k.canonical (fitting p t h).0 spelled)
 
-    pub one_text_same : t ≡ u → AreSame (seen (county_of h.records)) (seen (county_of k.records))
+    pub one_text_same : t ≡ u → AreSame (view (county_of h.records)) (view (county_of k.records))
     one_text_same e =
-        one_canonical_same seen sight h.records k.records h.canonical k.canonical h.canonical_of k.canonical_of (one_text_one_list e)
+        one_canonical_same view view_laws h.records k.records h.canonical k.canonical h.canonical_of k.canonical_of (one_text_one_list e)
 
   -- an accepted set has one canonical text
   pub canonical_text : (parts : List (List ℕ)) (records : List Record) → IsAcceptedSet parts records
-      → (text : List ℕ) × IsCanonicalTextThrough seen parts text
+      → (text : List ℕ) × IsCanonicalTextInView view parts text
   canonical_text parts records a =
-      let found = canonical_exists seen sight records a.accepted in (
+      let found = canonical_exists view view_laws records a.accepted in (
         text_of found.0,
         record { records = records; canonical = found.0; spelled = a.spelled; canonical_of = found.1; text_is = refl },
       )
 
-  pub one_text : (parts : List (List ℕ)) (t u : List ℕ) → IsCanonicalTextThrough seen parts t → IsCanonicalTextThrough seen parts u
+  pub one_text : (parts : List (List ℕ)) (t u : List ℕ) → IsCanonicalTextInView view parts t → IsCanonicalTextInView view parts u
       → t ≡ u
   one_text parts t u h k =
       same_one_text parts parts t u h k
-      (subst (λ (rs : List Record). AreSame (seen (county_of h.records)) (seen (county_of rs)))
-      (one_list parts h.records k.records h.spelled k.spelled) (same-reflexive (seen (county_of h.records))))
+      (subst (λ (rs : List Record). AreSame (view (county_of h.records)) (view (county_of rs)))
+      (one_list parts h.records k.records h.spelled k.spelled) (same-reflexive (view (county_of h.records))))
 
   -- as one part it is accepted, describes the same map, and is its own canonical text, through the view and without one
-  module _ (parts : List (List ℕ)) (text : List ℕ) (h : IsCanonicalTextThrough seen parts text) where
+  module _ (parts : List (List ℕ)) (text : List ℕ) (h : IsCanonicalTextInView view parts text) where
     pub text_accepted : IsAcceptedSet (text ∷ []) h.canonical
     unfolding tiger
     text_accepted = record {
@@ -153,15 +153,15 @@ module _ (seen : County → County) (sight : IsSight seen) where
         spells = subst (λ bytes. Spells tiger (bytes ∷ []) h.canonical) h.text_is (text_spells h.canonical (fitting parts text h).0);
         within = (fitting parts text h).1;
       };
-      accepted = canonical_accepted seen sight h.records h.canonical h.canonical_of;
+      accepted = canonical_accepted view view_laws h.records h.canonical h.canonical_of;
     }
 
-    pub text_itself : IsCanonicalTextThrough seen (text ∷ []) text
+    pub text_itself : IsCanonicalTextInView view (text ∷ []) text
     text_itself = record {
       records = h.canonical;
       canonical = h.canonical;
       spelled = text_accepted.spelled;
-      canonical_of = canonical_of_itself seen sight h.records h.canonical h.canonical_of;
+      canonical_of = canonical_of_itself view view_laws h.records h.canonical h.canonical_of;
       text_is = h.text_is;
     }
 
@@ -170,12 +170,12 @@ module _ (seen : County → County) (sight : IsSight seen) where
       records = h.canonical;
       canonical = h.canonical;
       spelled = text_accepted.spelled;
-      canonical_of = canonical_as_it_is seen sight h.records h.canonical h.canonical_of;
+      canonical_of = canonical_as_it_is view view_laws h.records h.canonical h.canonical_of;
       text_is = h.text_is;
     }
 
   -- no canonical list of the same map has another text
-  pub only_text : (parts : List (List ℕ)) (text : List ℕ) → IsCanonicalTextThrough seen parts text → IsOnlyTextThrough seen parts text
+  pub only_text : (parts : List (List ℕ)) (text : List ℕ) → IsCanonicalTextInView view parts text → IsOnlyTextInView view parts text
   only_text parts text h records canonical accepted is own same = one_text parts (text_of canonical) text
       (record {
         records = records;
@@ -187,20 +187,20 @@ module _ (seen : County → County) (sight : IsSight seen) where
 
   -- the text of a strict list is the only one
   module _ (parts : List (List ℕ)) (records answer : List Record) (spelled : SpellsWithin tiger most_records parts records)
-      (h : IsStrictThrough seen records answer) where
-    pub strict_text : IsCanonicalTextThrough seen parts (text_of answer)
+      (h : IsStrictInView view records answer) where
+    pub strict_text : IsCanonicalTextInView view parts (text_of answer)
     strict_text = record {
       records = records;
       canonical = answer;
       spelled = spelled;
-      canonical_of = strict_through seen records answer h;
+      canonical_of = strict_in_view view records answer h;
       text_is = refl;
     }
 
-    pub only_strict_text : (text : List ℕ) → IsCanonicalTextThrough seen parts text → text ≡ text_of answer
+    pub only_strict_text : (text : List ℕ) → IsCanonicalTextInView view parts text → text ≡ text_of answer
     only_strict_text text k = one_text parts text (text_of answer) k strict_text
 
 -- the plain view shows all of a county
 module _ (parts : List (List ℕ)) (text : List ℕ) where
-  pub only_as_it_is : IsOnlyTextThrough plain parts text → IsOnlyText parts text
+  pub only_as_it_is : IsOnlyTextInView plain parts text → IsOnlyText parts text
   only_as_it_is only = λ records canonical accepted is same. only records canonical accepted is refl same

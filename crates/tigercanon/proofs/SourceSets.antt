@@ -7,7 +7,7 @@ use Rattle.tigercanon.proofs.Common.{SomeUnread, IsSetRefusal, Does, IsTextOf, L
 use Rattle.std.specs.Prelude.{true, false}
 use Rattle.command_line.specs.declared.plans.Job.TheVariants.{Normalise}
 use Rattle.tigercanon.specs.Devices.{PrintsTo}
-use Rattle.tigercanon.specs.Normalising.{AreRefusedParts, IsCutOffThrough, is_of_sink}
+use Rattle.tigercanon.specs.Normalising.{AreRefusedParts, IsCutOffInView, is_of_sink}
 use Rattle.tigercanon.specs.Outcomes.{Reports}
 
 -- a source that failed couldn't be read
@@ -81,7 +81,7 @@ module _ {R : Type 0} (remaining : R → Option (List ℕ)) (given failed reads 
 
   -- the state after normalising to a sink
   pub normalised_leave : {W : Type 0} (sink_failed : W → ℕ) (holds : W → List ℕ → Type 0) (old new : W) (mask : Mask) (fault : Fault)
-      → ((f : WriteFault) → fault ≡ Write f → IsCutOffThrough (masked mask) remaining given before after holds old new f.written)
+      → ((f : WriteFault) → fault ≡ Write f → IsCutOffInView (masked mask) remaining given before after holds old new f.written)
       → (is_of_sink fault ≡ true → sink_failed new ≡ sink_failed old + 1)
       → ReportsRead remaining given reads before after fault → (is_of_sink fault ≡ false → new ≡ old)
       → (fault ≡ Load Device → OneFailed failed before after) → (second : GivenSet)

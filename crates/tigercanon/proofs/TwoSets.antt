@@ -1,7 +1,7 @@
 -- A comparison of two sets from sources: its line, and the fault that is reported.
 use Rattle.tigercanon.proofs.Common.{◌≡◌, inl, inr, ℕ, List, Option, Some, refl, ap, Compare, Done, Fault, masked, Mask, Result, Ok, Err}
 use Rattle.tigercanon.proofs.Common.{Does, Ending, GivenOutput, LeavesStopped, Link, Load, Memory, Profile, Stopped, Write}
-use Rattle.tigercanon.proofs.Common.{AreDifferentThrough, AreOneMapThrough, ReportsRefusalOfOneRead, StopsReading, CompareFault, In}
+use Rattle.tigercanon.proofs.Common.{AreDifferentInView, AreOneMapInView, ReportsRefusalOfOneRead, StopsReading, CompareFault, In}
 use Rattle.tigercanon.proofs.Common.{GivenSet, IsSetRefusal, IsTextOf, line_of_ending}
 use Rattle.tigercanon.specs.declared.program.ending.Ending.TheVariants.{Different}
 use Rattle.tigercanon.specs.Stopping.{stopped_by}
@@ -33,12 +33,12 @@ module _ (first second : GivenSet) where
   unread_second fault set read h e = inr (e, read, inr (no_lines_stopped second fault h), (reading_reported second fault h).0)
 
   -- the line of a finding about the parts of both sets
-  pub line_same : (mask : Mask) (a b : List (List ℕ)) → first.holds a → second.holds b → AreOneMapThrough (masked mask) a b
+  pub line_same : (mask : Mask) (a b : List (List ℕ)) → first.holds a → second.holds b → AreOneMapInView (masked mask) a b
       → IsTextOf mask Compare first second Done (line_of_ending Done)
   line_same mask a b held others_held found =
       record { parts = a; others = b; held = held; others_held = others_held; fact = record { one_map = found; text_is = refl } }
 
-  pub line_different : (mask : Mask) (a b : List (List ℕ)) → first.holds a → second.holds b → AreDifferentThrough (masked mask) a b
+  pub line_different : (mask : Mask) (a b : List (List ℕ)) → first.holds a → second.holds b → AreDifferentInView (masked mask) a b
       → IsTextOf mask Compare first second Different (line_of_ending Different)
   line_different mask a b held others_held found =
       record { parts = a; others = b; held = held; others_held = others_held; fact = record { different = found; text_is = refl } }

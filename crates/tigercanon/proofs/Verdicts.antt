@@ -1,7 +1,7 @@
 -- Two sets that were put into canonical form.
 use Rattle.tigercanon.proofs.Common.{◌≡◌, ◌≢◌, ◌∙◌, ℕ, List, refl, sym, ap, subst, text_of, County, county_of, IsCounty, packed}
-use Rattle.tigercanon.proofs.Common.{AreSame, Carries, Renumbering, packed_county, IsSight, one_canonical_same, AreDifferentThrough}
-use Rattle.tigercanon.proofs.Common.{AreOneMapThrough, IsAcceptable, IsFound, CarriesSetThrough, IsCanonSetThrough}
+use Rattle.tigercanon.proofs.Common.{AreSame, Carries, Renumbering, packed_county, IsView, one_canonical_same, AreDifferentInView}
+use Rattle.tigercanon.proofs.Common.{AreOneMapInView, IsAcceptable, IsFound, CarriesSetInView, IsCanonSetInView}
 use Rattle.tigercanon.specs.Findings.{Finding, IsFoundOfCounties}
 use Rattle.tigercanon.specs.Findings.Finding.{Carried, NoMemory, OneMap, TwoMaps}
 use Rattle.tigercanon.proofs.CanonicalTexts.{text_of_set}
@@ -12,25 +12,25 @@ pub one_county : (a b : County) → IsCounty a → IsCounty b → packed a ≡ p
 one_county a b h k e = sym (packed_county a h) ∙ ap county_of e ∙ packed_county b k
 
 -- two sets through a view
-module _ (seen : County → County) (sight : IsSight seen) (parts others : List (List ℕ)) (a a' b b' : County)
-    (first : IsCanonSetThrough seen parts a a') (second : IsCanonSetThrough seen others b b') where
-  pub sets_carried : (r : Renumbering) → Carries r a b → CarriesSetThrough seen r parts others
+module _ (view : County → County) (view_laws : IsView view) (parts others : List (List ℕ)) (a a' b b' : County)
+    (first : IsCanonSetInView view parts a a') (second : IsCanonSetInView view others b b') where
+  pub sets_carried : (r : Renumbering) → Carries r a b → CarriesSetInView view r parts others
   sets_carried r carries = record {
     records = first.records;
     other_records = second.records;
     accepted = first.accepted;
     other_accepted = second.accepted;
-    carries = subst (λ c. Carries r c (seen (county_of second.records))) first.county_is (subst (Carries r a) second.county_is carries);
+    carries = subst (λ c. Carries r c (view (county_of second.records))) first.county_is (subst (Carries r a) second.county_is carries);
   }
 
   -- the canonical lists have one text, and are one list, if the counties are the same
-  one_packing : AreSame (seen (county_of first.records)) (seen (county_of second.records)) → packed a' ≡ packed b'
+  one_packing : AreSame (view (county_of first.records)) (view (county_of second.records)) → packed a' ≡ packed b'
   one_packing same =
-      let text = text_of_set seen sight parts a a' first (text_of (packed a')) refl in
-      let other = text_of_set seen sight others b b' second (text_of (packed b')) refl in
-      one_text_one_list seen sight parts others _ _ text other (same_one_text seen sight parts others _ _ text other same)
+      let text = text_of_set view view_laws parts a a' first (text_of (packed a')) refl in
+      let other = text_of_set view view_laws others b b' second (text_of (packed b')) refl in
+      one_text_one_list view view_laws parts others _ _ text other (same_one_text view view_laws parts others _ _ text other same)
 
-  pub sets_different : packed a' ≢ packed b' → AreDifferentThrough seen parts others
+  pub sets_different : packed a' ≢ packed b' → AreDifferentInView view parts others
   sets_different other = record {
     records = first.records;
     others = second.records;
@@ -39,9 +39,9 @@ module _ (seen : County → County) (sight : IsSight seen) (parts others : List 
     not_same = λ same. other (one_packing same);
   }
 
-  pub sets_one_map : packed a' ≡ packed b' → AreOneMapThrough seen parts others
+  pub sets_one_map : packed a' ≡ packed b' → AreOneMapInView view parts others
   sets_one_map e =
-      let same = one_canonical_same seen sight first.records second.records (packed a') (packed b') first.canonical second.canonical e in (
+      let same = one_canonical_same view view_laws first.records second.records (packed a') (packed b') first.canonical second.canonical e in (
         same.by,
         record {
           records = first.records;
@@ -53,11 +53,11 @@ module _ (seen : County → County) (sight : IsSight seen) (parts others : List 
       )
 
   -- a finding about the counties is a finding about the sets
-  pub found_of_sets : (finding : Finding) → IsFoundOfCounties a b a' b' finding → IsFound seen parts others finding
+  pub found_of_sets : (finding : Finding) → IsFoundOfCounties a b a' b' finding → IsFound view parts others finding
   found_of_sets (Carried r) carries = sets_carried r carries
   found_of_sets OneMap same = sets_one_map same
   found_of_sets TwoMaps other = sets_different other
   found_of_sets NoMemory none = ((first.records, first.accepted), (second.records, second.accepted))
 
-pub acceptable : {seen : County → County} (parts : List (List ℕ)) (a a' : County) → IsCanonSetThrough seen parts a a' → IsAcceptable parts
+pub acceptable : {view : County → County} (parts : List (List ℕ)) (a a' : County) → IsCanonSetInView view parts a a' → IsAcceptable parts
 acceptable parts a a' set = (set.records, set.accepted)

@@ -3,40 +3,40 @@ use Rattle.std.specs.Prelude.{ℕ, ◌≡◌, ◌++◌, ◌∷◌, [], ◌⊎◌
 use Rattle.tl_layout.specs.declared.record_type.Record.{Record}
 use Rattle.county_chart.specs.County.{County, county_of}
 use Rattle.county_chart.specs.Renumbering.{AreSame, Renumbering}
-use Rattle.canonical_form.specs.Sights.{plain}
+use Rattle.canonical_form.specs.CountyViews.{plain}
 use Rattle.tigercanon.specs.Faults.{IsWantOfMemory, ReportsRefusal, ReportsRefusalOfRead}
-use Rattle.tigercanon.specs.Sets.{CarriesSetThrough, IsAcceptedSet}
+use Rattle.tigercanon.specs.Sets.{CarriesSetInView, IsAcceptedSet}
 use Rattle.tigercanon.specs.declared.library.comparing.CompareFault.{CompareFault}
 use Rattle.tigercanon.specs.declared.library.comparing.CompareFault.TheVariants.{In, Memory}
 
 -- both sets are accepted, and no renaming carries what the view shows of the first set's county onto what it shows of the second's
-pub record AreDifferentThrough (seen : County → County) (a b : List (List ℕ)) : Type 0 where
+pub record AreDifferentInView (view : County → County) (a b : List (List ℕ)) : Type 0 where
   pub records : List Record
   pub others : List Record
   pub first : IsAcceptedSet a records
   pub second : IsAcceptedSet b others
-  pub not_same : AreSame (seen (county_of records)) (seen (county_of others)) → ⊥
+  pub not_same : AreSame (view (county_of records)) (view (county_of others)) → ⊥
 
 -- both sets are accepted, and no renaming carries the county of the first onto that of the second
 abbrev pub AreDifferent : List (List ℕ) → List (List ℕ) → Type 0
-AreDifferent = AreDifferentThrough plain
+AreDifferent = AreDifferentInView plain
 
 -- both sets are accepted, and some renaming carries what the view shows of the first onto what it shows of the second
-abbrev pub AreOneMapThrough : (County → County) → List (List ℕ) → List (List ℕ) → Type 0
-AreOneMapThrough seen a b = (r : Renumbering) × CarriesSetThrough seen r a b
+abbrev pub AreOneMapInView : (County → County) → List (List ℕ) → List (List ℕ) → Type 0
+AreOneMapInView view a b = (r : Renumbering) × CarriesSetInView view r a b
 
 -- both sets are accepted, and some renaming carries the first onto the second
 abbrev pub AreOneMap : List (List ℕ) → List (List ℕ) → Type 0
-AreOneMap = AreOneMapThrough plain
+AreOneMap = AreOneMapInView plain
 
 -- the text is the line that says that the sets are one map through this view, or the line that says that they are different maps
 -- through it
-pub record SaysSameThrough (seen : County → County) (a b : List (List ℕ)) (text : List ℕ) : Type 0 where
-  pub one_map : AreOneMapThrough seen a b
+pub record SaysSameInView (view : County → County) (a b : List (List ℕ)) (text : List ℕ) : Type 0 where
+  pub one_map : AreOneMapInView view a b
   pub text_is : text ≡ codes "same" ++ 10 ∷ []
 
-pub record SaysDifferentThrough (seen : County → County) (a b : List (List ℕ)) (text : List ℕ) : Type 0 where
-  pub different : AreDifferentThrough seen a b
+pub record SaysDifferentInView (view : County → County) (a b : List (List ℕ)) (text : List ℕ) : Type 0 where
+  pub different : AreDifferentInView view a b
   pub text_is : text ≡ codes "different" ++ 10 ∷ []
 
 -- the set is accepted

@@ -3,8 +3,8 @@ use Rattle.std.specs.Prelude.{ℕ, ◌≡◌, ◌≢◌, List, Result, Ok, Err}
 use Rattle.county_chart.specs.County.{County}
 use Rattle.county_chart.specs.Packing.{packed}
 use Rattle.county_chart.specs.Renumbering.{Carries, Renumbering}
-use Rattle.tigercanon.specs.Comparing.{AreDifferentThrough, AreOneMapThrough, IsAcceptable}
-use Rattle.tigercanon.specs.Sets.{CarriesSetThrough}
+use Rattle.tigercanon.specs.Comparing.{AreDifferentInView, AreOneMapInView, IsAcceptable}
+use Rattle.tigercanon.specs.Sets.{CarriesSetInView}
 use Rattle.tigercanon.specs.declared.library.comparing.Verdict.{Verdict}
 use Rattle.tigercanon.specs.declared.library.comparing.Verdict.TheVariants.{Same, Different}
 
@@ -18,10 +18,10 @@ pub data Finding : Type 0 where
 
 -- the finding holds for what the view shows of two sets, both of which are accepted
 abbrev pub IsFound : (County → County) → List (List ℕ) → List (List ℕ) → Finding → Type 0
-IsFound seen a b (Carried r) = CarriesSetThrough seen r a b
-IsFound seen a b OneMap = AreOneMapThrough seen a b
-IsFound seen a b TwoMaps = AreDifferentThrough seen a b
-IsFound seen a b NoMemory = IsAcceptable a × IsAcceptable b
+IsFound view a b (Carried r) = CarriesSetInView view r a b
+IsFound view a b OneMap = AreOneMapInView view a b
+IsFound view a b TwoMaps = AreDifferentInView view a b
+IsFound view a b NoMemory = IsAcceptable a × IsAcceptable b
 
 -- the finding holds for two counties, by their canonical counties, which have the same records exactly if the two are one map
 abbrev pub IsFoundOfCounties : (a b canon other : County) → Finding → Type 0

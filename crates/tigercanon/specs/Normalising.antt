@@ -7,10 +7,10 @@ use Rattle.county_chart.specs.County.{County, county_of}
 use Rattle.county_chart.specs.Renumbering.{AreSame}
 use Rattle.county_chart.specs.declared.fault.LinkFault.TheVariants.{Memory as LinkMemory}
 use Rattle.canonical_form.specs.Canonical.{IsCanonical}
-use Rattle.canonical_form.specs.Sights.{plain}
+use Rattle.canonical_form.specs.CountyViews.{plain}
 use Rattle.county_chart.specs.declared.profile_fault.ProfileFault.TheVariants.{Memory as ProfileMemory}
 use Rattle.tigercanon.specs.Reading.{AreRead, IsFaultOfRead}
-use Rattle.tigercanon.specs.Sets.{IsAcceptedSet, IsCanonicalTextThrough, IsSetRefusal}
+use Rattle.tigercanon.specs.Sets.{IsAcceptedSet, IsCanonicalTextInView, IsSetRefusal}
 use Rattle.tl_write.specs.declared.fault.WriteFault.{WriteFault}
 use Rattle.tigercanon.specs.declared.fault.Fault.{Fault}
 use Rattle.tigercanon.specs.declared.fault.Fault.TheVariants.{Load, Link, Profile, Write, Memory}
@@ -22,23 +22,23 @@ IsOnlyText parts text = (records canonical : List Record) → IsAcceptedSet part
 
 -- each canonical list that the view shows whole, and whose county is the same as what the view shows of the county of the accepted
 -- parts, has this text
-abbrev pub IsOnlyTextThrough : (County → County) → List (List ℕ) → List ℕ → Type 0
-IsOnlyTextThrough seen parts text = (records canonical : List Record) → IsAcceptedSet parts records → IsCanonical canonical
-    → seen (county_of canonical) ≡ county_of canonical → AreSame (seen (county_of records)) (county_of canonical)
+abbrev pub IsOnlyTextInView : (County → County) → List (List ℕ) → List ℕ → Type 0
+IsOnlyTextInView view parts text = (records canonical : List Record) → IsAcceptedSet parts records → IsCanonical canonical
+    → view (county_of canonical) ≡ county_of canonical → AreSame (view (county_of records)) (county_of canonical)
     → text_of canonical ≡ text
 
 -- the sources were read to their ends, and this text, and no other, is the canonical text, through this view, of the parts that
 -- they gave
-pub record AreNormalisedThrough {R : Type 0} (seen : County → County) (remaining : R → Option (List ℕ)) (given : R → ℕ)
+pub record AreNormalisedInView {R : Type 0} (view : County → County) (remaining : R → Option (List ℕ)) (given : R → ℕ)
     (before after : List R) (text : List ℕ) : Type 0 where
   pub parts : List (List ℕ)
   pub read : AreRead remaining given before after parts
-  pub canonical : IsCanonicalTextThrough seen parts text
-  pub only : IsOnlyTextThrough seen parts text
+  pub canonical : IsCanonicalTextInView view parts text
+  pub only : IsOnlyTextInView view parts text
 
 -- the sources were read to their ends, and this text, and no other, is the canonical text of the parts that they gave
 abbrev pub AreNormalised : {R : Type 0} → (R → Option (List ℕ)) → (R → ℕ) → List R → List R → List ℕ → Type 0
-AreNormalised remaining = AreNormalisedThrough plain remaining
+AreNormalised remaining = AreNormalisedInView plain remaining
 
 -- the sources were read to their ends, and the parts that they gave are refused for this fault
 pub record AreRefusedParts {R : Type 0} (remaining : R → Option (List ℕ)) (given : R → ℕ) (before after : List R) (fault : Fault)
@@ -72,24 +72,24 @@ StopsShort holds before after text written = (written < length text) × Took hol
 
 -- the sink took the whole canonical text of the parts through this view, which has the returned number of bytes; or it failed,
 -- once, and took only the reported number of bytes from its beginning, not all of it
-pub record IsWrittenThrough {W : Type 0} (seen : County → County) (failed : W → ℕ) (holds : W → List ℕ → Type 0) (parts : List (List ℕ))
+pub record IsWrittenInView {W : Type 0} (view : County → County) (failed : W → ℕ) (holds : W → List ℕ → Type 0) (parts : List (List ℕ))
     (old new : W) (written : Result ℕ WriteFault) : Type 0 where
   pub text : List ℕ
-  pub canonical : IsCanonicalTextThrough seen parts text
+  pub canonical : IsCanonicalTextInView view parts text
   pub out : MatchResult written (λ count. GoesOut holds old new text count × (failed new ≡ failed old))
       (λ fault. StopsShort holds old new text fault.written × (failed new ≡ failed old + 1))
 
 -- the sink took only the first bytes of the canonical text through this view, this number of them, and not all of it
-pub record IsCutOffThrough {R W : Type 0} (seen : County → County) (remaining : R → Option (List ℕ)) (given : R → ℕ)
+pub record IsCutOffInView {R W : Type 0} (view : County → County) (remaining : R → Option (List ℕ)) (given : R → ℕ)
     (before after : List R) (holds : W → List ℕ → Type 0) (old new : W) (written : ℕ) : Type 0 where
   pub text : List ℕ
-  pub normalised : AreNormalisedThrough seen remaining given before after text
+  pub normalised : AreNormalisedInView view remaining given before after text
   pub short : written < length text
   pub took : Took holds old new (take written text)
 
 -- the sink took only the first bytes of the canonical text, this number of them, and not all of it
 abbrev pub IsCutOff : {R W : Type 0} → (R → Option (List ℕ)) → (R → ℕ) → List R → List R → (W → List ℕ → Type 0) → W → W → ℕ → Type 0
-IsCutOff remaining given before after holds = IsCutOffThrough plain remaining given before after holds
+IsCutOff remaining given before after holds = IsCutOffInView plain remaining given before after holds
 
 -- the fault is the sink's failure
 abbrev pub is_of_sink : Fault → Bool

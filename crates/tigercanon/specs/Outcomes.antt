@@ -13,10 +13,10 @@ use Rattle.command_line.specs.declared.plans.Job.{Job}
 use Rattle.command_line.specs.declared.plans.Job.TheVariants.{Respell, Normalise, Check, Fingerprint, Compare}
 use Rattle.tigercanon.specs.declared.fault.Fault.{Fault}
 use Rattle.tigercanon.specs.declared.fault.Fault.TheVariants.{Load, Link, Profile, Write, Memory}
-use Rattle.tigercanon.specs.Fingerprints.{SaysFingerprintThrough}
+use Rattle.tigercanon.specs.Fingerprints.{SaysFingerprintInView}
 use Rattle.tigercanon.specs.Normalising.{Took}
 use Rattle.tigercanon.specs.Respelling.{IsRespelt}
-use Rattle.tigercanon.specs.Sets.{IsAcceptedSet, IsCanonicalTextThrough, SaysAccepted}
+use Rattle.tigercanon.specs.Sets.{IsAcceptedSet, IsCanonicalTextInView, SaysAccepted}
 
 -- what is known about a set that a job was given: what it means that these are its parts, that it is refused for this fault, and
 -- that it couldn't be read
@@ -38,9 +38,9 @@ Answer = List (List ℕ) → List ℕ → Type 0
 -- the answer of a job, under a mask, which only the jobs use that print or compare maps
 abbrev pub IsAnswer : Mask → Job → Answer
 IsAnswer mask Respell = IsRespelt
-IsAnswer mask Normalise = IsCanonicalTextThrough (masked mask)
+IsAnswer mask Normalise = IsCanonicalTextInView (masked mask)
 IsAnswer mask Check = SaysAccepted
-IsAnswer mask Fingerprint = SaysFingerprintThrough (masked mask)
+IsAnswer mask Fingerprint = SaysFingerprintInView (masked mask)
 -- a comparison prints an answer for two sets, not for one
 IsAnswer mask Compare = λ parts text. ⊥
 

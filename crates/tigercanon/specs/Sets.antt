@@ -10,8 +10,8 @@ use Rattle.county_chart.specs.Packing.{packed}
 use Rattle.county_chart.specs.Renumbering.{Renumbering, Carries}
 use Rattle.county_chart.specs.LinkRules.{IsLinked, IsFirstBrokenRule}
 use Rattle.county_chart.specs.Profile.{IsFirstBrokenClause}
-use Rattle.canonical_form.specs.Accepted.{IsAccepted, IsCanonicalThrough}
-use Rattle.canonical_form.specs.Sights.{plain}
+use Rattle.canonical_form.specs.Accepted.{IsAccepted, IsCanonicalInView}
+use Rattle.canonical_form.specs.CountyViews.{plain}
 use Rattle.tl_layout.specs.Limits.{most_records}
 use Rattle.tigercanon.specs.Respelling.{IsFirstFault}
 use Rattle.tigercanon.specs.declared.fault.Fault.{Fault}
@@ -47,49 +47,49 @@ pub record SaysAccepted (parts : List (List ℕ)) (text : List ℕ) : Type 0 whe
   pub text_is : text ≡ codes "accepted" ++ 10 ∷ []
 
 -- the text of a canonical list, through this view, of the accepted records that the parts spell
-pub record IsCanonicalTextThrough (seen : County → County) (parts : List (List ℕ)) (text : List ℕ) : Type 0 where
+pub record IsCanonicalTextInView (view : County → County) (parts : List (List ℕ)) (text : List ℕ) : Type 0 where
   pub records : List Record
   pub canonical : List Record
   pub spelled : SpellsWithin tiger most_records parts records
-  pub canonical_of : IsCanonicalThrough seen records canonical
+  pub canonical_of : IsCanonicalInView view records canonical
   pub text_is : text_of canonical ≡ text
 
 -- the text of a canonical list of the accepted records that the parts spell
 abbrev pub IsCanonicalText : List (List ℕ) → List ℕ → Type 0
-IsCanonicalText = IsCanonicalTextThrough plain
+IsCanonicalText = IsCanonicalTextInView plain
 
 -- both sets are accepted, and the renaming carries what the view shows of the first set's county onto what it shows of the second's
-pub record CarriesSetThrough (seen : County → County) (renaming : Renumbering) (parts others : List (List ℕ)) : Type 0 where
+pub record CarriesSetInView (view : County → County) (renaming : Renumbering) (parts others : List (List ℕ)) : Type 0 where
   pub records : List Record
   pub other_records : List Record
   pub accepted : IsAcceptedSet parts records
   pub other_accepted : IsAcceptedSet others other_records
-  pub carries : Carries renaming (seen (county_of records)) (seen (county_of other_records))
+  pub carries : Carries renaming (view (county_of records)) (view (county_of other_records))
 
 -- both sets are accepted, and the renaming carries the county of the first onto that of the second
 abbrev pub CarriesSet : Renumbering → List (List ℕ) → List (List ℕ) → Type 0
-CarriesSet = CarriesSetThrough plain
+CarriesSet = CarriesSetInView plain
 
 -- the set is one part, which is a canonical text through this view
-pub record IsOneCanonicalTextThrough (seen : County → County) (parts : List (List ℕ)) (text : List ℕ) : Type 0 where
+pub record IsOneCanonicalTextInView (view : County → County) (parts : List (List ℕ)) (text : List ℕ) : Type 0 where
   pub whole : List (List ℕ)
-  pub canonical : IsCanonicalTextThrough seen whole text
+  pub canonical : IsCanonicalTextInView view whole text
   pub parts_are : parts ≡ text ∷ []
 
 -- the set is one part, which is a canonical text
 abbrev pub IsOneCanonicalText : List (List ℕ) → List ℕ → Type 0
-IsOneCanonicalText = IsOneCanonicalTextThrough plain
+IsOneCanonicalText = IsOneCanonicalTextInView plain
 
 -- the set is accepted, and the county is what the view shows of the county of its records
-pub record IsSeenSet (seen : County → County) (parts : List (List ℕ)) (county : County) : Type 0 where
+pub record IsViewedSet (view : County → County) (parts : List (List ℕ)) (county : County) : Type 0 where
   pub records : List Record
   pub accepted : IsAcceptedSet parts records
-  pub county_is : county ≡ seen (county_of records)
+  pub county_is : county ≡ view (county_of records)
 
 -- the set is accepted, the first county is what the view shows of the county of its records, and the second county has their
 -- canonical records
-pub record IsCanonSetThrough (seen : County → County) (parts : List (List ℕ)) (county canon : County) : Type 0 where
+pub record IsCanonSetInView (view : County → County) (parts : List (List ℕ)) (county canon : County) : Type 0 where
   pub records : List Record
   pub accepted : IsAcceptedSet parts records
-  pub county_is : county ≡ seen (county_of records)
-  pub canonical : IsCanonicalThrough seen records (packed canon)
+  pub county_is : county ≡ view (county_of records)
+  pub canonical : IsCanonicalInView view records (packed canon)

@@ -9,7 +9,7 @@ use Rattle.tigercanon.specs.declared.fault.Fault.{Fault}
 use Rattle.tigercanon.specs.declared.fault.Fault.TheVariants.{Write}
 use Rattle.county_chart.specs.MaskedCounty.{masked}
 use Rattle.tl_layout.specs.declared.mask.Mask.{Mask}
-use Rattle.tigercanon.specs.Comparing.{SaysSameThrough, SaysDifferentThrough}
+use Rattle.tigercanon.specs.Comparing.{SaysSameInView, SaysDifferentInView}
 use Rattle.tigercanon.specs.Faults.{IsOfNoLines}
 use Rattle.tigercanon.specs.Outcomes.{GivenOutput, GivenSet, HoldsAccepted, IsAnswer, IsAnswered, IsRead, Prints, PrintsFront, Refuses}
 use Rattle.tigercanon.specs.Outcomes.{Reports, ReportsSet}
@@ -26,10 +26,10 @@ pub record OfTwoSets (holds : List (List ℕ) → List (List ℕ) → Type 0) (f
 
 -- the line that says that two sets are one map under a mask, or that they are different maps
 abbrev pub IsLineSame : Mask → GivenSet → GivenSet → List ℕ → Type 0
-IsLineSame mask first second text = OfTwoSets (λ a b. SaysSameThrough (masked mask) a b text) first second
+IsLineSame mask first second text = OfTwoSets (λ a b. SaysSameInView (masked mask) a b text) first second
 
 abbrev pub IsLineDifferent : Mask → GivenSet → GivenSet → List ℕ → Type 0
-IsLineDifferent mask first second text = OfTwoSets (λ a b. SaysDifferentThrough (masked mask) a b text) first second
+IsLineDifferent mask first second text = OfTwoSets (λ a b. SaysDifferentInView (masked mask) a b text) first second
 
 -- the text that a job prints if it ends in this way; only a comparison can find its sets to be different maps
 abbrev pub IsTextOf : Mask → Job → GivenSet → GivenSet → Ending → List ℕ → Type 0

@@ -2,9 +2,9 @@
 
 ghost use Rattle.std.specs.Prelude.{◌≡◌, ◌⊎◌, ◌↔◌, [], ◌∷◌, ℕ, List};
 ghost use Rattle.tigercanon.specs.declared.fault.Fault.{Fault};
-ghost use Rattle.tigercanon.specs.Normalising.{IsOnlyTextThrough};
+ghost use Rattle.tigercanon.specs.Normalising.{IsOnlyTextInView};
 ghost use Rattle.tl_layout.specs.Limits.{most_records};
-ghost use Rattle.tigercanon.specs.Sets.{IsAcceptedSet, IsCanonicalText, IsCanonicalTextThrough, IsSetRefusal, refusal_without_place};
+ghost use Rattle.tigercanon.specs.Sets.{IsAcceptedSet, IsCanonicalText, IsCanonicalTextInView, IsSetRefusal, refusal_without_place};
 ghost use Rattle.county_chart.specs.MaskedCounty.{masked};
 ghost use Rattle.county_chart.specs.County.{County, county_of};
 ghost use Rattle.county_chart.specs.Renumbering.{AreSame};
@@ -15,8 +15,8 @@ ghost use Rattle.tl_layout.specs.RecordText.{text_of};
 ghost use Rattle.tl_load.specs.Choice.{tiger};
 ghost use Rattle.tl_load.specs.Lines.{HaveSameLines};
 ghost use Rattle.tl_load.specs.Outcome.{SpellsWithin};
-ghost use Rattle.canonical_form.specs.Sights.{IsSight};
-ghost use Rattle.canonical_form.specs.Strict.{IsStrictThrough};
+ghost use Rattle.canonical_form.specs.CountyViews.{IsView};
+ghost use Rattle.canonical_form.specs.Strict.{IsStrictInView};
 
 /// A set of parts is accepted or has a refusal, never both, and never two refusals.
 #[tactic(auto, using(crate::proofs::Sets::accepted_set_not_refused, crate::proofs::Sets::one_set_refusal))]
@@ -35,8 +35,8 @@ pub fn accepted_set_or_one_refusal()
 pub fn sets_of_the_same_lines_are_alike()
     ensures accepted { (parts others : List (List ℕ)) (records : List Record) →
         HaveSameLines parts others → IsAcceptedSet parts records → IsAcceptedSet others records }
-    ensures texts { (seen : County → County) (parts others : List (List ℕ)) (text : List ℕ) →
-        HaveSameLines parts others → IsCanonicalTextThrough seen parts text → IsCanonicalTextThrough seen others text }
+    ensures texts { (view : County → County) (parts others : List (List ℕ)) (text : List ℕ) →
+        HaveSameLines parts others → IsCanonicalTextInView view parts text → IsCanonicalTextInView view others text }
     ensures refused { (parts others : List (List ℕ)) (refusal : Fault) →
         HaveSameLines parts others → IsSetRefusal parts refusal →
         (reported : Fault) × IsSetRefusal others reported × (refusal_without_place reported ≡ refusal_without_place refusal) }
@@ -61,12 +61,12 @@ pub fn an_accepted_set_has_one_canonical_text()
 /// A set that the older, stricter rules accept keeps its text: the text of its strict list is its canonical text, and no other text
 /// is.
 pub fn strict_sets_keep_their_texts()
-    ensures text { (seen : County → County) (parts : List (List ℕ)) (records answer : List Record) →
-        IsSight seen → SpellsWithin tiger most_records parts records → IsStrictThrough seen records answer →
-        IsCanonicalTextThrough seen parts (text_of answer) }
-    ensures only { (seen : County → County) (parts : List (List ℕ)) (records answer : List Record) (text : List ℕ) →
-        IsSight seen → SpellsWithin tiger most_records parts records → IsStrictThrough seen records answer →
-        IsCanonicalTextThrough seen parts text → text ≡ text_of answer }
+    ensures text { (view : County → County) (parts : List (List ℕ)) (records answer : List Record) →
+        IsView view → SpellsWithin tiger most_records parts records → IsStrictInView view records answer →
+        IsCanonicalTextInView view parts (text_of answer) }
+    ensures only { (view : County → County) (parts : List (List ℕ)) (records answer : List Record) (text : List ℕ) →
+        IsView view → SpellsWithin tiger most_records parts records → IsStrictInView view records answer →
+        IsCanonicalTextInView view parts text → text ≡ text_of answer }
 {}
 
 /// A canonical text, as one part, is an accepted set whose county is the same as that of the set that the text was made from, and
@@ -83,22 +83,22 @@ pub fn a_canonical_text_is_its_own()
 /// Through each view, which shows all of a county or less, an accepted set has exactly one canonical text, and no canonical list of
 /// what the view shows of its map has another. The texts of two sets are equal exactly if what the view shows of their counties is
 /// the same. And a canonical text, as one part, is an accepted set, and its own canonical text through the view and without it.
-pub fn one_canonical_text_through_each_sight()
-    ensures exists { (seen : County → County) (parts : List (List ℕ)) (records : List Record) →
-        IsSight seen → IsAcceptedSet parts records → (text : List ℕ) × IsCanonicalTextThrough seen parts text }
-    ensures only { (seen : County → County) (parts : List (List ℕ)) (text : List ℕ) →
-        IsSight seen → IsCanonicalTextThrough seen parts text → IsOnlyTextThrough seen parts text }
-    ensures same { (seen : County → County) (p q : List (List ℕ)) (t u : List ℕ) → IsSight seen →
-        (h : IsCanonicalTextThrough seen p t) (k : IsCanonicalTextThrough seen q u) →
-        AreSame (seen (county_of h.records)) (seen (county_of k.records)) → t ≡ u }
-    ensures equal { (seen : County → County) (p q : List (List ℕ)) (t u : List ℕ) → IsSight seen →
-        (h : IsCanonicalTextThrough seen p t) (k : IsCanonicalTextThrough seen q u) →
-        t ≡ u → AreSame (seen (county_of h.records)) (seen (county_of k.records)) }
-    ensures accepted { (seen : County → County) (parts : List (List ℕ)) (text : List ℕ) → IsSight seen →
-        (h : IsCanonicalTextThrough seen parts text) → IsAcceptedSet (text ∷ []) h.canonical }
-    ensures itself { (seen : County → County) (parts : List (List ℕ)) (text : List ℕ) →
-        IsSight seen → IsCanonicalTextThrough seen parts text →
-        IsCanonicalTextThrough seen (text ∷ []) text × IsCanonicalText (text ∷ []) text }
+pub fn one_canonical_text_in_each_view()
+    ensures exists { (view : County → County) (parts : List (List ℕ)) (records : List Record) →
+        IsView view → IsAcceptedSet parts records → (text : List ℕ) × IsCanonicalTextInView view parts text }
+    ensures only { (view : County → County) (parts : List (List ℕ)) (text : List ℕ) →
+        IsView view → IsCanonicalTextInView view parts text → IsOnlyTextInView view parts text }
+    ensures same { (view : County → County) (p q : List (List ℕ)) (t u : List ℕ) → IsView view →
+        (h : IsCanonicalTextInView view p t) (k : IsCanonicalTextInView view q u) →
+        AreSame (view (county_of h.records)) (view (county_of k.records)) → t ≡ u }
+    ensures equal { (view : County → County) (p q : List (List ℕ)) (t u : List ℕ) → IsView view →
+        (h : IsCanonicalTextInView view p t) (k : IsCanonicalTextInView view q u) →
+        t ≡ u → AreSame (view (county_of h.records)) (view (county_of k.records)) }
+    ensures accepted { (view : County → County) (parts : List (List ℕ)) (text : List ℕ) → IsView view →
+        (h : IsCanonicalTextInView view parts text) → IsAcceptedSet (text ∷ []) h.canonical }
+    ensures itself { (view : County → County) (parts : List (List ℕ)) (text : List ℕ) →
+        IsView view → IsCanonicalTextInView view parts text →
+        IsCanonicalTextInView view (text ∷ []) text × IsCanonicalText (text ∷ []) text }
 {}
 
 /// Under each mask an accepted set has exactly one canonical text. The texts of two sets are equal exactly if their counties are
@@ -106,19 +106,19 @@ pub fn one_canonical_text_through_each_sight()
 /// without one. A mask that leaves nothing out makes no difference.
 pub fn one_canonical_text_under_each_mask()
     ensures exists { (mask : Mask) (parts : List (List ℕ)) (records : List Record) →
-        IsAcceptedSet parts records → (text : List ℕ) × IsCanonicalTextThrough (masked mask) parts text }
+        IsAcceptedSet parts records → (text : List ℕ) × IsCanonicalTextInView (masked mask) parts text }
     ensures only { (mask : Mask) (parts : List (List ℕ)) (text other : List ℕ) →
-        IsCanonicalTextThrough (masked mask) parts text → IsCanonicalTextThrough (masked mask) parts other → text ≡ other }
+        IsCanonicalTextInView (masked mask) parts text → IsCanonicalTextInView (masked mask) parts other → text ≡ other }
     ensures same { (mask : Mask) (p q : List (List ℕ)) (t u : List ℕ)
-        (h : IsCanonicalTextThrough (masked mask) p t) (k : IsCanonicalTextThrough (masked mask) q u) →
+        (h : IsCanonicalTextInView (masked mask) p t) (k : IsCanonicalTextInView (masked mask) q u) →
         AreSame (masked mask (county_of h.records)) (masked mask (county_of k.records)) → t ≡ u }
     ensures equal { (mask : Mask) (p q : List (List ℕ)) (t u : List ℕ)
-        (h : IsCanonicalTextThrough (masked mask) p t) (k : IsCanonicalTextThrough (masked mask) q u) →
+        (h : IsCanonicalTextInView (masked mask) p t) (k : IsCanonicalTextInView (masked mask) q u) →
         t ≡ u → AreSame (masked mask (county_of h.records)) (masked mask (county_of k.records)) }
     ensures itself { (mask : Mask) (parts : List (List ℕ)) (text : List ℕ) →
-        IsCanonicalTextThrough (masked mask) parts text → IsCanonicalTextThrough (masked mask) (text ∷ []) text }
+        IsCanonicalTextInView (masked mask) parts text → IsCanonicalTextInView (masked mask) (text ∷ []) text }
     ensures plain { (mask : Mask) (parts : List (List ℕ)) (text : List ℕ) →
-        IsCanonicalTextThrough (masked mask) parts text → IsCanonicalText (text ∷ []) text }
+        IsCanonicalTextInView (masked mask) parts text → IsCanonicalText (text ∷ []) text }
     ensures no_mask { (parts : List (List ℕ)) (text : List ℕ) →
-        IsCanonicalTextThrough (masked no_mask) parts text ↔ IsCanonicalText parts text }
+        IsCanonicalTextInView (masked no_mask) parts text ↔ IsCanonicalText parts text }
 {}

@@ -21,7 +21,7 @@ pub use fault::Fault;
 pub use laws::{
     a_canonical_text_is_its_own, accepted_set_or_one_refusal,
     an_accepted_set_has_one_canonical_text, one_canonical_text_exactly_for_one_map,
-    one_canonical_text_through_each_sight, one_canonical_text_under_each_mask,
+    one_canonical_text_in_each_view, one_canonical_text_under_each_mask,
     sets_of_the_same_lines_are_alike, strict_sets_keep_their_texts,
 };
 pub use library::checking::check;

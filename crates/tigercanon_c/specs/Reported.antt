@@ -56,11 +56,11 @@ abbrev pub no_fault : FaultNumbers
 no_fault = with_numbers 0 0 0 0 0
 
 -- The number at a place, or 0 if there is none.
-abbrev pub number_at : FaultPlace → ℕ
-number_at Nowhere = 0
-number_at (Number number) = number
-number_at (RecordType byte) = 0
-number_at (Cenid bytes) = 0
+abbrev pub place_number : FaultPlace → ℕ
+place_number Nowhere = 0
+place_number (Number number) = number
+place_number (RecordType byte) = 0
+place_number (Cenid bytes) = 0
 
 -- A fault by its number and its places. A record type or a CENID has a field of its own, and the number after it is the first.
 abbrev pub with_places : ℕ → ℕ → FaultPlace → ℕ → ℕ → FaultNumbers
@@ -71,7 +71,7 @@ with_places set number (Cenid bytes) second third = with_polygon set number byte
 
 -- The same for a list of places. A report has three.
 abbrev pub at_places : ℕ → ℕ → List FaultPlace → FaultNumbers
-at_places set number (first ∷ second ∷ third ∷ more) = with_places set number first (number_at second) (number_at third)
+at_places set number (first ∷ second ∷ third ∷ more) = with_places set number first (place_number second) (place_number third)
 at_places set number places = with_numbers set number 0 0 0
 
 -- The report of a fault of a set in numbers.

@@ -1,14 +1,14 @@
 //! The calls over parts as C lends them. Each makes the library's call and restates its contract.
 
 ghost use Rattle.std.specs.Prelude.{◌≡◌, ◌≢◌, Ok, Err, ℕ, List, ◌∷◌, [], IfErr, IfOk, OnOk, true, false};
-ghost use Rattle.tigercanon.specs.Comparing.{AreDifferentThrough, AreOneMapThrough, ReportsMemoryOfAccepted, ReportsRefusalOfOne};
+ghost use Rattle.tigercanon.specs.Comparing.{AreDifferentInView, AreOneMapInView, ReportsMemoryOfAccepted, ReportsRefusalOfOne};
 ghost use Rattle.tigercanon.specs.Faults.{IsWantOfMemory, ReportsRefusalOfRead};
-ghost use Rattle.tigercanon.specs.Fingerprints.{IsFingerprintThrough};
+ghost use Rattle.tigercanon.specs.Fingerprints.{IsFingerprintInView};
 ghost use Rattle.tigercanon.specs.LentParts.{bytes_of_parts};
-ghost use Rattle.tigercanon.specs.Normalising.{IsOnlyTextThrough};
+ghost use Rattle.tigercanon.specs.Normalising.{IsOnlyTextInView};
 ghost use Rattle.tl_layout.specs.Limits.{most_records};
 ghost use Rattle.tigercanon.specs.Respelling.{IsRespelt};
-ghost use Rattle.tigercanon.specs.Sets.{IsAcceptedSet, IsCanonicalText, IsCanonicalTextThrough, IsOneCanonicalTextThrough};
+ghost use Rattle.tigercanon.specs.Sets.{IsAcceptedSet, IsCanonicalText, IsCanonicalTextInView, IsOneCanonicalTextInView};
 ghost use Rattle.tigercanon_c.specs.Answers.{ReportsFirstFaultOfRead, bytes_of_lent};
 ghost use Rattle.county_chart.specs.MaskedCounty.{masked};
 ghost use Rattle.tl_layout.specs.declared.record_type.Record.{Record};
@@ -82,11 +82,11 @@ pub(crate) fn normalise_parts<'t>(
     parts: &[Part],
     mask: Mask,
 ) -> Result<&'t [u8], Fault>
-    ensures canonical { IfOk result (λ text. IsCanonicalTextThrough (masked mask) (bytes_of_lent parts.now) text.now) }
-    ensures only { IfOk result (λ text. IsOnlyTextThrough (masked mask) (bytes_of_lent parts.now) text.now) }
-    ensures again { (bytes : List ℕ) → IsOneCanonicalTextThrough (masked mask) (bytes_of_lent parts.now) bytes →
+    ensures canonical { IfOk result (λ text. IsCanonicalTextInView (masked mask) (bytes_of_lent parts.now) text.now) }
+    ensures only { IfOk result (λ text. IsOnlyTextInView (masked mask) (bytes_of_lent parts.now) text.now) }
+    ensures again { (bytes : List ℕ) → IsOneCanonicalTextInView (masked mask) (bytes_of_lent parts.now) bytes →
         IfOk result (λ text. text.now ≡ bytes) }
-    ensures again_succeeds { (bytes : List ℕ) → IsOneCanonicalTextThrough (masked mask) (bytes_of_lent parts.now) bytes →
+    ensures again_succeeds { (bytes : List ℕ) → IsOneCanonicalTextInView (masked mask) (bytes_of_lent parts.now) bytes →
         IfErr result IsWantOfMemory }
     ensures plain { IfOk result (λ text. IsCanonicalText (text.now ∷ []) text.now) }
     ensures refused { IfErr result (ReportsRefusalOfRead (bytes_of_lent parts.now)) }
@@ -105,7 +105,7 @@ pub(crate) fn fingerprint_parts(
     parts: &[Part],
     mask: Mask,
 ) -> Result<[u8; 32], Fault>
-    ensures fingerprint { IfOk result (IsFingerprintThrough (masked mask) (bytes_of_lent parts.now)) }
+    ensures fingerprint { IfOk result (IsFingerprintInView (masked mask) (bytes_of_lent parts.now)) }
     ensures refused { IfErr result (ReportsRefusalOfRead (bytes_of_lent parts.now)) }
     ensures succeeds { (records : List Record) → IsAcceptedSet (bytes_of_lent parts.now) records → IfErr result IsWantOfMemory }
 {
@@ -120,9 +120,9 @@ pub(crate) fn compare_parts(
     second: &[Part],
     mask: Mask,
 ) -> Result<bool, CompareFault>
-    ensures same { result ≡ Ok true → AreOneMapThrough (masked mask) (bytes_of_lent first.now) (bytes_of_lent second.now) }
+    ensures same { result ≡ Ok true → AreOneMapInView (masked mask) (bytes_of_lent first.now) (bytes_of_lent second.now) }
     ensures different { result ≡ Ok false →
-        AreDifferentThrough (masked mask) (bytes_of_lent first.now) (bytes_of_lent second.now) }
+        AreDifferentInView (masked mask) (bytes_of_lent first.now) (bytes_of_lent second.now) }
     ensures refused { IfErr result (ReportsRefusalOfOne (bytes_of_lent first.now) (bytes_of_lent second.now)) }
     ensures no_device { (set : ℕ) → result ≢ Err (CompareFault.In set (Fault.Load LoadFault.Device)) }
     ensures succeeds { IfErr result (ReportsMemoryOfAccepted (bytes_of_lent first.now) (bytes_of_lent second.now)) }

@@ -4,13 +4,13 @@
 //! many bytes from there as its length, and nothing may write to them during the call.
 
 ghost use Rattle.std.specs.Prelude.{◌≡◌, ◌≢◌, ◌<◌, ◌⊎◌, ◌∷◌, [], ℕ, List};
-ghost use Rattle.tigercanon.specs.Comparing.{AreDifferentThrough, AreOneMapThrough, ReportsMemoryOfAccepted, ReportsRefusalOfOne};
+ghost use Rattle.tigercanon.specs.Comparing.{AreDifferentInView, AreOneMapInView, ReportsMemoryOfAccepted, ReportsRefusalOfOne};
 ghost use Rattle.tigercanon.specs.Faults.{ReportsRefusalOfRead};
-ghost use Rattle.tigercanon.specs.Fingerprints.{IsFingerprintThrough};
-ghost use Rattle.tigercanon.specs.Normalising.{IsOnlyTextThrough};
+ghost use Rattle.tigercanon.specs.Fingerprints.{IsFingerprintInView};
+ghost use Rattle.tigercanon.specs.Normalising.{IsOnlyTextInView};
 ghost use Rattle.tl_layout.specs.Limits.{most_records};
 ghost use Rattle.tigercanon.specs.Respelling.{IsRespelt};
-ghost use Rattle.tigercanon.specs.Sets.{IsAcceptedSet, IsCanonicalText, IsCanonicalTextThrough, IsOneCanonicalTextThrough};
+ghost use Rattle.tigercanon.specs.Sets.{IsAcceptedSet, IsCanonicalText, IsCanonicalTextInView, IsOneCanonicalTextInView};
 ghost use Rattle.tigercanon_c.specs.Answers.{ReportsFirstFaultOfRead, ReportsOne, ReportsOneOfTwo, bytes_of_lent, mask_of};
 ghost use Rattle.tigercanon_c.specs.Reported.{no_fault};
 ghost use Rattle.county_chart.specs.MaskedCounty.{masked};
@@ -144,15 +144,15 @@ pub extern "C" fn tigercanon_normalise<'t>(
     fault: &mut FaultNumbers,
 ) -> u8
     ensures canonical { result ≡ 0 →
-        IsCanonicalTextThrough (masked (mask_of no_sources no_reserved)) (bytes_of_lent parts.now) text.new.bytes.now }
+        IsCanonicalTextInView (masked (mask_of no_sources no_reserved)) (bytes_of_lent parts.now) text.new.bytes.now }
     // No canonical list of the same map under the mask has another text.
     ensures only { result ≡ 0 →
-        IsOnlyTextThrough (masked (mask_of no_sources no_reserved)) (bytes_of_lent parts.now) text.new.bytes.now }
+        IsOnlyTextInView (masked (mask_of no_sources no_reserved)) (bytes_of_lent parts.now) text.new.bytes.now }
     // A text that is canonical under the mask is returned unchanged,
-    ensures again { (bytes : List ℕ) → IsOneCanonicalTextThrough (masked (mask_of no_sources no_reserved)) (bytes_of_lent parts.now) bytes
+    ensures again { (bytes : List ℕ) → IsOneCanonicalTextInView (masked (mask_of no_sources no_reserved)) (bytes_of_lent parts.now) bytes
         → result ≡ 0 → text.new.bytes.now ≡ bytes }
     ensures again_succeeds { (bytes : List ℕ)
-        → IsOneCanonicalTextThrough (masked (mask_of no_sources no_reserved)) (bytes_of_lent parts.now) bytes
+        → IsOneCanonicalTextInView (masked (mask_of no_sources no_reserved)) (bytes_of_lent parts.now) bytes
         → (result ≡ 0) ⊎ (result ≡ 5) }
     // and is its own canonical text under no mask.
     ensures plain { result ≡ 0 → IsCanonicalText (text.new.bytes.now ∷ []) text.new.bytes.now }
@@ -185,7 +185,7 @@ pub extern "C" fn tigercanon_fingerprint(
     fault: &mut FaultNumbers,
 ) -> u8
     ensures fingerprint { result ≡ 0 →
-        IsFingerprintThrough (masked (mask_of no_sources no_reserved)) (bytes_of_lent parts.now) hash.new.bytes }
+        IsFingerprintInView (masked (mask_of no_sources no_reserved)) (bytes_of_lent parts.now) hash.new.bytes }
     ensures refused { result ≢ 0 → ReportsOne (ReportsRefusalOfRead (bytes_of_lent parts.now)) result fault.new }
     ensures statuses { (result ≡ 0) ⊎ (result ≡ 3) ⊎ (result ≡ 5) }
     ensures kept { result ≢ 0 → hash.new ≡ hash.old }
@@ -216,10 +216,10 @@ pub extern "C" fn tigercanon_compare(
 ) -> u8
     // The sets are one map only if both are accepted and some renaming carries one onto the other under the mask,
     ensures same { result ≡ 0 →
-        AreOneMapThrough (masked (mask_of no_sources no_reserved)) (bytes_of_lent first.now) (bytes_of_lent second.now) }
+        AreOneMapInView (masked (mask_of no_sources no_reserved)) (bytes_of_lent first.now) (bytes_of_lent second.now) }
     // and different only if both are accepted and no renaming does.
     ensures different { result ≡ 1 →
-        AreDifferentThrough (masked (mask_of no_sources no_reserved)) (bytes_of_lent first.now) (bytes_of_lent second.now) }
+        AreDifferentInView (masked (mask_of no_sources no_reserved)) (bytes_of_lent first.now) (bytes_of_lent second.now) }
     // Otherwise, unless memory ran out, one of them is refused, the second only if the first is accepted.
     ensures refused { 1 < result →
         ReportsOneOfTwo (ReportsRefusalOfOne (bytes_of_lent first.now) (bytes_of_lent second.now)) result fault.new }

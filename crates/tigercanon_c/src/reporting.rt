@@ -5,7 +5,7 @@ ghost use Rattle.tigercanon.specs.Comparing.{ReportsRefusalOfOne};
 ghost use Rattle.tigercanon.specs.Faults.{IsWantOfMemory, ReportsRefusalOfRead};
 ghost use Rattle.tigercanon.specs.Statuses.{status_of};
 ghost use Rattle.tigercanon_c.specs.Answers.{ReportsFirstFaultOfRead, status_of_two};
-ghost use Rattle.tigercanon_c.specs.Reported.{fault_reported, fault_reported_of_two, in_numbers, no_fault, number_at, with_numbers, with_polygon, with_type};
+ghost use Rattle.tigercanon_c.specs.Reported.{fault_reported, fault_reported_of_two, in_numbers, no_fault, place_number, with_numbers, with_polygon, with_type};
 
 use crate::edge::FaultNumbers;
 use fault_report::{FaultPlace, FaultReport};
@@ -58,8 +58,8 @@ fn with_polygon(set: u8, number: u8, cenid: [u8; 5], polyid: u64) -> FaultNumber
 }
 
 /// The number at a place, or 0 if there is none.
-fn number_at(place: FaultPlace) -> u64
-    ensures { result ≡ number_at place }
+fn place_number(place: FaultPlace) -> u64
+    ensures { result ≡ place_number place }
 {
     match place {
         FaultPlace::Number(number) => number,
@@ -73,7 +73,11 @@ fn in_numbers(set: u8, report: FaultReport) -> FaultNumbers
 {
     let number = report.kind.number();
     let [first, second, third] = report.places;
-    let (one, two, three) = (number_at(first), number_at(second), number_at(third));
+    let (one, two, three) = (
+        place_number(first),
+        place_number(second),
+        place_number(third),
+    );
     match first {
         FaultPlace::RecordType(byte) => with_type(set, number, byte, two),
         FaultPlace::Cenid(cenid) => with_polygon(set, number, cenid, two),

@@ -5,7 +5,7 @@ pub use Rattle.county_chart.proofs.Common.{Among, Ordering, all_both, chain_at, 
 pub use Rattle.county_chart.proofs.Common.{ArePaired, Bool, IsInOrder, all_among, all_unmap, lists_keys, map_itself, option_map, renumbered}
 pub use Rattle.county_chart.proofs.Common.{Body5, Body7, BodyP, IsTrue, Known, Option, arith, false, feats, image, is_eq, length, masked, ℕ}
 pub use Rattle.county_chart.proofs.Common.{Carries, County, Decides, Fields8, IfSome, IsApart, add-one, all_map, key_cmp, map-map, nat_cmp}
-pub use Rattle.county_chart.proofs.Common.{IsCounty, of_number, same-true, slice_cmp, slice_get, stands_in, taken_all, times-yes, turned_if}
+pub use Rattle.county_chart.proofs.Common.{IsCounty, of_number, same-true, slice_cmp, slice_get, contains, taken_all, times-yes, turned_if}
 pub use Rattle.county_chart.proofs.Common.{IsKeyOrder, IsPermutation, IsPermutation-sym, among-permutation, apart_from_sorted, append_assoc}
 pub use Rattle.county_chart.proofs.Common.{List, None, Some, cond, lands, refl, rules, subst, take, times, tlids, true, turns, zero, ◌++◌}
 pub use Rattle.county_chart.proofs.Common.{PolygonKey, all_weaker, apart_tail, append-nil, eight_land, entry_keys, length-map, links_with}

@@ -2,7 +2,7 @@
 use Rattle.tl_cert.proofs.Common.{Bool, County, Decides, Fields8, IsCounty, IsPermutation, IsPermutation-map, IsPermutation-sym}
 use Rattle.tl_cert.proofs.Common.{IsPermutation-trans, IsTrue, Known, LinkFields, List, [], add-one, all_weaker, ap, apart_from_sorted}
 use Rattle.tl_cert.proofs.Common.{append-nil, append_assoc, decides_same, eight_land, flat_map, groups-permutation, lands, link_fields}
-use Rattle.tl_cert.proofs.Common.{links_with, ltb-true, map, map-map, map_itself, nat_cmp, nat_keys, of_number, refl, slice_get, stands_in}
+use Rattle.tl_cert.proofs.Common.{links_with, ltb-true, map, map-map, map_itself, nat_cmp, nat_keys, of_number, refl, slice_get, contains}
 use Rattle.tl_cert.proofs.Common.{subst, suc, sym, take, times, zero, ℕ, ◌++◌, ◌+◌, ◌∙◌, ◌∷◌, ◌≡◌}
 
 -- the links of the landmarks with these LANDs, landmark by landmark
@@ -26,7 +26,7 @@ next_land links ks i = rw add-one (next_at links ks i)
 pub all_lands : (county : County) → IsCounty county → IsPermutation (under_lands county.links (lands county)) county.links
 all_lands county is = groups-permutation eight_land (lands county) county.links
     (apart_from_sorted nat_keys (lands county) is.ascending.landmarks)
-    (all_weaker (λ l. IsTrue (stands_in nat_cmp l.land (lands county))) (λ l. Known nat_cmp (lands county) l.land)
+    (all_weaker (λ l. IsTrue (contains nat_cmp l.land (lands county))) (λ l. Known nat_cmp (lands county) l.land)
     (λ l h. ltb-true 0 (times nat_cmp l.land (lands county)) h) county.links is.closed.link_lands)
 
 -- the link with these fields

@@ -12,7 +12,7 @@ use crate::chains::Chains;
 use crate::lent::Lent;
 use crate::links::are_links_there;
 use crate::numbers_paired::numbers_are_paired;
-use crate::parts::{Landmarks, Names, Polygons};
+use crate::parts::{Landmarks, Names, PolygonParts};
 use crate::renaming_tables::RenamingTables;
 use county_chart::{Chart, Masked, all_hold};
 use renamings::Renaming;
@@ -25,7 +25,7 @@ fn are_parts_there<A: Chart, B: Chart>(a: &A, b: &B, tables: &RenamingTables) ->
 {
     all_hold(&Chains { a, b, tables })
         && all_hold(&Names { a, b, tables })
-        && all_hold(&Polygons { a, b, tables })
+        && all_hold(&PolygonParts { a, b, tables })
         && all_hold(&Landmarks { a, b, tables })
 }
 

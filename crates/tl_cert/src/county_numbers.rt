@@ -8,7 +8,7 @@ use std::alloc::{AllocError, Global};
 use std::marker::PhantomData;
 
 /// A kind of numbers of a county, such as TLIDs.
-pub(crate) trait NumberKind<K: Key> {
+pub(crate) trait KeyKind<K: Key> {
     ghost use Rattle.std.specs.Prelude.{List};
     ghost use Rattle.county_chart.specs.{County.County, CountyRules.IsCounty};
     ghost use Rattle.ordered_lists.specs.Orders.{IsInOrder};
@@ -30,9 +30,9 @@ pub(crate) trait NumberKind<K: Key> {
 }
 
 /// TLIDs.
-pub(crate) struct Tlids;
+pub(crate) struct TlidKind;
 
-impl NumberKind<u64> for Tlids {
+impl KeyKind<u64> for TlidKind {
     ghost use Rattle.std.specs.Ordering.{nat_cmp};
     ghost use Rattle.ordered_lists.proofs.Lists.EntryLists.{in_order-strict};
     ghost use Rattle.county_chart.specs.CountyRules.{tlids};
@@ -53,7 +53,7 @@ impl NumberKind<u64> for Tlids {
 /// FEATs.
 pub(crate) struct Feats;
 
-impl NumberKind<u32> for Feats {
+impl KeyKind<u32> for Feats {
     ghost use Rattle.std.specs.Ordering.{nat_cmp};
     ghost use Rattle.ordered_lists.proofs.Lists.EntryLists.{in_order-strict};
     ghost use Rattle.county_chart.specs.CountyRules.{feats};
@@ -74,7 +74,7 @@ impl NumberKind<u32> for Feats {
 /// The keys of polygons.
 pub(crate) struct PolygonKeys;
 
-impl NumberKind<PolygonKey> for PolygonKeys {
+impl KeyKind<PolygonKey> for PolygonKeys {
     ghost use Rattle.ordered_lists.proofs.Lists.EntryLists.{in_order-strict};
     ghost use Rattle.county_chart.specs.{CountyRules.polygon_keys, PolygonKeys.key_cmp};
 
@@ -94,7 +94,7 @@ impl NumberKind<PolygonKey> for PolygonKeys {
 /// LANDs.
 pub(crate) struct Lands;
 
-impl NumberKind<u64> for Lands {
+impl KeyKind<u64> for Lands {
     ghost use Rattle.std.specs.Ordering.{nat_cmp};
     ghost use Rattle.ordered_lists.proofs.Lists.EntryLists.{in_order-strict};
     ghost use Rattle.county_chart.specs.CountyRules.{lands};
@@ -115,7 +115,7 @@ impl NumberKind<u64> for Lands {
 /// Nodes.
 pub(crate) struct Nodes;
 
-impl NumberKind<u64> for Nodes {
+impl KeyKind<u64> for Nodes {
     ghost use Rattle.std.specs.Ordering.{nat_cmp};
     ghost use Rattle.ordered_lists.proofs.{ByKey.Keys.nat_keys, ByKey.Numbers.distinct-strict, Lists.EntryLists.in_order-strict};
     ghost use Rattle.county_chart.specs.CountyRules.{nodes, nodes_along};
@@ -140,7 +140,7 @@ struct NumbersOf<'a, K, N, C> {
     kind: PhantomData<(K, N)>,
 }
 
-impl<'a, K: Key, N: NumberKind<K>, C: Chart> Listed for NumbersOf<'a, K, N, C> {
+impl<'a, K: Key, N: KeyKind<K>, C: Chart> Listed for NumbersOf<'a, K, N, C> {
     type Item = K;
 
     ghost items = { λ numbers. N.numbers (C.county numbers.chart.now) };
@@ -155,7 +155,7 @@ impl<'a, K: Key, N: NumberKind<K>, C: Chart> Listed for NumbersOf<'a, K, N, C> {
 }
 
 /// The numbers of a kind.
-pub(crate) fn numbers_of<K: Key, N: NumberKind<K>, C: Chart>(
+pub(crate) fn numbers_of<K: Key, N: KeyKind<K>, C: Chart>(
     alloc: Global,
     chart: &C,
 ) -> Result<Vec<K>, AllocError>

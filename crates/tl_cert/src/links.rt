@@ -50,7 +50,7 @@ fn links_of<C: Chart>(alloc: Global, chart: &C) -> Result<Vec<Rec8>, AllocError>
 }
 
 /// The fields of a link.
-fn fields_of(link: &Rec8) -> LinkFields
+fn fields_of_link(link: &Rec8) -> LinkFields
     ensures { result ≡ link_fields link.now }
 {
     (link.land(), (link.polyid(), (link.cenid(), link.file())))
@@ -70,7 +70,7 @@ fn new_fields_of(tables: &RenamingTables, link: &Rec8) -> LinkFields
 fn all_fields(alloc: Global, links: &[Rec8]) -> Result<Vec<LinkFields>, AllocError>
     ensures { IfOk result (λ fields. fields.items ≡ map link_fields links.now) }
 {
-    links.iter().map(|link| fields_of(link)).collect(alloc)
+    links.iter().map(|link| fields_of_link(link)).collect(alloc)
 }
 
 /// The fields of links under their new numbers.

@@ -4,9 +4,9 @@ ghost use Rattle.std.specs.Prelude.{IfOk, IsPermutation, IsTrue, false, ◌≡�
 ghost use Rattle.std.specs.{Bool.Decides, List.AllByRecursion, Ordering.nat_cmp};
 ghost use Rattle.county_chart.specs.CountyRules.{feats, lands, nodes, polygon_keys, tlids};
 ghost use Rattle.county_chart.specs.Renumbering.{NumbersArePaired};
-ghost use Rattle.ordered_lists.specs.{Orders.has_repeat, Orders.stands_in, Pairs.ArePaired};
+ghost use Rattle.ordered_lists.specs.{Orders.has_repeat, Orders.contains, Pairs.ArePaired};
 
-use crate::county_numbers::{Feats, Lands, Nodes, NumberKind, PolygonKeys, Tlids, numbers_of};
+use crate::county_numbers::{Feats, KeyKind, Lands, Nodes, PolygonKeys, TlidKind, numbers_of};
 use crate::pairing::{are_known, new_numbers, old_numbers};
 use county_chart::{Chart, PolygonKey, Tested, all_hold};
 use ordered_lists::Key;
@@ -14,7 +14,7 @@ use renamings::{Renaming, SortedNumbers};
 use std::alloc::{AllocError, Global};
 
 /// Whether the numbers are a permutation of those of one kind of a county.
-fn are_numbers_of<K: Key, N: NumberKind<K>, C: Chart>(
+fn are_numbers_of<K: Key, N: KeyKind<K>, C: Chart>(
     alloc: Global,
     numbers: Vec<K>,
     chart: &C,
@@ -27,7 +27,7 @@ fn are_numbers_of<K: Key, N: NumberKind<K>, C: Chart>(
 }
 
 /// Whether the pairs of one kind have each number of `a` once on the left, each number of `b` once on the right, and no other.
-fn is_kind_paired<K: Key, N: NumberKind<K>, A: Chart, B: Chart>(
+fn is_kind_paired<K: Key, N: KeyKind<K>, A: Chart, B: Chart>(
     alloc: Global,
     a: &A,
     b: &B,
@@ -91,7 +91,7 @@ fn lists_are_paired<A: Chart, B: Chart>(
         × ArePaired renaming.now.nodes (nodes (A.county a.now)) (nodes (B.county b.now))
         × AllByRecursion (λ pair. pair.0.0 ≡ pair.1.0) renaming.now.polygons)) }
 {
-    let chains = is_kind_paired::<u64, Tlids, A, B>(alloc, a, b, renaming.chains())?;
+    let chains = is_kind_paired::<u64, TlidKind, A, B>(alloc, a, b, renaming.chains())?;
     if !chains {
         return Ok(false);
     }
@@ -134,7 +134,7 @@ impl<'a, C: Chart> Tested for TurnedTlids<'a, C> {
 
     ghost entries = { λ t. t.turned.now };
 
-    ghost Holds = { λ t tlid. IsTrue (stands_in nat_cmp tlid (tlids (C.county t.chart.now))) };
+    ghost Holds = { λ t tlid. IsTrue (contains nat_cmp tlid (tlids (C.county t.chart.now))) };
 
     fn count(&self) -> usize {
         self.turned.len()
@@ -152,7 +152,7 @@ fn are_turned_once<C: Chart>(
     renaming: &Renaming,
 ) -> Result<bool, AllocError>
     ensures { IfOk result (λ yes. Decides yes ((has_repeat nat_cmp renaming.now.turned ≡ false)
-        × AllByRecursion (λ tlid. IsTrue (stands_in nat_cmp tlid (tlids (C.county chart.now)))) renaming.now.turned)) }
+        × AllByRecursion (λ tlid. IsTrue (contains nat_cmp tlid (tlids (C.county chart.now)))) renaming.now.turned)) }
 {
     let turned = renaming.turned();
     let set = SortedNumbers::new(alloc, turned)?;

@@ -37,13 +37,13 @@ impl<'a, A: Chart, B: Chart> Tested for Names<'a, A, B> {
 
 /// The polygons of `a`, each looked for in `b` under its new key.
 #[derive(Drop)]
-pub(crate) struct Polygons<'a, A, B> {
+pub(crate) struct PolygonParts<'a, A, B> {
     pub(crate) a: &'a A,
     pub(crate) b: &'a B,
     pub(crate) tables: &'a RenamingTables<'a>,
 }
 
-impl<'a, A: Chart, B: Chart> Tested for Polygons<'a, A, B> {
+impl<'a, A: Chart, B: Chart> Tested for PolygonParts<'a, A, B> {
     ghost use Rattle.std.specs.Prelude.{Option};
     ghost use Rattle.tl_cert.specs.PartsThere.{IsPolygonThere};
     ghost use Rattle.county_chart.specs.PolygonKeys.{PolygonKey};

@@ -1,10 +1,10 @@
 -- The names from below that the proofs of this crate cite, passed on from one place. Declares nothing.
-pub use Rattle.county_chart.proofs.ByKey.KeySets.{distinct-more, distinct-two-more, stands_in-distinct}
+pub use Rattle.county_chart.proofs.ByKey.KeySets.{distinct-more, distinct-two-more, contains-distinct}
 pub use Rattle.county_chart.proofs.Common.{AllByRecursion, IsPermutation-refl, IsStrictlySortedBy, known_from_distinct, unwrap_or-slice_get}
 pub use Rattle.county_chart.proofs.Common.{Among, IsPermutation, LandmarkParts, distinct_same, further_names, range_with_len}
 pub use Rattle.county_chart.proofs.Common.{Body5, chain_tlids, cons_option, known-right, known_cases, named_feats, same-itself, same_or_not}
 pub use Rattle.county_chart.proofs.Common.{Body7, BodyP, eq-eqb, filter, get_or, i_tlid, length, lt-ltb, map-id, nat_lt, ne_eqb, of_type, ℕ}
-pub use Rattle.county_chart.proofs.Common.{Bool, among-unmap, among_known, chain_nodes, stands_alike}
+pub use Rattle.county_chart.proofs.Common.{Bool, among-unmap, among_known, chain_nodes, contains_alike}
 pub use Rattle.county_chart.proofs.Common.{Chain, Eight, Equal, Known, Seven, Type1, Type2, Type4, Type5, Type6, Type7, Type8, TypeI, TypeP}
 pub use Rattle.county_chart.proofs.Common.{FitsRecord, IsKeyOrder, strict_head, strict_tail, tied_itself}
 pub use Rattle.county_chart.proofs.Common.{Coordinates, IsPermutation-trans, YieldsList-from_map, always_returns_same, map_agree_everywhere}
@@ -24,7 +24,7 @@ pub use Rattle.county_chart.proofs.Common.{ap, map-append, map_values, option_ma
 pub use Rattle.county_chart.proofs.Common.{List, None, One, Some, Two, ap₂, cond, drop, inl, inr, refl, take, true, ◌&&◌, ◌++◌, ◌==◌, ◌||◌}
 pub use Rattle.county_chart.proofs.Common.{Option, ltb-true, nat_keys, on_total, one_tlid, or_cases, same-map, six_rtsq, six_tlid, times-no}
 pub use Rattle.county_chart.proofs.Common.{Ordering, of_type_7, of_type_8, of_type_i, of_type_p, place_cmp, record_of, same-true, side_keys}
-pub use Rattle.county_chart.proofs.Common.{P, all_both, chain_of, distinct, eqb-true, slice_cmp, slice_get, stands_in, times-yes, to_filter}
+pub use Rattle.county_chart.proofs.Common.{P, all_both, chain_of, distinct, eqb-true, slice_cmp, slice_get, contains, times-yes, to_filter}
 pub use Rattle.county_chart.proofs.Common.{PolygonKey, RecordType, all_joined, all_weaker, append-nil, before_all, by_type_of, eight_land}
 pub use Rattle.county_chart.proofs.Common.{[], from_permutation, items_from_extend, landmark_body_cmp, strict_from_order, values-map_values}
 pub use Rattle.county_chart.proofs.Common.{among-pieces, append_assoc, common_steps, entry_values, filter-agree, flat_map-map, in_order-map}
@@ -61,7 +61,7 @@ pub use Rattle.std.proofs.{Math.Nat.min-le_right, lemmas.Bool.cases_order, lemma
 pub use Rattle.std.proofs.{lemmas.Iterator.Consumers.YieldsList-from_copied, lemmas.Iterator.Consumers.YieldsList-from_filter_map}
 pub use Rattle.std.proofs.{lemmas.Iterator.Search.find_from_yields_List, lemmas.List.Sorted.IsPermutation-append, lemmas.Result.IfOk-weaker}
 pub use Rattle.std.specs.{List.find, Option.option_cmp}
-pub use Rattle.tl_county.specs.Building.{chain_with, chains_along, county_along, landmark_of, landmarks_along, link_nodes, polygon_body_of}
+pub use Rattle.tl_county.specs.Building.{chain_with, chains_along, county_along, landmark_of, landmarks_along, topology_nodes, polygon_body_of}
 pub use Rattle.tl_county.specs.OrderedTables.{AreInOrder, ArePermuted, ordered_of, typed_of}
 pub use Rattle.tl_county.specs.RuleOrder.{IsFirstFrom, RulesHold, rule_place}
 pub use Rattle.tl_county.specs.{Marks.all_have_names, RepeatedKeys.AreLeastRepeated}

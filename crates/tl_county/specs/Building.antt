@@ -11,29 +11,29 @@ use Rattle.ordered_lists.specs.Orders.{distinct}
 
 -- the chain made from its records, with those of types 2, 4 and 6 in the order of their RTSQs
 abbrev pub chain_with : Fields1 → FieldsI → List Fields2 → List Fields4 → List Fields6 → Chain
-chain_with r link twos fours sixes = record {
+chain_with r topology twos fours sixes = record {
   body = r.body;
   points = r.start ∷ (flat_map (λ q. q.points) twos ++ (r.end ∷ []));
   feats = flat_map (λ q. q.feats) fours;
   ranges = map (λ q. q.ranges) sixes;
-  topology = link.body;
-  start_node = link.start_node;
-  end_node = link.end_node;
-  left = link.left;
-  right = link.right;
+  topology = topology.body;
+  start_node = topology.start_node;
+  end_node = topology.end_node;
+  left = topology.left;
+  right = topology.right;
 }
 
 -- the nodes of a type I record, start before end, without missing ones
-abbrev pub link_nodes : FieldsI → List ℕ
-link_nodes link = option_to_list link.start_node ++ option_to_list link.end_node
+abbrev pub topology_nodes : FieldsI → List ℕ
+topology_nodes topology = option_to_list topology.start_node ++ option_to_list topology.end_node
 
 -- the chains of type 1 and type I records paired by place, with the records of types 2, 4 and 6 that have the chain's TLID
 abbrev pub chains_along : List Fields2 → List Fields4 → List Fields6 → List Fields1 → List FieldsI → List Chain
-chains_along twos fours sixes [] links = []
+chains_along twos fours sixes [] topologies = []
 chains_along twos fours sixes (r ∷ rs) [] = []
-chains_along twos fours sixes (r ∷ rs) (link ∷ links) =
-    chain_with r link (of_number two_tlid r.tlid twos) (of_number four_tlid r.tlid fours)
-    (of_number six_tlid r.tlid sixes) ∷ chains_along twos fours sixes rs links
+chains_along twos fours sixes (r ∷ rs) (topology ∷ topologies) =
+    chain_with r topology (of_number two_tlid r.tlid twos) (of_number four_tlid r.tlid fours)
+    (of_number six_tlid r.tlid sixes) ∷ chains_along twos fours sixes rs topologies
 
 -- the content of a polygon's type P record, if it has one
 abbrev pub polygon_body_of : List FieldsP → PolygonKey → Option BodyP

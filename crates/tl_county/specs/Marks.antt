@@ -1,11 +1,11 @@
 -- Type 4 records whose FEATs all have names.
 use Rattle.std.specs.{List.list_all, Ordering.nat_cmp, Prelude.Bool, Prelude.List, Prelude.ℕ}
 use Rattle.tl_layout.specs.Fields.{Fields4}
-use Rattle.ordered_lists.specs.Orders.{stands_in}
+use Rattle.ordered_lists.specs.Orders.{contains}
 
 -- whether each of these FEATs is one of the names
 abbrev pub have_names : List ℕ → List ℕ → Bool
-have_names names feats = list_all (λ feat. stands_in nat_cmp feat names) feats
+have_names names feats = list_all (λ feat. contains nat_cmp feat names) feats
 
 -- whether each FEAT of these records is one of the names
 abbrev pub all_have_names : List ℕ → List Fields4 → Bool

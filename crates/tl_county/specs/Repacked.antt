@@ -6,7 +6,7 @@ use Rattle.tl_layout.specs.ByType.{of_number, of_type_2, of_type_4}
 use Rattle.tl_layout.specs.{Fields.Fields2, Fields.Fields4, declared.record_type.Record.Record}
 use Rattle.county_chart.specs.County.{four_rtsq, four_tlid, two_rtsq, two_tlid}
 use Rattle.county_chart.specs.{LinkRules.rtsqs, declared.fault.SequencedType.SequencedType}
-use Rattle.ordered_lists.specs.Orders.{stands_in}
+use Rattle.ordered_lists.specs.Orders.{contains}
 use Rattle.county_chart.specs.declared.fault.SequencedType.TheVariants as sequenced
 
 -- A record of a chain is cut into two: it holds the items of the first and then those of the second, the first keeps its RTSQ, the
@@ -68,5 +68,5 @@ resequenced sequence (P r) = P r
 -- the new RTSQs of a chain's records of a type have the order of the old ones
 abbrev pub KeepsSequence : Sequence → List Record → Type 0
 KeepsSequence sequence records = (rtype : SequencedType) (tlid old later : ℕ)
-    → IsTrue (stands_in nat_cmp old (rtsqs rtype tlid records)) → IsTrue (stands_in nat_cmp later (rtsqs rtype tlid records))
+    → IsTrue (contains nat_cmp old (rtsqs rtype tlid records)) → IsTrue (contains nat_cmp later (rtsqs rtype tlid records))
     → old < later → sequence rtype tlid old < sequence rtype tlid later

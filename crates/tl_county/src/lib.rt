@@ -13,7 +13,7 @@ pub use county_chart::{
     ChainFeats, ChainPoints, ChainRanges, Chart, County, CountyIn, DirectedChain, KeySet, Keyed,
     LandmarkBodies, LinkFault, LinkedType, Listed, Masked, PolygonKey, Same, SequencedType, Tested,
     all_hold, are_same, cmp_landmark_bodies, compare, least_unknown, polygon_number, push_all,
-    put_in_order, split_group,
+    sort_by_keys, split_group,
 };
 pub use laws::{
     counties_within_limits_are_packed_into_records_that_fit, linked_or_one_first_broken_rule,

@@ -7,7 +7,7 @@
 ghost use Rattle.std.specs.Ordering.{nat_cmp};
 ghost use Rattle.std.specs.Prelude.{IfErr, IfOk, IsPermutation, List, OnOk, flat_map, map, ◌++◌, ◌≡◌, ◌≢◌};
 ghost use Rattle.tl_county.specs.OrderedTables.{AreInOrder, ArePermuted, ordered_of, typed_of};
-ghost use Rattle.tl_county.specs.{Building.county_along, Building.landmarks_along, Building.link_nodes, RepeatedKeys.AreLeastRepeated};
+ghost use Rattle.tl_county.specs.{Building.county_along, Building.landmarks_along, Building.topology_nodes, RepeatedKeys.AreLeastRepeated};
 ghost use Rattle.county_chart.specs.County.{county_of, five_feat, i_tlid, link_key, one_tlid, p_key, side_keys};
 ghost use Rattle.county_chart.specs.{Limits.HoldsWithinLimits, Limits.IsWithinLimits, Packing.type_after_type, SequenceKeys.is_unnamed};
 ghost use Rattle.county_chart.specs.{Limits.most_records, LinkRules.IsLinked, Packing.by_type, PolygonKeys.key_cmp, SequenceKeys.uses_of};
@@ -17,8 +17,8 @@ ghost use Rattle.tl_layout.specs.{Fields.Fields5, Limits.IsWithinLimit, Tables.H
 
 mod arena;
 mod building;
-mod chain_heads;
 pub(crate) mod chain_over;
+mod chain_records;
 mod gathering;
 pub(crate) mod linked_records;
 pub(crate) mod near_order;
@@ -31,11 +31,11 @@ use crate::linking::building::{
     ChainBuilder, LandmarkBuilder, chains_of_records, landmarks_of, lands_of, nodes_of,
     polygon_bodies,
 };
-use crate::linking::chain_heads::{heads_at, links_at};
+use crate::linking::chain_records::{all_basics_at, topologies_at};
 use crate::linking::gathering::{Polygons, gather_polygons, linked_polygons};
 use crate::linking::linked_records::link_in_order;
 use crate::linking::rules::{
-    check_chains, check_landmarks, check_links, check_names, check_sequences, unnamed_use,
+    check_chains, check_landmarks, check_names, check_sequences, check_topologies, unnamed_use,
 };
 use crate::linking::table_order::{Ordered, OrderedTables, order_tables};
 use bumpalo::Bump;
@@ -75,7 +75,7 @@ fn gather_references(
 /// The polygons of tables in order.
 fn polygons_of(alloc: Global, tables: &OrderedTables) -> Result<Polygons, AllocError>
     requires tables { AreInOrder (ordered_of tables.now) }
-    requires links { IsPermutation tables.now.records.type_i.items (ordered_of tables.now).of_type_i }
+    requires topologies { IsPermutation tables.now.records.type_i.items (ordered_of tables.now).of_type_i }
     ensures keys { IfOk result (λ polygons. polygons.keys.items ≡
         distinct key_cmp (flat_map side_keys (ordered_of tables.now).of_type_i ++ map p_key tables.now.records.type_p.items)) }
     ensures without_side { IfOk result (λ polygons. IsLeastPassing key_cmp (is_unknown key_cmp
@@ -93,7 +93,7 @@ fn check_rules(
 ) -> Result<(), LinkFault>
     requires tables { AreInOrder (ordered_of tables.now) }
     requires chains { ordered.now.tlids.chains.items ≡ map one_tlid (ordered_of tables.now).of_type_1 }
-    requires links { ordered.now.tlids.links.items ≡ map i_tlid (ordered_of tables.now).of_type_i }
+    requires topologies { ordered.now.tlids.topologies.items ≡ map i_tlid (ordered_of tables.now).of_type_i }
     requires repeated { AreLeastRepeated ordered.now.repeated (ordered_of tables.now) }
     requires unnamed { IsLeastPassing sequence_cmp
         (is_unnamed (flat_map uses_of tables.now.records.type_4.items) (map five_feat tables.now.records.type_5.items)) references.now.unnamed }
@@ -103,9 +103,9 @@ fn check_rules(
     ensures broken { IfErr result (λ fault. (records : List Record) → by_type records ≡ ordered_of tables.now → IsFirstBrokenRule records fault) }
 {
     let tlids = &ordered.tlids;
-    check_chains(tables, &tlids.chains, &tlids.links)?;
+    check_chains(tables, &tlids.chains, &tlids.topologies)?;
     check_sequences(&ordered.repeated)?;
-    check_links(tables, &tlids.chains, &tlids.links)?;
+    check_topologies(tables, &tlids.chains, &tlids.topologies)?;
     check_names(tables, references.unnamed)?;
     check_landmarks(
         tables,
@@ -127,13 +127,13 @@ fn build_chains<'t, C: StoredChain, B: ChainBuilder<'t, C>>(
     requires tlids { tlids.items ≡ map one_tlid (ordered_of tables.now).of_type_1 }
     ensures { IfOk result (λ chains. map_values C.chain chains ≡ (county_along (ordered_of tables.now)).chains) }
 {
-    let heads = heads_at(alloc, &tables.records.type_1, &tables.heads)?;
-    let links = links_at(alloc, &tables.records.type_i, &tables.links)?;
+    let all_basics = all_basics_at(alloc, &tables.records.type_1, &tables.all_basics)?;
+    let topologies = topologies_at(alloc, &tables.records.type_i, &tables.topologies)?;
     let chains = chains_of_records::<C, B>(
         alloc,
         builder,
-        &heads,
-        &links,
+        &all_basics,
+        &topologies,
         &tables.records.type_2,
         &tables.records.type_4,
         &tables.records.type_6,
@@ -182,9 +182,9 @@ fn build_nodes_and_polygons(
     keys: Vec<PolygonKey>,
 ) -> Result<(Vec<u64>, Table<PolygonKey, Option<BodyP>>), AllocError>
     requires tables { AreInOrder (ordered_of tables.now) }
-    requires links { IsPermutation tables.now.records.type_i.items (ordered_of tables.now).of_type_i }
+    requires topologies { IsPermutation tables.now.records.type_i.items (ordered_of tables.now).of_type_i }
     requires keys { keys.items ≡ distinct key_cmp (flat_map side_keys (ordered_of tables.now).of_type_i ++ map p_key tables.now.records.type_p.items) }
-    ensures nodes { IfOk result (λ built. built.0.items ≡ distinct nat_cmp (flat_map link_nodes (ordered_of tables.now).of_type_i)) }
+    ensures nodes { IfOk result (λ built. built.0.items ≡ distinct nat_cmp (flat_map topology_nodes (ordered_of tables.now).of_type_i)) }
     ensures polygons { IfOk result (λ built. built.1 ≡ (county_along (ordered_of tables.now)).polygons) }
 {
     let nodes = nodes_of(alloc, &tables.records.type_i)?;
@@ -210,12 +210,12 @@ fn build_parts<'t, C: StoredChain, L: StoredLandmark, B: ChainBuilder<'t, C> + L
     polygons: Vec<PolygonKey>,
 ) -> Result<CountyParts<C, L>, AllocError>
     requires tables { AreInOrder (ordered_of tables.now) }
-    requires links { IsPermutation tables.now.records.type_i.items (ordered_of tables.now).of_type_i }
+    requires topologies { IsPermutation tables.now.records.type_i.items (ordered_of tables.now).of_type_i }
     requires linked { IsLinked (type_after_type (ordered_of tables.now)) }
     requires tlids { tlids.items ≡ map one_tlid (ordered_of tables.now).of_type_1 }
     requires polygons { polygons.items ≡ distinct key_cmp (flat_map side_keys (ordered_of tables.now).of_type_i ++ map p_key tables.now.records.type_p.items) }
     ensures chains { IfOk result (λ parts. map_values C.chain parts.chains ≡ (county_along (ordered_of tables.now)).chains) }
-    ensures nodes { IfOk result (λ parts. parts.nodes.items ≡ distinct nat_cmp (flat_map link_nodes (ordered_of tables.now).of_type_i)) }
+    ensures nodes { IfOk result (λ parts. parts.nodes.items ≡ distinct nat_cmp (flat_map topology_nodes (ordered_of tables.now).of_type_i)) }
     ensures polygons { IfOk result (λ parts. parts.polygons ≡ (county_along (ordered_of tables.now)).polygons) }
     ensures landmarks { IfOk result (λ parts. map_values L.landmark parts.landmarks ≡ landmarks_along (ordered_of tables.now)) }
 {
@@ -247,7 +247,7 @@ pub(crate) fn build_county<
     polygons: Vec<PolygonKey>,
 ) -> Result<StoredCounty<C, N, L>, AllocError>
     requires tables { AreInOrder (ordered_of tables.now) }
-    requires links { IsPermutation tables.now.records.type_i.items (ordered_of tables.now).of_type_i }
+    requires topologies { IsPermutation tables.now.records.type_i.items (ordered_of tables.now).of_type_i }
     requires linked { IsLinked (type_after_type (ordered_of tables.now)) }
     requires tlids { tlids.items ≡ map one_tlid (ordered_of tables.now).of_type_1 }
     requires feats { feats.items ≡ map five_feat tables.now.records.type_5.items }
@@ -282,7 +282,7 @@ pub(crate) fn sort_and_check(
 ) -> Result<Gathered, LinkFault>
     ensures in_order { OnOk result (AreInOrder (ordered_of tables.new)) }
     ensures same { OnOk result (ArePermuted (typed_of tables.old.records) (ordered_of tables.new)) }
-    ensures links_there { OnOk result (IsPermutation tables.new.records.type_i.items (ordered_of tables.new).of_type_i) }
+    ensures topologies_there { OnOk result (IsPermutation tables.new.records.type_i.items (ordered_of tables.new).of_type_i) }
     ensures linked { OnOk result (IsLinked (type_after_type (ordered_of tables.new))) }
     ensures tlids { IfOk result (λ gathered. gathered.tlids.items ≡ map one_tlid (ordered_of tables.new).of_type_1) }
     ensures feats { IfOk result (λ gathered. gathered.feats.items ≡ map five_feat tables.new.records.type_5.items) }

@@ -207,15 +207,15 @@ fed_nothing holds limit kept counts unfinished empty none open_is = record {
 }
 
 -- a recorded fault of the lines is the fault of the parts, however they continue
-pub stands_at : {K : Type 0} (holds : K → List Record → Type 0) (limit : ℕ) (l : LoadedInto K) (closed : List (List ℕ)) (open_part : List ℕ)
+pub unchanged_after_fault : {K : Type 0} (holds : K → List Record → Type 0) (limit : ℕ) (l : LoadedInto K) (closed : List (List ℕ)) (open_part : List ℕ)
     (f : LoadFault) → l.fault ≡ Some f → WasFedInto holds limit l closed open_part → IsOfLines f → IsFaultHowever limit closed open_part f
-stands_at holds limit l closed open_part f e w = at_some _ _ l.fault f e w.comes
+unchanged_after_fault holds limit l closed open_part f e w = at_some _ _ l.fault f e w.comes
 
 pub reported_at : {K T : Type 0} (holds : K → List Record → Type 0) (limit : ℕ) (l : LoadedInto K) (closed : List (List ℕ)) (open_part : List ℕ)
     (result : Result T LoadFault) → IfErr result (λ f. l.fault ≡ Some f) → WasFedInto holds limit l closed open_part
     → IfErr result (λ f. IsOfLines f → IsFaultHowever limit closed open_part f)
 reported_at holds limit l closed open_part (Ok x) e w = tt
-reported_at holds limit l closed open_part (Err f) e w = stands_at holds limit l closed open_part f e w
+reported_at holds limit l closed open_part (Err f) e w = unchanged_after_fault holds limit l closed open_part f e w
 
 -- the records that were kept, if there is no recorded fault
 pub record Has {K : Type 0} (holds : K → List Record → Type 0) (limit : ℕ) (l : LoadedInto K) (closed : List (List ℕ))
@@ -250,10 +250,10 @@ fed_piece holds limit before mid piece (Err f) closed open_part none part takes 
           λ is. fault_more limit (seen before h.records) closed open_part piece f w.limit_is h.loaded (t.2 is);
     }
 
-pub fed_standing : {K : Type 0} (holds : K → List Record → Type 0) (limit : ℕ) (l : LoadedInto K) (piece : List ℕ) (f : LoadFault)
+pub fed_unchanged : {K : Type 0} (holds : K → List Record → Type 0) (limit : ℕ) (l : LoadedInto K) (piece : List ℕ) (f : LoadFault)
     (closed : List (List ℕ)) (open_part : List ℕ) → l.fault ≡ Some f → WasFedInto holds limit l closed open_part
     → WasFedInto holds limit l closed (open_part ++ piece)
-fed_standing holds limit l piece f closed open_part e w = search (rules, from_some, append_assoc, stands_at)
+fed_unchanged holds limit l piece f closed open_part e w = search (rules, from_some, append_assoc, unchanged_after_fault)
 
 pub well_after : {K T : Type 0} (holds : K → List Record → Type 0) (x : T) (limit : ℕ) (before after : LoadedInto K) (piece : List ℕ)
     (closed : List (List ℕ)) (open_part : List ℕ) → before.fault ≡ None → Lifts holds (Takes piece) before (Ok x) after
@@ -302,15 +302,15 @@ fed_closed holds limit before mid (Err f) closed open_part none same stays closi
           (fault_closed limit (seen before h.records) closed open_part [] f w.limit_is h.loaded (λ later. e later is));
     }
 
-pub fed_closed_standing : {K : Type 0} (holds : K → List Record → Type 0) (limit : ℕ) (l : LoadedInto K) (f : LoadFault)
+pub fed_closed_unchanged : {K : Type 0} (holds : K → List Record → Type 0) (limit : ℕ) (l : LoadedInto K) (f : LoadFault)
     (closed : List (List ℕ)) (open_part : List ℕ) → l.fault ≡ Some f → WasFedInto holds limit l closed open_part
     → WasFedInto holds limit l (closed ++ open_part ∷ []) []
-fed_closed_standing holds limit l f closed open_part e w = record {
+fed_closed_unchanged holds limit l f closed open_part e w = record {
   limit_is = w.limit_is;
   comes = from_some _ _ l.fault f e (λ is more later.
       subst (λ (parts : List (List ℕ)). FaultAt tiger limit parts f)
       (sym (one_more closed open_part more later ∙ ap (λ (b : List ℕ). closed ++ b ∷ (more ∷ later)) (sym (append-nil open_part))))
-      (stands_at holds limit l closed open_part f e w is [] (more ∷ later)));
+      (unchanged_after_fault holds limit l closed open_part f e w is [] (more ∷ later)));
 }
 
 -- ---- all parts together
@@ -368,12 +368,12 @@ finished_fault T holds limit before after f closed open_part none ends w is =
     fault_from_outcome tiger tiger_is_sound limit (all_parts closed open_part) f
     (outcome_all limit (seen before h.records) closed open_part w.limit_is h.loaded ∙ t.2 is)
 
-pub finished_standing : {K : Type 0} (holds : K → List Record → Type 0) (limit : ℕ) (l : LoadedInto K) (f : LoadFault)
+pub finished_unchanged : {K : Type 0} (holds : K → List Record → Type 0) (limit : ℕ) (l : LoadedInto K) (f : LoadFault)
     (closed : List (List ℕ)) (open_part : List ℕ) → l.fault ≡ Some f → WasFedInto holds limit l closed open_part → IsOfLines f
     → FaultAt tiger limit (all_parts closed open_part) f
-finished_standing holds limit l f closed open_part e w is =
+finished_unchanged holds limit l f closed open_part e w is =
     fault_along limit (all_parts closed open_part) _ f (placed_all closed open_part)
-    (stands_at holds limit l closed open_part f e w is [] [])
+    (unchanged_after_fault holds limit l closed open_part f e w is [] [])
 
 -- ---- a part that was read
 

@@ -4,7 +4,7 @@ ghost use Rattle.std.specs.Prelude.{IfOk, IsTrue, List, OnOk, [], false, ◌++�
 ghost use Rattle.tl_layout.specs.{Bytes.IsLine, RecordText.text_of, Tables.HoldsByType, declared.record_type.Record.Record};
 ghost use Rattle.tl_load.specs.Keeping.{KeepsLine};
 
-use canonical_lines::{Canonical, copy_line};
+use canonical_lines::{CanonicalLine, copy_line};
 use std::alloc::{AllocError, Global};
 use tl_layout::{LONGEST_LINE, Layout, Record, Tabled, Tables, put_line, reserve_ahead};
 
@@ -32,7 +32,7 @@ pub trait Collector: Drop + Sized {
     ///
     /// `AllocError` if an allocation failed; the contract then says nothing about what is kept.
     #[inline(always)]
-    fn push_line<L: Canonical>(&mut self, line: &[u8]) -> Result<bool, AllocError>
+    fn push_line<L: CanonicalLine>(&mut self, line: &[u8]) -> Result<bool, AllocError>
         requires { IsLine L.RTYPE L.LEN line.now }
         ensures kept { IfOk result (λ was_kept. IsTrue was_kept → KeepsLine holds L.reading L.as_record line.now self.old self.new) }
         ensures unchanged { IfOk result (λ was_kept. was_kept ≡ false → self.new ≡ self.old) }
@@ -99,7 +99,7 @@ impl Collector for CanonicalText {
     }
 
     #[inline(always)]
-    fn push_line<L: Canonical>(&mut self, line: &[u8]) -> Result<bool, AllocError> {
+    fn push_line<L: CanonicalLine>(&mut self, line: &[u8]) -> Result<bool, AllocError> {
         if !L::is_canonical(line) {
             return Ok(false);
         }

@@ -1,7 +1,7 @@
 -- The names from below that the proofs of this crate cite, passed on from one place. Declares nothing.
-pub use Rattle.arranged_county.proofs.Common.{AllByRecursion, AllKeysStandIn, DirectedChain, arrangement_of, directed_chain, names_in_order}
+pub use Rattle.arranged_county.proofs.Common.{AllByRecursion, AllKeysContained, DirectedChain, arrangement_of, directed_chain, names_in_order}
 pub use Rattle.arranged_county.proofs.Common.{AreReadAt, entry_values, flat_map-map, in_order-map, polygon_keys, times-append, under_number}
-pub use Rattle.arranged_county.proofs.Common.{AreWhole, Fields8, IsCounty, link_part, same_Some, slice_cmp, slice_get, stands_in, unwrap_or}
+pub use Rattle.arranged_county.proofs.Common.{AreWhole, Fields8, IsCounty, link_part, same_Some, slice_cmp, slice_get, contains, unwrap_or}
 pub use Rattle.arranged_county.proofs.Common.{Arrangement, HasChainsOf, IfOk-weaker, PolygonSide, among_known, arranged_by, uses_of_name, ℕ}
 pub use Rattle.arranged_county.proofs.Common.{Body5, IsTotalOrder, append_assoc, nat_cmp_total, numbered_from, ordering_then, slice_get-map}
 pub use Rattle.arranged_county.proofs.Common.{Body7, Chain, Equal, Known, [], arith, get_or, joined, length, lt-ltb, nat_le, placed, ranked}
@@ -35,7 +35,7 @@ pub use Rattle.record_groups.proofs.Common.{FitsRecord, chains_arranged, length-
 pub use Rattle.record_groups.proofs.Common.{Five, Four, One, Six, Two, Type4, TypeI, TypeP, codes, min, upto, ◌&&◌, ◌*◌, ◌/◌}
 pub use Rattle.record_groups.proofs.Common.{I, MatchOrdering, at_all_places, exact_unsigned, packed_by_type, slice_get_past, type_5_by_name}
 pub use Rattle.record_groups.proofs.Common.{IsNumber, all_append, false≢true, groups_cmp, kept_entry, packed_twos, records_cmp, spelling_of}
-pub use Rattle.record_groups.proofs.Common.{IsNumberOrNone, IsWithinLimits, StandInOrder, type_6_by_chain, type_8_together, type_i_by_chain}
+pub use Rattle.record_groups.proofs.Common.{IsNumberOrNone, IsWithinLimits, ArePlacesInOrder, type_6_by_chain, type_8_together, type_i_by_chain}
 pub use Rattle.record_groups.proofs.Common.{P, layout_laws, number_text, packed-fits, packed_body, packed_five, types_5_to_7, types_8_to_p}
 pub use Rattle.record_groups.proofs.Common.{all_left, all_take, chain_at, eqb-true, feats_of, group_at, in_pieces, ltb-false, turned_if}
 pub use Rattle.record_groups.proofs.Common.{all_right, all_unmap, at_places, lists_keys, nat_cmp_is, packed_one, reading_of, renumbered}
@@ -60,7 +60,7 @@ pub use Rattle.canonical_form.proofs.Choices.ChosenArrangements.{arrangement_of_
 pub use Rattle.canonical_form.proofs.Choices.FixedPlaces.{agree_both, agree_same, moved_apart, moved_count}
 pub use Rattle.canonical_form.proofs.Choices.TidyChoices.{numbered_is_choice, shapes_arrange, shapes_ascending, stated_here}
 pub use Rattle.canonical_form.proofs.Common.{AgreeApart, IsShapeOrder, SameElements, along_shapes, among-pieces, among-turned, carried_link}
-pub use Rattle.canonical_form.proofs.Common.{AllStandIn, carried_name, comes_turned, differ_apart, directed_cmp, entry_points, filter-agree}
+pub use Rattle.canonical_form.proofs.Common.{AllContained, carried_name, comes_turned, differ_apart, directed_cmp, entry_points, filter-agree}
 pub use Rattle.canonical_form.proofs.Common.{Among, Type6, Type8, key_on, map-id, masked, moved, shapes, stood}
 pub use Rattle.canonical_form.proofs.Common.{AreInShapeOrder, Carries, from_permutation, in_order-strict, landmark_key_cmp, numbered_choice}
 pub use Rattle.canonical_form.proofs.Common.{Arranges, FieldsOf, FitsLink, ListsFit, all_both, same-true, times-yes, to_filter, turned_by}
@@ -96,9 +96,9 @@ pub use Rattle.canonical_form.proofs.{Numbering.NewNumbers.image-under_cenid, Un
 pub use Rattle.canonical_form.specs.{LeastNumber.choice_list, LeastNumber.choices_cmp, MovedChains.AgreeButOpen, MovedChains.IsWithin}
 pub use Rattle.tl_profile.proofs.Common.{counted_choices}
 pub use Rattle.county_chart.proofs.Common.{among_any, among_left, among_right, and_from, any_among, bytes_cmp, count-map, distinct_same}
-pub use Rattle.county_chart.proofs.Common.{is_le, pow-succ', renumbered_side, stands_alike, times-same, unwrap_or-slice_get, ⊤}
+pub use Rattle.county_chart.proofs.Common.{is_le, pow-succ', renumbered_side, contains_alike, times-same, unwrap_or-slice_get, ⊤}
 pub use Rattle.county_chart.specs.ChartWords.{name_under}
-pub use Rattle.ordered_lists.proofs.ByKey.Keys.{apart-filter, stands_in-filter, times-filter}
+pub use Rattle.ordered_lists.proofs.ByKey.Keys.{apart-filter, contains-filter, times-filter}
 pub use Rattle.ordered_lists.proofs.{Common.or_parts, Lists.AtPlaces.map-at_places, Lists.Members.contains-among}
 pub use Rattle.tl_shape.specs.Turned.{turned}
 pub use Rattle.tl_layout.proofs.Common.{lat_text, le-leb, long_text, point_place_text, take-take}

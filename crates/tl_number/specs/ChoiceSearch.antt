@@ -1,7 +1,7 @@
 -- What is known of a county whose least choice is searched, and of the choices that are compared.
 use Rattle.std.specs.Prelude.{List, cond, length, ℕ, ◌≡◌, ◌≤◌}
 use Rattle.std.specs.Ordering.{is_gt}
-use Rattle.county_chart.specs.CountyRules.{AllKeysStandIn, polygon_keys, polygons_along}
+use Rattle.county_chart.specs.CountyRules.{AllKeysContained, polygon_keys, polygons_along}
 use Rattle.county_chart.specs.{Choices.choices, Choices.most_choices, County.County, ShapeOrder.IsShapeOrder, ShapeOrder.OrderOfShapes}
 use Rattle.county_chart.specs.declared.directed_chain.DirectedChain.{DirectedChain}
 use Rattle.canonical_form.specs.MovedChains.{AreWithin, other_way}
@@ -14,7 +14,7 @@ pub record LeavesChoices (county : County) (shapes : OrderOfShapes) : Type 0 whe
   pub order : IsShapeOrder county shapes
   pub few : choices county ≤ most_choices
   pub within : AreWithin (length shapes.by_shape) shapes.places
-  pub sides : AllKeysStandIn (polygons_along county.chains) (polygon_keys county)
+  pub sides : AllKeysContained (polygons_along county.chains) (polygon_keys county)
 
 -- the arrangement of the choice with this number
 abbrev pub numbered_arrangement : OrderOfShapes → ℕ → List DirectedChain

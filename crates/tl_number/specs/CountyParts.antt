@@ -1,7 +1,7 @@
 -- Parts of a county: some of its chains, with their names and polygons, and all of its landmarks or none; and what is stored of them.
 use Rattle.std.specs.Prelude.{Bool, List, [], cond, filter, flat_map, length, option_to_list, slice_get, ℕ, ◌≡◌}
 use Rattle.std.specs.{List.list_any, List.range_with_len, Ordering.nat_cmp, declared.cmp.Ordering.Ordering}
-use Rattle.ordered_lists.specs.{Orders.stands_in, Places.at_places}
+use Rattle.ordered_lists.specs.{Orders.contains, Places.at_places}
 use Rattle.tl_shape.specs.Chain.{Chain}
 use Rattle.county_chart.specs.CountyRules.{feats, nodes, polygon_keys, polygons_along, tlids}
 use Rattle.county_chart.specs.{County.County, PolygonKeys.key_cmp}
@@ -16,20 +16,20 @@ feats_along chains = flat_map (λ entry. entry.1.feats) chains
 unfoldable pub part_of : County → (ℕ × Chain → Bool) → Bool → County
 part_of county keeps with_landmarks = record {
   chains = filter keeps county.chains;
-  names = filter (λ name. stands_in nat_cmp name.0 (feats_along (filter keeps county.chains))) county.names;
-  polygons = filter (λ polygon. stands_in key_cmp polygon.0 (polygons_along (filter keeps county.chains))) county.polygons;
+  names = filter (λ name. contains nat_cmp name.0 (feats_along (filter keeps county.chains))) county.names;
+  polygons = filter (λ polygon. contains key_cmp polygon.0 (polygons_along (filter keeps county.chains))) county.polygons;
   landmarks = cond with_landmarks county.landmarks [];
   links = cond with_landmarks county.links [];
 }
 
 -- the part that tables keep of a county
 abbrev pub part_with : County → PartTables → County
-part_with county tables = part_of county (λ entry. stands_in nat_cmp entry.0 tables.kept.tlids.items) tables.kept.linked
+part_with county tables = part_of county (λ entry. contains nat_cmp entry.0 tables.kept.tlids.items) tables.kept.linked
 
 -- the places of those of the keys that are wanted
 abbrev pub places_among : {K : Type 0} → (K → K → Ordering) → List K → List K → List ℕ
 places_among cmp wanted keys =
-    filter (λ place. list_any (λ key. stands_in cmp key wanted) (option_to_list (slice_get keys place))) (range_with_len 0 (length keys))
+    filter (λ place. list_any (λ key. contains cmp key wanted) (option_to_list (slice_get keys place))) (range_with_len 0 (length keys))
 
 -- these are the wanted ones of all keys, and their places
 pub record IsPicked {K : Type 0} (cmp : K → K → Ordering) (wanted all : List K) (picked : Picked K) : Type 0 where

@@ -1,7 +1,7 @@
 -- Places at which a key appears that first appears at an open place.
 use Rattle.std.specs.Prelude.{Bool, List, filter, map, not, ℕ, ◌&&◌}
 use Rattle.std.specs.{List.list_any, List.range_with_len, declared.cmp.Ordering.Ordering}
-use Rattle.ordered_lists.specs.Orders.{stands_in}
+use Rattle.ordered_lists.specs.Orders.{contains}
 use Rattle.county_chart.specs.declared.open_place.OpenPlace.{OpenPlace}
 use Rattle.canonical_form.specs.Growth.{first_seen}
 use Rattle.record_groups.specs.Groups.{group_at, grouped}
@@ -13,7 +13,7 @@ fixed_keys places along count = grouped (map (group_at along) (filter (λ place.
 
 -- whether one of the keys is open, and isn't among those met before
 abbrev pub has_new : {K : Type 0} → (K → K → Ordering) → List K → List K → List K → Bool
-has_new cmp opened met keys = list_any (λ key. stands_in cmp key opened && not (stands_in cmp key met)) keys
+has_new cmp opened met keys = list_any (λ key. contains cmp key opened && not (contains cmp key met)) keys
 
 -- whether a place has an open key that no fixed place before it has
 abbrev pub brings : {K : Type 0} → (K → K → Ordering) → List OpenPlace → List K → List (List K) → ℕ → Bool
@@ -21,4 +21,4 @@ brings cmp places opened along place = has_new cmp opened (fixed_keys places alo
 
 -- those of the wanted keys that fixed places before this one have
 abbrev pub met_before : {K : Type 0} → (K → K → Ordering) → List OpenPlace → List K → List (List K) → ℕ → List K
-met_before cmp places wanted along place = first_seen cmp (filter (λ key. stands_in cmp key wanted) (fixed_keys places along place))
+met_before cmp places wanted along place = first_seen cmp (filter (λ key. contains cmp key wanted) (fixed_keys places along place))

@@ -1,7 +1,7 @@
 -- Searching the chains by which the choices of a county are compared, place by place.
 use Rattle.std.specs.Prelude.{List, flat_map, length, map, ℕ, ◌≡◌}
 use Rattle.std.specs.{List.range_with_len, Ordering.nat_cmp, declared.cmp.Ordering.Ordering}
-use Rattle.ordered_lists.specs.Orders.{stands_in}
+use Rattle.ordered_lists.specs.Orders.{contains}
 use Rattle.county_chart.specs.{ChartWords.links_at, County.link_key, CountyRules.chain_nodes, PolygonKeys.PolygonKey, PolygonKeys.key_cmp}
 use Rattle.county_chart.specs.{County.County, CountyRules.chain_polygons, ShapeOrder.OrderOfShapes, declared.open_place.OpenPlace.OpenPlace}
 use Rattle.tl_number.specs.SmallCounty.{wanted_feats, wanted_nodes, wanted_polygons}
@@ -18,7 +18,7 @@ link_keys county = flat_map (link_keys_at county) (range_with_len 0 (length coun
 -- a search for these keys that is at a place: it has them in any order, and met those of them that fixed places before have
 pub record IsSearchAt {K : Type 0} (cmp : K → K → Ordering) (places : List OpenPlace) (keys : List K) (along : List (List K)) (place : ℕ)
     (wanted met : List K) : Type 0 where
-  pub same : (key : K) → stands_in cmp key wanted ≡ stands_in cmp key keys
+  pub same : (key : K) → contains cmp key wanted ≡ contains cmp key keys
   pub before : met ≡ met_before cmp places wanted along place
 
 -- the searches for nodes, polygons and names whose numbers can differ between choices

@@ -1,7 +1,7 @@
 -- Keys that first appear at open places: nodes or polygons whose numbers differ from choice to choice.
 use Rattle.std.specs.Prelude.{Bool, List, [], cond, filter, flat_map, nat_le, nat_lt, option_to_list, ℕ, ◌&&◌, ◌++◌, ◌+◌, ◌∷◌}
 use Rattle.std.specs.{List.list_any, List.position_or_len, List.range_with_len, Ordering.is_eq, declared.cmp.Ordering.Ordering}
-use Rattle.ordered_lists.specs.Orders.{stands_in}
+use Rattle.ordered_lists.specs.Orders.{contains}
 use Rattle.tl_shape.specs.Chain.{Chain}
 use Rattle.county_chart.specs.{County.County, declared.directed_chain.DirectedChain.DirectedChain, declared.open_place.OpenPlace.OpenPlace}
 use Rattle.canonical_form.specs.DirectedChains.{parts_along}
@@ -18,7 +18,7 @@ open_among places count = filter (is_open places) (range_with_len 0 count)
 abbrev pub newly_seen : {K : Type 0} → (K → K → Ordering) → List K → List K → List K
 newly_seen cmp seen [] = []
 newly_seen cmp seen (key ∷ keys) =
-    cond (stands_in cmp key seen) (newly_seen cmp seen keys) (key ∷ newly_seen cmp (seen ++ (key ∷ [])) keys)
+    cond (contains cmp key seen) (newly_seen cmp seen keys) (key ∷ newly_seen cmp (seen ++ (key ∷ [])) keys)
 
 -- of the keys at each place from one on, those that weren't seen before and first appear at an open place
 abbrev pub open_keys : {K : Type 0} → (K → K → Ordering) → (ℕ → Bool) → List K → ℕ → List (List K) → List K

@@ -2,7 +2,7 @@
 -- the landmarks if one of these has a polygon that first appears at an open place.
 use Rattle.std.specs.Prelude.{Bool, List, [], cond, filter, length, map, ℕ, ◌++◌, ◌||◌}
 use Rattle.std.specs.{List.range_with_len, Ordering.nat_cmp}
-use Rattle.ordered_lists.specs.{Orders.stands_in, Places.at_places}
+use Rattle.ordered_lists.specs.{Orders.contains, Places.at_places}
 use Rattle.tl_shape.specs.Chain.{Chain}
 use Rattle.county_chart.specs.{County.County, County.link_key, CountyRules.chain_nodes, CountyRules.chain_polygons, PolygonKeys.PolygonKey}
 use Rattle.county_chart.specs.{PolygonKeys.key_cmp, ShapeOrder.OrderOfShapes}
@@ -48,4 +48,4 @@ kept_tlids county shapes = map (λ directed. tlid_at county directed.place) (at_
 
 -- the part with the chains that are kept
 unfoldable pub small_county : County → OrderOfShapes → County
-small_county county shapes = part_of county (λ entry. stands_in nat_cmp entry.0 (kept_tlids county shapes)) (is_linked county shapes)
+small_county county shapes = part_of county (λ entry. contains nat_cmp entry.0 (kept_tlids county shapes)) (is_linked county shapes)

@@ -10,11 +10,11 @@ use tl_profile::{ShapeOrder, order_by_shape};
 /// A copy of the directed chains, which are in the order of their shapes.
 pub(crate) fn arrangement_in_order(
     alloc: Global,
-    order: &ShapeOrder,
+    shape_order: &ShapeOrder,
 ) -> Result<Vec<DirectedChain>, AllocError>
-    ensures { IfOk result (λ arrangement. arrangement.items ≡ order.now.by_shape) }
+    ensures { IfOk result (λ arrangement. arrangement.items ≡ shape_order.now.by_shape) }
 {
-    Vec::from_slice(alloc, order.by_shape())
+    Vec::from_slice(alloc, shape_order.by_shape())
 }
 
 /// The ascending arrangement of a county: each chain runs so that its points come before their reverse, and the chains are in the

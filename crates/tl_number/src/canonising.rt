@@ -16,10 +16,10 @@ use tl_profile::{Admitted, AdmittedIn, ShapeOrder};
 fn canonise_in_order<C: Chart + Drop>(
     alloc: Global,
     chart: C,
-    order: &ShapeOrder,
+    shape_order: &ShapeOrder,
 ) -> Result<CanonCounty<C>, AllocError>
     requires profile { IsInProfile (C.county chart) }
-    requires shapes { IsShapeOrder (C.county chart) order.now }
+    requires shapes { IsShapeOrder (C.county chart) shape_order.now }
     ensures source { IfOk result (λ canon. source_of canon ≡ chart) }
     ensures source_county { IfOk result (λ canon. C.county (source_of canon) ≡ C.county chart) }
     ensures county { IfOk result (λ canon. arranged_county canon ≡ arranged (C.county chart) (arrangement_in canon)) }
@@ -29,7 +29,7 @@ fn canonise_in_order<C: Chart + Drop>(
         (arranged_county canon)) }
     ensures canonical { IfOk result (λ canon. IsCanonCounty (arranged_county canon)) }
 {
-    let arrangement = least_arrangement(alloc, &chart, order)?;
+    let arrangement = least_arrangement(alloc, &chart, shape_order)?;
     let view = arrange(alloc, chart, arrangement)?;
     Ok(with_evidence(view))
 }

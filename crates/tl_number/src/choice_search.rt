@@ -26,18 +26,18 @@ use tl_profile::ShapeOrder;
 /// Compares two choices by their records of type 1.
 fn compare_by_type_1<C: Chart>(
     classes: &Classes<'_, C>,
-    order: &ShapeOrder,
+    shape_order: &ShapeOrder,
     one: &NumberedArrangement,
     other: &NumberedArrangement,
 ) -> Ordering
-    requires known { LeavesChoices (classed_county classes.now) order.now }
-    requires one { IsChosen order.now one.now }
-    requires other { IsChosen order.now other.now }
+    requires known { LeavesChoices (classed_county classes.now) shape_order.now }
+    requires one { IsChosen shape_order.now one.now }
+    requires other { IsChosen shape_order.now other.now }
     ensures { result ≡ ones_cmp (classed_county classes.now) one.now.number other.now.number }
 {
     compare_ones(
         classes.chart(),
-        order.open_places(),
+        shape_order.open_places(),
         &one.chains,
         &other.chains,
     )
@@ -47,13 +47,13 @@ fn compare_by_type_1<C: Chart>(
 fn arrange_choice<'a, C: Shared>(
     alloc: Global,
     classes: &Classes<'a, C>,
-    order: &ShapeOrder,
+    shape_order: &ShapeOrder,
     number: u64,
 ) -> Result<Arranged<C>, AllocError>
-    requires { LeavesChoices (classed_county classes.now) order.now }
+    requires { LeavesChoices (classed_county classes.now) shape_order.now }
     ensures { IfOk result (λ view. arranged_county view ≡ chosen_county (classed_county classes.now) number) }
 {
-    let choice = NumberedArrangement::new(alloc, order, number)?;
+    let choice = NumberedArrangement::new(alloc, shape_order, number)?;
     arrange_in_classes(alloc, classes.chart().share(), classes, choice.chains)
 }
 
@@ -68,18 +68,18 @@ fn lesser<V: Drop>(ordering: Ordering, one: V, other: V) -> V
 fn compare_with_arranged<'a, C: Shared>(
     alloc: Global,
     classes: &Classes<'a, C>,
-    order: &ShapeOrder,
+    shape_order: &ShapeOrder,
     first: Arranged<C>,
     one: u64,
     other: u64,
 ) -> Result<(Ordering, Arranged<C>), AllocError>
-    requires known { LeavesChoices (classed_county classes.now) order.now }
+    requires known { LeavesChoices (classed_county classes.now) shape_order.now }
     requires first { arranged_county first ≡ chosen_county (classed_county classes.now) one }
     requires tied { ones_cmp (classed_county classes.now) one other ≡ Equal }
     ensures ordering { IfOk result (λ pair. pair.0 ≡ choices_cmp (classed_county classes.now) one other) }
     ensures lesser { IfOk result (λ pair. arranged_county pair.1 ≡ chosen_county (classed_county classes.now) (lesser_choice (classed_county classes.now) one other)) }
 {
-    match arrange_choice(alloc, classes, order, other) {
+    match arrange_choice(alloc, classes, shape_order, other) {
         Ok(second) => {
             let ordering = compare_arranged(&first, &second);
             Ok((ordering, lesser(ordering, first, second)))
@@ -96,17 +96,17 @@ fn compare_with_arranged<'a, C: Shared>(
 fn kept_or_arranged<'a, C: Shared>(
     alloc: Global,
     classes: &Classes<'a, C>,
-    order: &ShapeOrder,
+    shape_order: &ShapeOrder,
     kept: Option<Arranged<C>>,
     number: u64,
 ) -> Result<Arranged<C>, AllocError>
-    requires known { LeavesChoices (classed_county classes.now) order.now }
+    requires known { LeavesChoices (classed_county classes.now) shape_order.now }
     requires kept { IfSome kept (λ view. arranged_county view ≡ chosen_county (classed_county classes.now) number) }
     ensures { IfOk result (λ view. arranged_county view ≡ chosen_county (classed_county classes.now) number) }
 {
     match kept {
         Some(view) => Ok(view),
-        None => arrange_choice(alloc, classes, order, number),
+        None => arrange_choice(alloc, classes, shape_order, number),
     }
 }
 
@@ -122,20 +122,20 @@ fn put<V: Drop>(kept: &mut Option<V>, value: Option<V>)
 fn compare_ties<'a, C: Shared>(
     alloc: Global,
     classes: &Classes<'a, C>,
-    order: &ShapeOrder,
+    shape_order: &ShapeOrder,
     one: u64,
     other: u64,
     arranged: &mut Option<Arranged<C>>,
 ) -> Result<Ordering, AllocError>
-    requires known { LeavesChoices (classed_county classes.now) order.now }
+    requires known { LeavesChoices (classed_county classes.now) shape_order.now }
     requires tied { ones_cmp (classed_county classes.now) one other ≡ Equal }
     requires arranged { IfSome arranged.old (λ view. arranged_county view ≡ chosen_county (classed_county classes.now) one) }
     ensures ordering { IfOk result (λ ordering. ordering ≡ choices_cmp (classed_county classes.now) one other) }
     ensures arranged { OnOk result (IfSome arranged.new
         (λ view. arranged_county view ≡ chosen_county (classed_county classes.now) (lesser_choice (classed_county classes.now) one other))) }
 {
-    let first = kept_or_arranged(alloc, classes, order, arranged.take(), one)?;
-    let (ordering, least) = compare_with_arranged(alloc, classes, order, first, one, other)?;
+    let first = kept_or_arranged(alloc, classes, shape_order, arranged.take(), one)?;
+    let (ordering, least) = compare_with_arranged(alloc, classes, shape_order, first, one, other)?;
     put(arranged, Some(least));
     Ok(ordering)
 }
@@ -153,21 +153,28 @@ fn forget_greater<V: Drop>(ordering: Ordering, kept: &mut Option<V>)
 fn compare_choices<'a, C: Shared>(
     alloc: Global,
     classes: &Classes<'a, C>,
-    order: &ShapeOrder,
+    shape_order: &ShapeOrder,
     one: &NumberedArrangement,
     other: &NumberedArrangement,
     arranged: &mut Option<Arranged<C>>,
 ) -> Result<Ordering, AllocError>
-    requires known { LeavesChoices (classed_county classes.now) order.now }
-    requires one { IsChosen order.now one.now }
-    requires other { IsChosen order.now other.now }
+    requires known { LeavesChoices (classed_county classes.now) shape_order.now }
+    requires one { IsChosen shape_order.now one.now }
+    requires other { IsChosen shape_order.now other.now }
     requires arranged { IfSome arranged.old (λ view. arranged_county view ≡ chosen_county (classed_county classes.now) one.now.number) }
     ensures ordering { IfOk result (λ ordering. ordering ≡ choices_cmp (classed_county classes.now) one.now.number other.now.number) }
     ensures arranged { OnOk result (IfSome arranged.new
         (λ view. arranged_county view ≡ chosen_county (classed_county classes.now) (lesser_choice (classed_county classes.now) one.now.number other.now.number))) }
 {
-    match compare_by_type_1(classes, order, one, other) {
-        Ordering::Equal => compare_ties(alloc, classes, order, one.number, other.number, arranged),
+    match compare_by_type_1(classes, shape_order, one, other) {
+        Ordering::Equal => compare_ties(
+            alloc,
+            classes,
+            shape_order,
+            one.number,
+            other.number,
+            arranged,
+        ),
         unequal => {
             forget_greater(unequal, arranged);
             Ok(unequal)
@@ -179,18 +186,18 @@ fn compare_choices<'a, C: Shared>(
 fn search_least<'a, C: Shared>(
     alloc: Global,
     classes: &Classes<'a, C>,
-    order: &ShapeOrder,
+    shape_order: &ShapeOrder,
     arranged: &mut Option<Arranged<C>>,
 ) -> Result<u64, AllocError>
-    requires known { LeavesChoices (classed_county classes.now) order.now }
+    requires known { LeavesChoices (classed_county classes.now) shape_order.now }
     requires none { arranged.old ≡ None }
     ensures { IfOk result (IsLeastBelow (classed_county classes.now) (choices (classed_county classes.now))) }
 {
-    let mut least = NumberedArrangement::new(alloc, order, 0)?;
-    let mut other = NumberedArrangement::new(alloc, order, 0)?;
-    for number in 1..order.choices() {
-        other.choose_again(order, number);
-        let ordering = compare_choices(alloc, classes, order, &least, &other, arranged)?;
+    let mut least = NumberedArrangement::new(alloc, shape_order, 0)?;
+    let mut other = NumberedArrangement::new(alloc, shape_order, 0)?;
+    for number in 1..shape_order.choices() {
+        other.choose_again(shape_order, number);
+        let ordering = compare_choices(alloc, classes, shape_order, &least, &other, arranged)?;
         if ordering.is_le() {
             continue;
         }
@@ -203,14 +210,14 @@ fn search_least<'a, C: Shared>(
 pub(crate) fn least_among_choices<C: Shared>(
     alloc: Global,
     chart: &C,
-    order: &ShapeOrder,
+    shape_order: &ShapeOrder,
 ) -> Result<u64, AllocError>
-    requires { LeavesChoices (C.county chart.now) order.now }
+    requires { LeavesChoices (C.county chart.now) shape_order.now }
     ensures { IfOk result (IsLeastBelow (C.county chart.now) (choices (C.county chart.now))) }
 {
     let classes = Classes::of(alloc, chart)?;
     let mut arranged = None;
-    let least = search_least(alloc, &classes, order, &mut arranged);
+    let least = search_least(alloc, &classes, shape_order, &mut arranged);
     // One call each for the prover, which otherwise reads the drop of each table.
     drop(arranged);
     drop(classes);

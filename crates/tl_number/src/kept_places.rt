@@ -8,7 +8,7 @@ ghost use Rattle.std.specs.List.{list_any};
 ghost use Rattle.std.specs.Prelude.{IfOk, OnOk, [], cond, length, ◌++◌, ◌+◌, ◌<◌, ◌||◌, ◌≡◌};
 ghost use Rattle.canonical_form.specs.{DirectedChains.HasChainsOf, Growth.first_seen, Growth.first_seen_after};
 ghost use Rattle.county_chart.specs.{CountyRules.chain_polygons, PolygonKeys.key_cmp};
-ghost use Rattle.ordered_lists.specs.{Orders.stands_in, Places.at_places};
+ghost use Rattle.ordered_lists.specs.{Orders.contains, Places.at_places};
 ghost use Rattle.record_groups.specs.Groups.{grouped};
 ghost use Rattle.tl_number.specs.{ChoiceSearch.LeavesChoices, KeptPlaces.AreSearched, KeptPlaces.link_keys, OpenKeys.keys_along};
 ghost use Rattle.tl_number.specs.{OpenKeys.open_among, SmallCounty.is_kept, SmallCounty.is_linked, SmallCounty.kept_tlids};
@@ -75,7 +75,7 @@ fn linked_polygons<C: Chart>(alloc: Global, chart: &C) -> Result<Interner<Polygo
 
 /// Whether one of the other keys is among the keys.
 fn has_any(keys: &Interner<PolygonKey>, others: &[PolygonKey]) -> bool
-    ensures { result ≡ list_any (λ key. stands_in key_cmp key keys.now) others.now }
+    ensures { result ≡ list_any (λ key. contains key_cmp key keys.now) others.now }
 {
     others.iter().any(|key| has_key(keys, *key))
 }
@@ -84,24 +84,24 @@ fn has_any(keys: &Interner<PolygonKey>, others: &[PolygonKey]) -> bool
 fn has_open_links<C: Chart>(
     alloc: Global,
     chart: &C,
-    order: &ShapeOrder,
+    shape_order: &ShapeOrder,
 ) -> Result<bool, AllocError>
-    ensures { IfOk result (λ linked. linked ≡ is_linked (C.county chart.now) order.now) }
+    ensures { IfOk result (λ linked. linked ≡ is_linked (C.county chart.now) shape_order.now) }
 {
-    let polygons = PolygonKeys(chart, order.by_shape());
-    let (_, opened) = see_along(alloc, order.open_places(), &polygons)?;
+    let polygons = PolygonKeys(chart, shape_order.by_shape());
+    let (_, opened) = see_along(alloc, shape_order.open_places(), &polygons)?;
     let links = linked_polygons(alloc, chart)?;
     Ok(has_any(&links, &opened))
 }
 
 /// The chains at open places.
-fn open_chains(alloc: Global, order: &ShapeOrder) -> Result<Vec<DirectedChain>, AllocError>
-    ensures { IfOk result (λ chains. chains.items ≡ at_places order.now.by_shape (open_among order.now.places (length order.now.by_shape))) }
+fn open_chains(alloc: Global, shape_order: &ShapeOrder) -> Result<Vec<DirectedChain>, AllocError>
+    ensures { IfOk result (λ chains. chains.items ≡ at_places shape_order.now.by_shape (open_among shape_order.now.places (length shape_order.now.by_shape))) }
 {
-    let by_shape = order.by_shape();
+    let by_shape = shape_order.by_shape();
     let mut chains = Vec::new(alloc);
     for place in 0..by_shape.len() {
-        let opened = is_open_at(order.open_places(), place);
+        let opened = is_open_at(shape_order.open_places(), place);
         if !opened {
             continue;
         }
@@ -151,13 +151,13 @@ pub(crate) struct Searches {
 fn searches_for<C: Chart>(
     alloc: Global,
     chart: &C,
-    order: &ShapeOrder,
+    shape_order: &ShapeOrder,
     linked: bool,
 ) -> Result<Searches, AllocError>
-    requires { linked ≡ is_linked (C.county chart.now) order.now }
-    ensures { IfOk result (AreSearched (C.county chart.now) order.now 0) }
+    requires { linked ≡ is_linked (C.county chart.now) shape_order.now }
+    ensures { IfOk result (AreSearched (C.county chart.now) shape_order.now 0) }
 {
-    let chains = open_chains(alloc, order)?;
+    let chains = open_chains(alloc, shape_order)?;
     let nodes = keys_of(alloc, &NodeKeys(chart, &chains))?;
     let polygons = wanted_polygons(alloc, chart, linked, &chains)?;
     let names = keys_of(alloc, &FeatKeys(chart, &chains))?;
@@ -178,17 +178,17 @@ fn any_of(at_open: bool, node: bool, polygon: bool, name: bool) -> bool
 /// Whether the chain at a place of the order of shapes is kept. The searches go on to the next place.
 fn keeps_place<C: Chart>(
     chart: &C,
-    order: &ShapeOrder,
+    shape_order: &ShapeOrder,
     place: usize,
     searches: &mut Searches,
 ) -> Result<bool, AllocError>
-    requires within { place < length order.now.by_shape }
-    requires searches { AreSearched (C.county chart.now) order.now place searches.old }
-    ensures kept { IfOk result (λ kept. kept ≡ is_kept (C.county chart.now) order.now place) }
-    ensures searches { OnOk result (AreSearched (C.county chart.now) order.now (place + 1) searches.new) }
+    requires within { place < length shape_order.now.by_shape }
+    requires searches { AreSearched (C.county chart.now) shape_order.now place searches.old }
+    ensures kept { IfOk result (λ kept. kept ≡ is_kept (C.county chart.now) shape_order.now place) }
+    ensures searches { OnOk result (AreSearched (C.county chart.now) shape_order.now (place + 1) searches.new) }
 {
-    let places = order.open_places();
-    let chains = order.by_shape();
+    let places = shape_order.open_places();
+    let chains = shape_order.by_shape();
     let node = search_place(places, &NodeKeys(chart, chains), place, &mut searches.nodes)?;
     let polygon = search_place(
         places,
@@ -204,17 +204,17 @@ fn keeps_place<C: Chart>(
 fn kept_along<C: Chart>(
     alloc: Global,
     chart: &C,
-    order: &ShapeOrder,
+    shape_order: &ShapeOrder,
     searches: &mut Searches,
 ) -> Result<Vec<u64>, AllocError>
-    requires there { HasChainsOf (C.county chart.now) order.now.by_shape }
-    requires searches { AreSearched (C.county chart.now) order.now 0 searches.old }
-    ensures { IfOk result (λ tlids. tlids.items ≡ kept_tlids (C.county chart.now) order.now) }
+    requires there { HasChainsOf (C.county chart.now) shape_order.now.by_shape }
+    requires searches { AreSearched (C.county chart.now) shape_order.now 0 searches.old }
+    ensures { IfOk result (λ tlids. tlids.items ≡ kept_tlids (C.county chart.now) shape_order.now) }
 {
-    let by_shape = order.by_shape();
+    let by_shape = shape_order.by_shape();
     let mut tlids = Vec::new(alloc);
     for place in 0..by_shape.len() {
-        let kept = keeps_place(chart, order, place, searches)?;
+        let kept = keeps_place(chart, shape_order, place, searches)?;
         if !kept {
             continue;
         }
@@ -232,15 +232,15 @@ fn kept_along<C: Chart>(
 pub(crate) fn kept_chains<C: Chart>(
     alloc: Global,
     chart: &C,
-    order: &ShapeOrder,
+    shape_order: &ShapeOrder,
 ) -> Result<KeptChains, AllocError>
-    requires { LeavesChoices (C.county chart.now) order.now }
-    ensures tlids { IfOk result (λ kept. kept.tlids.items ≡ kept_tlids (C.county chart.now) order.now) }
-    ensures linked { IfOk result (λ kept. kept.linked ≡ is_linked (C.county chart.now) order.now) }
+    requires { LeavesChoices (C.county chart.now) shape_order.now }
+    ensures tlids { IfOk result (λ kept. kept.tlids.items ≡ kept_tlids (C.county chart.now) shape_order.now) }
+    ensures linked { IfOk result (λ kept. kept.linked ≡ is_linked (C.county chart.now) shape_order.now) }
 {
-    let linked = has_open_links(alloc, chart, order)?;
-    let mut searches = searches_for(alloc, chart, order, linked)?;
-    let tlids = kept_along(alloc, chart, order, &mut searches);
+    let linked = has_open_links(alloc, chart, shape_order)?;
+    let mut searches = searches_for(alloc, chart, shape_order, linked)?;
+    let tlids = kept_along(alloc, chart, shape_order, &mut searches);
     // One call for the prover, which otherwise reads the drop of each part.
     drop(searches);
     Ok(KeptChains {

@@ -1,7 +1,7 @@
 //! Looking for wanted keys along chains in the order of their shapes.
 
 ghost use Rattle.std.specs.Prelude.{IfOk, OnOk, [], cond, filter, length, not, ◌&&◌, ◌+◌, ◌<◌, ◌∷◌, ◌≡◌};
-ghost use Rattle.ordered_lists.specs.Orders.{stands_in};
+ghost use Rattle.ordered_lists.specs.Orders.{contains};
 ghost use Rattle.canonical_form.specs.Growth.{first_seen_after};
 ghost use Rattle.tl_number.specs.{CriticalKeys.brings, CriticalKeys.has_new, CriticalKeys.met_before, OpenKeys.is_open};
 
@@ -38,7 +38,7 @@ impl<K: Key + Hash + NumericKey> KeySearch<K> {
 
 /// Whether a key is wanted, and wasn't met before.
 fn is_new<K: Key + Hash + NumericKey>(wanted: &Interner<K>, met: &Interner<K>, key: K) -> bool
-    ensures { result ≡ (stands_in K.cmp key wanted.now && not (stands_in K.cmp key met.now)) }
+    ensures { result ≡ (contains K.cmp key wanted.now && not (contains K.cmp key met.now)) }
 {
     has_key(wanted, key) && !has_key(met, key)
 }
@@ -60,7 +60,7 @@ fn meet_if_wanted<K: Key + Hash + NumericKey>(
     met: &mut Interner<K>,
     key: K,
 ) -> Result<(), AllocError>
-    ensures { OnOk result (met.new ≡ first_seen_after K.cmp met.old (filter (λ key. stands_in K.cmp key wanted.now) (key ∷ []))) }
+    ensures { OnOk result (met.new ≡ first_seen_after K.cmp met.old (filter (λ key. contains K.cmp key wanted.now) (key ∷ []))) }
 {
     if has_key(wanted, key) {
         met.see(key)?;
@@ -74,7 +74,7 @@ fn meet_wanted<K: Key + Hash + NumericKey>(
     met: &mut Interner<K>,
     keys: &[K],
 ) -> Result<(), AllocError>
-    ensures { OnOk result (met.new ≡ first_seen_after K.cmp met.old (filter (λ key. stands_in K.cmp key wanted.now) keys.now)) }
+    ensures { OnOk result (met.new ≡ first_seen_after K.cmp met.old (filter (λ key. contains K.cmp key wanted.now) keys.now)) }
 {
     for key in keys {
         meet_if_wanted(wanted, met, *key)?;
@@ -92,7 +92,7 @@ fn brings_new<K: Key + Hash + NumericKey>(
 ) -> Result<bool, AllocError>
     ensures new { IfOk result (λ new. new ≡ has_new K.cmp wanted.now met.old keys.now) }
     ensures met { OnOk result (met.new ≡ first_seen_after K.cmp met.old
-        (cond (is_open places.now place) [] (filter (λ key. stands_in K.cmp key wanted.now) keys.now))) }
+        (cond (is_open places.now place) [] (filter (λ key. contains K.cmp key wanted.now) keys.now))) }
 {
     let new = has_new_key(wanted, met, keys);
     if !is_open_at(places, place) {

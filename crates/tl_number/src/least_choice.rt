@@ -4,7 +4,7 @@
 //! names first, and landmarks if they can differ. So the least choice is looked for there.
 
 ghost use Rattle.std.specs.Prelude.{IfOk, ◌≤◌};
-ghost use Rattle.county_chart.specs.CountyRules.{AllKeysStandIn, polygon_keys, polygons_along};
+ghost use Rattle.county_chart.specs.CountyRules.{AllKeysContained, polygon_keys, polygons_along};
 ghost use Rattle.county_chart.specs.{Choices.choices, Choices.most_choices, ShapeOrder.IsShapeOrder};
 ghost use Rattle.tl_number.specs.ChoiceSearch.{LeavesChoices};
 ghost use Rattle.canonical_form.specs.DirectedChains.{HasChainsOf, arrangement_of};
@@ -22,7 +22,7 @@ use tl_profile::{ShapeOrder, order_by_shape};
 /// The number of the choice with the least text.
 fn least_in_part<C: Shared>(alloc: Global, part: &C) -> Result<u64, AllocError>
     requires few { choices (C.county part.now) ≤ most_choices }
-    requires sides { AllKeysStandIn (polygons_along (C.county part.now).chains) (polygon_keys (C.county part.now)) }
+    requires sides { AllKeysContained (polygons_along (C.county part.now).chains) (polygon_keys (C.county part.now)) }
     ensures { IfOk result (IsLeastBelow (C.county part.now) (choices (C.county part.now))) }
 {
     let order = order_by_shape(alloc, part)?;
@@ -30,14 +30,18 @@ fn least_in_part<C: Shared>(alloc: Global, part: &C) -> Result<u64, AllocError>
 }
 
 /// The number of the choice with the least text. Compares nothing if the county leaves no choice.
-fn least_number<C: Chart>(alloc: Global, chart: &C, order: &ShapeOrder) -> Result<u64, AllocError>
-    requires { LeavesChoices (C.county chart.now) order.now }
+fn least_number<C: Chart>(
+    alloc: Global,
+    chart: &C,
+    shape_order: &ShapeOrder,
+) -> Result<u64, AllocError>
+    requires { LeavesChoices (C.county chart.now) shape_order.now }
     ensures { IfOk result (IsLeastBelow (C.county chart.now) (choices (C.county chart.now))) }
 {
-    if order.choices() == 1 {
+    if shape_order.choices() == 1 {
         return Ok(0);
     }
-    let kept = kept_chains(alloc, chart, order)?;
+    let kept = kept_chains(alloc, chart, shape_order)?;
     let tables = part_tables(alloc, chart, kept)?;
     let least = least_in_part(alloc, &CountyPart::new(chart, &tables));
     // One call for the prover, which otherwise reads the drop of each table.
@@ -49,16 +53,16 @@ fn least_number<C: Chart>(alloc: Global, chart: &C, order: &ShapeOrder) -> Resul
 pub(crate) fn least_arrangement<C: Chart>(
     alloc: Global,
     chart: &C,
-    order: &ShapeOrder,
+    shape_order: &ShapeOrder,
 ) -> Result<Vec<DirectedChain>, AllocError>
-    requires order { IsShapeOrder (C.county chart.now) order.now }
+    requires order { IsShapeOrder (C.county chart.now) shape_order.now }
     requires few { choices (C.county chart.now) ≤ most_choices }
-    requires sides { AllKeysStandIn (polygons_along (C.county chart.now).chains) (polygon_keys (C.county chart.now)) }
+    requires sides { AllKeysContained (polygons_along (C.county chart.now).chains) (polygon_keys (C.county chart.now)) }
     ensures least { IfOk result (λ arrangement. IsLeastChoice (C.county chart.now) (arrangement_of (C.county chart.now) arrangement.items)) }
     ensures there { IfOk result (λ arrangement. HasChainsOf (C.county chart.now) arrangement.items) }
     ensures once { IfOk result (λ arrangement. NamesEachOnce (C.county chart.now) (arrangement_of (C.county chart.now) arrangement.items)) }
 {
-    let number = least_number(alloc, chart, order)?;
-    let least = NumberedArrangement::new(alloc, order, number)?;
+    let number = least_number(alloc, chart, shape_order)?;
+    let least = NumberedArrangement::new(alloc, shape_order, number)?;
     Ok(least.chains)
 }

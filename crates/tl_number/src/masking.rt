@@ -19,17 +19,17 @@ use tl_profile::{Admitted, AdmittedIn};
 /// # Errors
 ///
 /// `AllocError` if an allocation failed, and only if the mask leaves out SOURCE.
-pub fn under_mask<C: Chart + Drop>(
+pub fn admitted_masked<C: Chart + Drop>(
     alloc: Global,
     admitted: Admitted<C>,
     mask: Mask,
 ) -> Result<Admitted<Masked<C>>, AllocError>
-    ensures county { IfOk result (λ shown. ⟦<Masked<C> as Chart>⟧.county shown ≡ masked mask (C.county admitted)) }
+    ensures county { IfOk result (λ masked_chart. ⟦<Masked<C> as Chart>⟧.county masked_chart ≡ masked mask (C.county admitted)) }
     ensures memory { IfErr result (λ error. mask.sources ≡ true) }
 {
     let (chart, order) = admitted.into_parts();
-    let shown = Masked::new(alloc, chart, mask)?;
-    Ok(Admitted::known(shown, order))
+    let masked_chart = Masked::new(alloc, chart, mask)?;
+    Ok(Admitted::known(masked_chart, order))
 }
 
 /// The canonical county of an admitted county under a mask, and the renaming that carries the county under the mask onto it. All
@@ -53,7 +53,7 @@ pub fn canonise_masked<C: Chart + Drop>(
     // The mask leaves nothing more out of it.
     ensures own { IfOk result (λ pair. masked mask (arranged_county pair.0) ≡ arranged_county pair.0) }
 {
-    canonise(alloc, under_mask(alloc, admitted, mask)?)
+    canonise(alloc, admitted_masked(alloc, admitted, mask)?)
 }
 
 /// Makes the canonical county of an admitted county in an arena under a mask, and the renaming that carries the county under

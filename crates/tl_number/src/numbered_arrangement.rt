@@ -81,28 +81,28 @@ impl NumberedArrangement {
     /// The choice with this number.
     pub(crate) fn new(
         alloc: Global,
-        order: &ShapeOrder,
+        shape_order: &ShapeOrder,
         number: u64,
     ) -> Result<NumberedArrangement, AllocError>
-        requires { AreWithin (length order.now.by_shape) order.now.places }
+        requires { AreWithin (length shape_order.now.by_shape) shape_order.now.places }
         ensures number { IfOk result (λ arrangement. arrangement.number ≡ number) }
-        ensures chosen { IfOk result (IsChosen order.now) }
+        ensures chosen { IfOk result (IsChosen shape_order.now) }
     {
-        let mut chains = arrangement_in_order(alloc, order)?;
-        choose(&mut chains, order.open_places(), number);
+        let mut chains = arrangement_in_order(alloc, shape_order)?;
+        choose(&mut chains, shape_order.open_places(), number);
         Ok(NumberedArrangement { number, chains })
     }
 
     /// Makes this the choice with another number.
-    pub(crate) fn choose_again(&mut self, order: &ShapeOrder, number: u64)
-        requires within { AreWithin (length order.now.by_shape) order.now.places }
-        requires chosen { IsChosen order.now self.old }
+    pub(crate) fn choose_again(&mut self, shape_order: &ShapeOrder, number: u64)
+        requires within { AreWithin (length shape_order.now.by_shape) shape_order.now.places }
+        requires chosen { IsChosen shape_order.now self.old }
         ensures number { self.new.number ≡ number }
-        ensures chosen { IsChosen order.now self.new }
+        ensures chosen { IsChosen shape_order.now self.new }
     {
-        let places = order.open_places();
+        let places = shape_order.open_places();
         let chains = self.chains.as_mut_slice();
-        put_back(chains, order.by_shape(), places);
+        put_back(chains, shape_order.by_shape(), places);
         choose(chains, places, number);
         self.number = number;
     }

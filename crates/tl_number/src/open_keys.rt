@@ -1,7 +1,7 @@
 //! Keys of chains in the order of their first appearance, and those of them that first appear at an open place.
 
 ghost use Rattle.std.specs.Prelude.{◌≡◌, ◌++◌, ◌∷◌, [], IfOk, OnOk, cond};
-ghost use Rattle.ordered_lists.specs.Orders.{stands_in};
+ghost use Rattle.ordered_lists.specs.Orders.{contains};
 ghost use Rattle.record_groups.specs.Groups.{grouped};
 ghost use Rattle.canonical_form.specs.Growth.{first_seen, first_seen_after};
 ghost use Rattle.tl_number.specs.OpenKeys.{first_open, is_open, newly_seen};
@@ -30,7 +30,7 @@ pub(crate) fn is_open_at(places: &[OpenPlace], place: usize) -> bool
 
 /// Whether a key is one of these.
 pub(crate) fn has_key<K: Key + Hash + NumericKey>(keys: &Interner<K>, key: K) -> bool
-    ensures { result ≡ stands_in K.cmp key keys.now }
+    ensures { result ≡ contains K.cmp key keys.now }
 {
     keys.place(key).is_some()
 }

@@ -3,10 +3,10 @@
 ghost use Rattle.std.specs.Prelude.{IfOk, false, length, map, option_to_list, ◌<◌, ◌^◌, ◌≡◌};
 ghost use Rattle.std.specs.{List.list_any, Ordering.nat_cmp};
 ghost use Rattle.canonical_form.specs.Growth.{first_seen};
-ghost use Rattle.county_chart.specs.CountyRules.{AllKeysStandIn, chain_nodes, chain_polygons, feats, polygon_keys, polygons_along};
+ghost use Rattle.county_chart.specs.CountyRules.{AllKeysContained, chain_nodes, chain_polygons, feats, polygon_keys, polygons_along};
 ghost use Rattle.county_chart.specs.CountyRules.{tlids as all_tlids};
 ghost use Rattle.county_chart.specs.PolygonKeys.{key_cmp};
-ghost use Rattle.ordered_lists.specs.{Orders.distinct, Orders.stands_in, Places.at_places};
+ghost use Rattle.ordered_lists.specs.{Orders.distinct, Orders.contains, Places.at_places};
 ghost use Rattle.record_groups.specs.Groups.{grouped};
 ghost use Rattle.tl_number.specs.CountyParts.{HoldsPart, IsPicked, places_among};
 ghost use Rattle.tl_number.specs.{OpenKeys.keys_along, OpenNames.chain_feats};
@@ -100,7 +100,7 @@ impl<C: Chart> Listed for Polygons<'_, C> {
 
 /// Whether there is a key, and it is one of these.
 fn is_among<K: Key + Hash + NumericKey>(keys: &Interner<K>, key: Option<K>) -> bool
-    ensures { result ≡ list_any (λ key. stands_in K.cmp key keys.now) (option_to_list key) }
+    ensures { result ≡ list_any (λ key. contains K.cmp key keys.now) (option_to_list key) }
 {
     match key {
         Some(key) => has_key(keys, key),
@@ -222,7 +222,7 @@ pub(crate) fn part_tables<C: Chart>(
     chart: &C,
     kept: KeptChains,
 ) -> Result<PartTables, AllocError>
-    requires { AllKeysStandIn (polygons_along (C.county chart.now).chains) (polygon_keys (C.county chart.now)) }
+    requires { AllKeysContained (polygons_along (C.county chart.now).chains) (polygon_keys (C.county chart.now)) }
     ensures kept { IfOk result (λ tables. tables.kept ≡ kept) }
     ensures holds { IfOk result (HoldsPart (C.county chart.now)) }
 {

@@ -1,5 +1,5 @@
 -- The order of placed shapes is the order of their chains.
-use Rattle.tl_profile.proofs.Common.{AllByRecursion, AreInShapeOrder, County, Equal, Greater, HasHead, IsInOrder, IsTotalOrder, Less, List}
+use Rattle.tl_profile.proofs.Common.{AllByRecursion, AreInShapeOrder, County, Equal, Greater, HasFirstPoints, IsInOrder, IsTotalOrder, Less, List}
 use Rattle.tl_profile.proofs.Common.{Ordering, PlacedShape, [], along_shapes, ap, ap₂, directed_cmp, false, int_cmp_total, is_gt, map}
 use Rattle.tl_profile.proofs.Common.{ordering_then, placed_cmp, placed_directed, placed_key_cmp, point_cmp, points_cmp, points_keys, refl}
 use Rattle.tl_profile.proofs.Common.{subst, sym, then_total, whole_shape, ◌∙◌, ◌∷◌, ◌≡◌}
@@ -21,7 +21,7 @@ again Equal Equal c = refl
 again Equal Greater c = refl
 
 -- with their own first two points, placed shapes compare as their shapes do
-pub placed-whole : (county : County) (a b : PlacedShape) → HasHead county a → HasHead county b
+pub placed-whole : (county : County) (a b : PlacedShape) → HasFirstPoints county a → HasFirstPoints county b
     → placed_cmp county a b ≡ points_cmp (whole_shape county a) (whole_shape county b)
 placed-whole county a b h k =
     let same : points_cmp (whole_shape county a) (whole_shape county b)
@@ -34,12 +34,12 @@ placed-whole county a b h k =
     ∙ sym same
 
 -- the chains of a list in this order are therefore in order
-pub in_shape_order : (county : County) (shapes : List PlacedShape) → AllByRecursion (HasHead county) shapes
+pub in_shape_order : (county : County) (shapes : List PlacedShape) → AllByRecursion (HasFirstPoints county) shapes
     → IsInOrder (placed_key_cmp county) shapes → IsInOrder (directed_cmp county) (map placed_directed shapes)
 in_shape_order county [] a h = tt
 in_shape_order county (s ∷ ss) a h = (each ss a.1 h.0, in_shape_order county ss a.1 h.1)
   where
-    each : (ts : List PlacedShape) → AllByRecursion (HasHead county) ts → AllByRecursion (λ t. is_gt (placed_key_cmp county s t) ≡ false) ts
+    each : (ts : List PlacedShape) → AllByRecursion (HasFirstPoints county) ts → AllByRecursion (λ t. is_gt (placed_key_cmp county s t) ≡ false) ts
         → AllByRecursion (λ w. is_gt (directed_cmp county (placed_directed s) w) ≡ false) (map placed_directed ts)
     each [] b g = tt
     each (t ∷ ts) b g = (
@@ -49,7 +49,7 @@ in_shape_order county (s ∷ ss) a h = (each ss a.1 h.0, in_shape_order county s
 
 -- The chains of all placed shapes, sorted, are the order of the county's shapes.
 pub sorted_by_shape : (county : County) (shapes sorted : List PlacedShape) → map placed_directed shapes ≡ along_shapes county
-    → IsPermutation shapes sorted → AllByRecursion (HasHead county) sorted → IsInOrder (placed_key_cmp county) sorted
+    → IsPermutation shapes sorted → AllByRecursion (HasFirstPoints county) sorted → IsInOrder (placed_key_cmp county) sorted
     → AreInShapeOrder county (map placed_directed sorted)
 sorted_by_shape county shapes sorted by_shape p heads ordered =
     record {

@@ -1,8 +1,8 @@
 -- The keys on sides and those with a type P record, gathered place by place, and how the profile judges them.
-use Rattle.tl_profile.proofs.Common.{ChainStands, IsInOrder, append_assoc, chain_stands, filter_map, is_unknown, key_if_bodied, strict-map}
-use Rattle.tl_profile.proofs.Common.{County, [], arith, distinct, false, has_body, key_cmp, key_keys, keys_on, length, slice_get, stands_in}
+use Rattle.tl_profile.proofs.Common.{ChainIsAt, IsInOrder, append_assoc, chain_is_at, filter_map, is_unknown, key_if_bodied, strict-map}
+use Rattle.tl_profile.proofs.Common.{County, [], arith, distinct, false, has_body, key_cmp, key_keys, keys_on, length, slice_get, contains}
 use Rattle.tl_profile.proofs.Common.{List, Some, ap, cond, is_eq, map, not, refl, suc, sym, take, ℕ, ◌&&◌, ◌++◌, ◌+◌, ◌<◌, ◌∙◌, ◌∷◌, ◌≡◌}
-use Rattle.tl_profile.proofs.Common.{flat_map-append, in_order-filter, keys_with_body, polygons_along, range_with_len, stands_in-distinct}
+use Rattle.tl_profile.proofs.Common.{flat_map-append, in_order-filter, keys_with_body, polygons_along, range_with_len, contains-distinct}
 use Rattle.county_chart.proofs.Common.{BodyP, Bool, Chain, IsCounty, None, Option, PolygonKey, PolygonSide, append-nil, chain_at}
 use Rattle.county_chart.proofs.Common.{chain_polygons, cons_option, filter, in_order-map, in_order-strict, is_some, key_on, list_any}
 use Rattle.county_chart.proofs.Common.{lt-ltb, map-id, nat_lt, on, option_map, true, ◌||◌}
@@ -14,17 +14,17 @@ pub sides_next : (county : County) (place : ℕ) → place < length county.chain
     → right ≡ option_map (λ c. c.right) (chain_at county place) → both ≡ left_too ++ keys_on right
     → both ≡ polygons_along (take (suc place) county.chains)
 sides_next county place h before left_too both left right b l f r s =
-    let stands : ChainStands county place = chain_stands county place h in
-    let chain : Chain = stands.stands.item.1 in
+    let is_at : ChainIsAt county place = chain_is_at county place h in
+    let chain : Chain = is_at.is_at.item.1 in
     let done : List PolygonKey = polygons_along (take place county.chains) in
-    let on_left : keys_on left ≡ key_on chain.left = ap keys_on (l ∙ ap (option_map (λ c. c.left)) stands.chain) in
-    let on_right : keys_on right ≡ key_on chain.right = ap keys_on (r ∙ ap (option_map (λ c. c.right)) stands.chain) in
+    let on_left : keys_on left ≡ key_on chain.left = ap keys_on (l ∙ ap (option_map (λ c. c.left)) is_at.chain) in
+    let on_right : keys_on right ≡ key_on chain.right = ap keys_on (r ∙ ap (option_map (λ c. c.right)) is_at.chain) in
     let one : left_too ≡ done ++ key_on chain.left = f ∙ (λ i. b i ++ on_left i) in
     s ∙ (λ i. one i ++ on_right i)
     ∙ append_assoc done (key_on chain.left) (key_on chain.right)
     ∙ ap (λ keys. done ++ keys) (sym (append-nil (chain_polygons chain)))
-    ∙ sym (flat_map-append (λ entry. chain_polygons entry.1) (take place county.chains) (stands.stands.item ∷ []))
-    ∙ ap polygons_along (sym stands.stands.upto)
+    ∙ sym (flat_map-append (λ entry. chain_polygons entry.1) (take place county.chains) (is_at.is_at.item ∷ []))
+    ∙ ap polygons_along (sym is_at.is_at.upto)
 
 -- the keys of the polygons with a type P record, read place by place
 pub bodies_by_place : (polygons : List (PolygonKey × Option BodyP)) (at : ℕ → Option (PolygonKey × Option BodyP)) (start : ℕ)
@@ -55,7 +55,7 @@ bodies_in_order county is =
 
 -- a key is among them exactly if the county has a type P record of its polygon
 bodied : (key : PolygonKey) (polygons : List (PolygonKey × Option BodyP))
-    → stands_in key_cmp key (keys_with_body polygons) ≡ list_any (λ e. is_eq (key_cmp key e.0) && is_some e.1) polygons
+    → contains key_cmp key (keys_with_body polygons) ≡ list_any (λ e. is_eq (key_cmp key e.0) && is_some e.1) polygons
 bodied key [] = refl
 bodied key (entry ∷ polygons) = go (is_some entry.1) (bodied key polygons)
   where
@@ -65,7 +65,7 @@ bodied key (entry ∷ polygons) = go (is_some entry.1) (bodied key polygons)
     rest : Bool
     rest = list_any (λ e. is_eq (key_cmp key e.0) && is_some e.1) polygons
 
-    with_body : (d : Bool) → stands_in key_cmp key (keys_with_body polygons) ≡ rest
+    with_body : (d : Bool) → contains key_cmp key (keys_with_body polygons) ≡ rest
         → nat_lt 0 (length (cond d (entry.0 ∷ others) others)) ≡ ((d && true) || rest)
     with_body true ih = lt-ltb 0 (suc (length others)) (omega arith)
     with_body false ih = ih
@@ -74,8 +74,8 @@ bodied key (entry ∷ polygons) = go (is_some entry.1) (bodied key polygons)
     without true = refl
     without false = refl
 
-    go : (b : Bool) → stands_in key_cmp key (keys_with_body polygons) ≡ rest
-        → stands_in key_cmp key (map (λ e. e.0) (cond b (entry ∷ filter (λ e. is_some e.1) polygons) (filter (λ e. is_some e.1) polygons)))
+    go : (b : Bool) → contains key_cmp key (keys_with_body polygons) ≡ rest
+        → contains key_cmp key (map (λ e. e.0) (cond b (entry ∷ filter (λ e. is_some e.1) polygons) (filter (λ e. is_some e.1) polygons)))
         ≡ ((is_eq (key_cmp key entry.0) && b) || rest)
     go true ih = with_body (is_eq (key_cmp key entry.0)) ih
     go false ih = ih ∙ without (is_eq (key_cmp key entry.0))
@@ -84,10 +84,10 @@ module _ (county : County) (sides : List PolygonKey) (met : sides ≡ distinct k
   -- the search finds exactly the polygons that the profile rejects
   pub same_unknown : (bodies : List PolygonKey) → bodies ≡ keys_with_body county.polygons → (key : PolygonKey)
       → is_unknown key_cmp (map (λ k. k) bodies) (map (λ k. k) sides) key
-      ≡ (has_body county key && not (stands_in key_cmp key (polygons_along county.chains)))
+      ≡ (has_body county key && not (contains key_cmp key (polygons_along county.chains)))
   same_unknown bodies e key =
-      let here : stands_in key_cmp key (map (λ k. k) bodies) ≡ has_body county key =
-      ap (stands_in key_cmp key) (map-id bodies ∙ e) ∙ bodied key county.polygons in
-      let there : stands_in key_cmp key (map (λ k. k) sides) ≡ stands_in key_cmp key (polygons_along county.chains) =
-      ap (stands_in key_cmp key) (map-id sides ∙ met) ∙ stands_in-distinct key_keys key (polygons_along county.chains) in
+      let here : contains key_cmp key (map (λ k. k) bodies) ≡ has_body county key =
+      ap (contains key_cmp key) (map-id bodies ∙ e) ∙ bodied key county.polygons in
+      let there : contains key_cmp key (map (λ k. k) sides) ≡ contains key_cmp key (polygons_along county.chains) =
+      ap (contains key_cmp key) (map-id sides ∙ met) ∙ contains-distinct key_keys key (polygons_along county.chains) in
       λ i. here i && not (there i)

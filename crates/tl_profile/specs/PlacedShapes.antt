@@ -17,7 +17,7 @@ whole_shape county shape = points_along county (placed_directed shape)
 
 -- the shape's first two points have these ranks, and either_way states whether the shape is the same from both
 -- ends
-pub record HasHead (county : County) (shape : PlacedShape) : Type 0 where
+pub record HasFirstPoints (county : County) (shape : PlacedShape) : Type 0 where
   pub first : Coordinates
   pub second : Coordinates
   pub rest : List Coordinates

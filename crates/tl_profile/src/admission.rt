@@ -18,7 +18,7 @@ use std::marker::Model;
 #[derive(Drop)]
 pub struct Admitted<C: Chart = County> {
     chart: C,
-    order: ShapeOrder,
+    shape_order: ShapeOrder,
 }
 
 impl<C: Chart> Model for Admitted<C> {
@@ -28,18 +28,18 @@ impl<C: Chart> Model for Admitted<C> {
 
     ghost view = { λ a. a.chart };
 
-    ghost invariant = { λ a. IsInProfile (C.county a.chart) × IsShapeOrder (C.county a.chart) a.order };
+    ghost invariant = { λ a. IsInProfile (C.county a.chart) × IsShapeOrder (C.county a.chart) a.shape_order };
 }
 
 impl<C: Chart> Admitted<C> {
     /// Makes an admitted county from a county that is known to be in the profile, and the order of its chains by their shapes.
-    pub fn known(chart: C, order: ShapeOrder) -> Admitted<C>
+    pub fn known(chart: C, shape_order: ShapeOrder) -> Admitted<C>
         requires profile { IsInProfile (C.county chart) }
-        requires shapes { IsShapeOrder (C.county chart) order }
+        requires shapes { IsShapeOrder (C.county chart) shape_order }
         ensures value { result ≡ chart }
         ensures same { C.county result ≡ C.county chart }
     {
-        Admitted { chart, order }
+        Admitted { chart, shape_order }
     }
 
     /// The county's chart.
@@ -51,10 +51,10 @@ impl<C: Chart> Admitted<C> {
     }
 
     /// The chains in the order of their shapes.
-    pub fn order(&self) -> &ShapeOrder
+    pub fn shape_order(&self) -> &ShapeOrder
         ensures { IsShapeOrder (C.county self.now) result.now }
     {
-        &self.order
+        &self.shape_order
     }
 
     /// Returns the county's chart.
@@ -73,7 +73,7 @@ impl<C: Chart> Admitted<C> {
         ensures in_profile { IsInProfile (C.county result.0) }
         ensures shapes { IsShapeOrder (C.county result.0) result.1 }
     {
-        (self.chart, self.order)
+        (self.chart, self.shape_order)
     }
 }
 
@@ -104,15 +104,15 @@ impl<'a> Admitted<CountyIn<'a>> {
 /// Returns the order of the chains by their shapes, which it needs to count the choices.
 fn check_choices<C: Chart>(alloc: Global, chart: &C) -> Result<ShapeOrder, ProfileFault>
     requires { AreAllOnSides (C.county chart.now) }
-    ensures order { IfOk result (IsShapeOrder (C.county chart.now)) }
+    ensures shape_order { IfOk result (IsShapeOrder (C.county chart.now)) }
     ensures within { IfOk result (λ _. IsInProfile (C.county chart.now)) }
     ensures broken { IfErr result (λ fault. fault ≢ Memory → IsFirstBrokenClause (C.county chart.now) fault) }
 {
-    let order = order_by_shape(alloc, chart)?;
-    if order.choices() > MOST_CHOICES {
+    let shape_order = order_by_shape(alloc, chart)?;
+    if shape_order.choices() > MOST_CHOICES {
         return Err(ProfileFault::TooSymmetric);
     }
-    Ok(order)
+    Ok(shape_order)
 }
 
 /// Admits a county, however it is stored, if it is in the profile.
@@ -146,8 +146,8 @@ pub fn admit_linked<C: Chart + Drop>(
     ensures succeeds { IsInProfile (C.county chart) → IfErr result (λ fault. fault ≡ Memory) }
 {
     refuse_without_chain(without_chain)?;
-    let order = check_choices(alloc, &chart)?;
-    Ok(Admitted { chart, order })
+    let shape_order = check_choices(alloc, &chart)?;
+    Ok(Admitted { chart, shape_order })
 }
 
 /// Admits a county if it is in the profile.

@@ -7,7 +7,7 @@ ghost use Rattle.std.specs.List.{AllByRecursion};
 ghost use Rattle.std.specs.Prelude.{◌≡◌, ◌<◌, ◌≤◌, ◌+◌, ◌*◌, ◌^◌, [], ◌∷◌, ◌++◌, cond, length, map, min, reverse, suc, IfOk, OnOk};
 ghost use Rattle.ordered_lists.specs.Orders.{IsInOrder};
 ghost use Rattle.county_chart.specs.Choices.{alike_first, choices, counted_choices, is_either_way, is_first, is_settled, most_choices, open_places, open_place_at, ways_at};
-ghost use Rattle.tl_profile.specs.PlacedShapes.{HasHead, placed_directed, whole_shape};
+ghost use Rattle.tl_profile.specs.PlacedShapes.{HasFirstPoints, placed_directed, whole_shape};
 ghost use Rattle.county_chart.specs.ShapeOrder.{AreInShapeOrder};
 ghost use Rattle.tl_shape.specs.PointOrder.{points_cmp};
 
@@ -75,8 +75,8 @@ impl OpenChoices {
 
 /// Whether a shape is the same as the first of those after it.
 fn is_twin<C: Chart>(chart: &C, shape: &PlacedShape, later: &[PlacedShape]) -> bool
-    requires shape { HasHead (C.county chart.now) shape.now }
-    requires later { AllByRecursion (HasHead (C.county chart.now)) later.now }
+    requires shape { HasFirstPoints (C.county chart.now) shape.now }
+    requires later { AllByRecursion (HasFirstPoints (C.county chart.now)) later.now }
     ensures { result ≡ is_first points_cmp (whole_shape (C.county chart.now) shape.now) (map (whole_shape (C.county chart.now)) later.now) }
 {
     match later.split_first() {
@@ -93,8 +93,8 @@ fn place_in_order<C: Chart>(
     place: u32,
     alike: u32,
 ) -> OpenPlace
-    requires shape { HasHead (C.county chart.now) shape.now }
-    requires later { AllByRecursion (HasHead (C.county chart.now)) later.now }
+    requires shape { HasFirstPoints (C.county chart.now) shape.now }
+    requires later { AllByRecursion (HasFirstPoints (C.county chart.now)) later.now }
     requires in_order { IsInOrder points_cmp (whole_shape (C.county chart.now) shape.now ∷ map (whole_shape (C.county chart.now)) later.now) }
     requires alike { alike ≡ alike_first points_cmp (map (whole_shape (C.county chart.now)) later.now) }
     requires few { length later.now + 1 < 2 ^ 32 }
@@ -116,7 +116,7 @@ pub(crate) fn find_choices<C: Chart>(
     chart: &C,
     shapes: &[PlacedShape],
 ) -> Result<OpenChoices, AllocError>
-    requires heads { AllByRecursion (HasHead (C.county chart.now)) shapes.now }
+    requires heads { AllByRecursion (HasFirstPoints (C.county chart.now)) shapes.now }
     requires order { AreInShapeOrder (C.county chart.now) (map placed_directed shapes.now) }
     ensures count { IfOk result (λ found. found.count ≡ counted_choices (C.county chart.now)) }
     ensures places { choices (C.county chart.now) ≤ most_choices → IfOk result (λ found.

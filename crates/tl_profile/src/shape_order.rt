@@ -2,7 +2,7 @@
 
 ghost use Rattle.std.specs.List.{AllByRecursion};
 ghost use Rattle.std.specs.Prelude.{◌≡◌, map, IfOk};
-ghost use Rattle.tl_profile.specs.PlacedShapes.{HasHead, placed_directed};
+ghost use Rattle.tl_profile.specs.PlacedShapes.{HasFirstPoints, placed_directed};
 ghost use Rattle.county_chart.specs.ShapeOrder.{AreInShapeOrder, IsShapeOrder};
 
 use crate::open_places::find_choices;
@@ -43,7 +43,7 @@ impl ShapeOrder {
         chart: &C,
         shapes: &[PlacedShape],
     ) -> Result<ShapeOrder, AllocError>
-        requires heads { AllByRecursion (HasHead (C.county chart.now)) shapes.now }
+        requires heads { AllByRecursion (HasFirstPoints (C.county chart.now)) shapes.now }
         requires order { AreInShapeOrder (C.county chart.now) (map placed_directed shapes.now) }
         ensures { IfOk result (IsShapeOrder (C.county chart.now)) }
     {

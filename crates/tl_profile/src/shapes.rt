@@ -6,7 +6,7 @@
 ghost use Rattle.std.specs.List.{AllByRecursion};
 ghost use Rattle.std.specs.Prelude.{◌≡◌, ◌<◌, length, map, reverse, IfOk, IsPermutation};
 ghost use Rattle.ordered_lists.specs.Orders.{IsInOrder};
-ghost use Rattle.tl_profile.specs.PlacedShapes.{HasHead, beyond_first_cmp, placed_cmp, placed_key_cmp, placed_directed};
+ghost use Rattle.tl_profile.specs.PlacedShapes.{HasFirstPoints, beyond_first_cmp, placed_cmp, placed_key_cmp, placed_directed};
 ghost use Rattle.county_chart.specs.ShapeOrder.{AreInShapeOrder, along_shape, along_shapes, points_along};
 ghost use Rattle.county_chart.specs.Shapes.{points_at};
 ghost use Rattle.tl_shape.specs.PointOrder.{points_cmp};
@@ -70,7 +70,7 @@ fn compare_reverse<C: Chart>(chart: &C, place: u32) -> Ordering
 fn placed_shape<C: Chart>(chart: &C, place: u32) -> PlacedShape
     requires { place < length (C.county chart.now).chains }
     ensures directed { placed_directed result ≡ along_shape (C.county chart.now) place }
-    ensures head { HasHead (C.county chart.now) result }
+    ensures head { HasFirstPoints (C.county chart.now) result }
 {
     let reversed = compare_reverse(chart, place);
     let turned = reversed.is_lt();
@@ -88,7 +88,7 @@ fn placed_shape<C: Chart>(chart: &C, place: u32) -> PlacedShape
 /// The chains with the beginnings of their shapes, in the order of their places.
 fn placed_shapes<C: Chart>(alloc: Global, chart: &C) -> Result<Vec<PlacedShape>, AllocError>
     ensures by_shape { IfOk result (λ shapes. map placed_directed shapes.items ≡ along_shapes (C.county chart.now)) }
-    ensures heads { IfOk result (λ shapes. AllByRecursion (HasHead (C.county chart.now)) shapes.items) }
+    ensures heads { IfOk result (λ shapes. AllByRecursion (HasFirstPoints (C.county chart.now)) shapes.items) }
 {
     let count = chart.chain_count();
     let mut shapes = Vec::with_capacity(alloc, count)?;
@@ -154,7 +154,7 @@ pub(crate) fn ordered_shapes<C: Chart>(
     chart: &C,
 ) -> Result<Vec<PlacedShape>, AllocError>
     ensures order { IfOk result (λ shapes. AreInShapeOrder (C.county chart.now) (map placed_directed shapes.items)) }
-    ensures heads { IfOk result (λ shapes. AllByRecursion (HasHead (C.county chart.now)) shapes.items) }
+    ensures heads { IfOk result (λ shapes. AllByRecursion (HasFirstPoints (C.county chart.now)) shapes.items) }
 {
     let mut shapes = placed_shapes(alloc, chart)?;
     order_shapes(chart, &mut shapes);

@@ -2,7 +2,7 @@
 use Rattle.arranged_county.proofs.Common.{Bool, IsPermutation-sym, apart-permutation, apart_from_sorted, filter-filtered, in_order-in_order}
 use Rattle.arranged_county.proofs.Common.{County, Fields8, Greater, IsTrue, Option, filter, length, links_at, ltb-true, nat_cmp, nat_keys}
 use Rattle.arranged_county.proofs.Common.{Equal, Known, List, None, Some, arith, false, is_gt, lands, nat_le, ranked, refl, subst, times, ℕ}
-use Rattle.arranged_county.proofs.Common.{IsCounty, Less, Ordering, flat_map, in_order, lands_at, link_cmp, link_keys, slice_get, stands_in}
+use Rattle.arranged_county.proofs.Common.{IsCounty, Less, Ordering, flat_map, in_order, lands_at, link_cmp, link_keys, slice_get, contains}
 use Rattle.arranged_county.proofs.Common.{IsInOrder, ap₂, eight_land, filter_map, leb_tells, length-map, links_with, map-append, true≢false}
 use Rattle.arranged_county.proofs.Common.{IsPermutation, all_at_places, append-nil, append_assoc, cons_option, links_up_to, range_with_len}
 use Rattle.arranged_county.proofs.Common.{IsPermutation-map, IsPermutation-trans, all_weaker, in_order-is_permutation, in_order-permutation}
@@ -68,7 +68,7 @@ module _ (county : County) (is : IsCounty county) (f : Fields8 → Fields8) (pla
       (groups-permutation eight_land numbers county.links
       (apart-permutation nat_keys numbers (lands county) (IsPermutation-sym (lands county) numbers lands_there)
       (apart_from_sorted nat_keys (lands county) is.ascending.landmarks))
-      (all_weaker (λ (l : Fields8). IsTrue (stands_in nat_cmp l.land (lands county))) (λ l. Known nat_cmp numbers l.land)
+      (all_weaker (λ (l : Fields8). IsTrue (contains nat_cmp l.land (lands county))) (λ l. Known nat_cmp numbers l.land)
       (λ l t. known-permutation_to nat_keys l.land (lands county) numbers lands_there (ltb-true 0 (times nat_cmp l.land (lands county)) t))
       county.links is.closed.link_lands)))
 

@@ -6,7 +6,7 @@ use Rattle.arranged_county.proofs.Common.{AreSortedLandmarks, has_repeat-apart, 
 use Rattle.arranged_county.proofs.Common.{Body7, DirectedChain, IsPermutation, classed_place, link_part_cmp, numbered_links, range_with_len}
 use Rattle.arranged_county.proofs.Common.{County, IsPermutation-trans, classed_landmark_cmp, in_order-is_permutation, length-range_with_len}
 use Rattle.arranged_county.proofs.Common.{Fields8, IsApart, all_map, in_order, lands_at, link_cmp, ltb-true, nat_keys, numbered, on_total}
-use Rattle.arranged_county.proofs.Common.{IsCounty, Ordering, arranges, link_part, own_links, slice_cmp, slice_get, stands_in, unwrap_or}
+use Rattle.arranged_county.proofs.Common.{IsCounty, Ordering, arranges, link_part, own_links, slice_cmp, slice_get, contains, unwrap_or}
 use Rattle.arranged_county.proofs.Common.{IsInOrder, Known, among-get, bodies_at, link_keys, links_with, option_map, then_assoc}
 use Rattle.arranged_county.proofs.Common.{IsPermutation-map, IsPermutation-sym, apart-permutation, apart_from_sorted, length_permutation, ℕ}
 use Rattle.arranged_county.proofs.Common.{List, Option, arith, false, image, key_cmp, lands, length, map-map, nat_cmp, subst, times, up_to}
@@ -119,7 +119,7 @@ module _ (county : County) (arrangement : List DirectedChain) (is : IsCounty cou
 
   relinks_known : AllByRecursion (λ (l : Fields8). Known nat_cmp (lands county) l.land) relinks
   relinks_known = all_map (λ (l : Fields8). Known nat_cmp (lands county) l.land) (relinked (new_keys county order)) county.links
-      (all_weaker (λ (l : Fields8). IsTrue (stands_in nat_cmp l.land (lands county))) (λ l. Known nat_cmp (lands county) l.land)
+      (all_weaker (λ (l : Fields8). IsTrue (contains nat_cmp l.land (lands county))) (λ l. Known nat_cmp (lands county) l.land)
       (λ l t. ltb-true 0 (times nat_cmp l.land (lands county)) t) county.links is.closed.link_lands)
 
   module _ (links : List Fields8) (sorted : links ≡ in_order link_cmp (map (link_under polygons (lands county)) county.links)) where

@@ -3,7 +3,7 @@ use Rattle.arranged_county.proofs.Common.{AreClasses, AreWhole, Arrangement, IsK
 use Rattle.arranged_county.proofs.Common.{AreReadAt, County, IsInOrder, key_place, option_map, ranked_at, ranked_cmp, slice_cmp, then_assoc}
 use Rattle.arranged_county.proofs.Common.{Body5, apart-permutation, apart_from_sorted, first_seen_after, has_repeat-apart, name_content_cmp}
 use Rattle.arranged_county.proofs.Common.{Bool, Option, Use, arith, false, feats, length, map-map, nat_cmp, placed, rank_of, subst, use_cmp}
-use Rattle.arranged_county.proofs.Common.{Chain, IsCounty, Ordering, arranges, flat_map, ltb-true, nat_keys, on_total, slice_get, stands_in}
+use Rattle.arranged_county.proofs.Common.{Chain, IsCounty, Ordering, arranges, flat_map, ltb-true, nat_keys, on_total, slice_get, contains}
 use Rattle.arranged_county.proofs.Common.{DirectedChain, all_uses-strict, arranged_tlids, arrangement_of, names_in_order, range_with_len, ℕ}
 use Rattle.arranged_county.proofs.Common.{IsApart, IsPermutation, classed_place, name_body_cmp, name_key_keys, name_keys_cmp, ordering_then}
 use Rattle.arranged_county.proofs.Common.{IsPermutation-map, IsPermutation-trans, append_assoc, feats_along_arrangement, length_permutation}
@@ -19,10 +19,10 @@ use Rattle.canonical_form.proofs.{Arrangements.Carrying.names_permutation, Arran
 module _ {K : Type 0} {cmp : K → K → Ordering} (o : IsKeyOrder cmp) where
   seen_apart : (seen keys : List K) → IsApart cmp (seen ++ keys) → first_seen_after cmp seen keys ≡ seen ++ keys
   seen_apart seen [] a = sym (append-nil seen)
-  seen_apart seen (k ∷ keys) a = go (stands_in cmp k seen) refl
+  seen_apart seen (k ∷ keys) a = go (contains cmp k seen) refl
       (seen_apart (seen ++ (k ∷ [])) keys (subst (IsApart cmp) (sym (append_assoc seen (k ∷ []) keys)) a))
     where
-      go : (b : Bool) → stands_in cmp k seen ≡ b → first_seen_after cmp (seen ++ (k ∷ [])) keys ≡ (seen ++ (k ∷ [])) ++ keys
+      go : (b : Bool) → contains cmp k seen ≡ b → first_seen_after cmp (seen ++ (k ∷ [])) keys ≡ (seen ++ (k ∷ [])) ++ keys
           → cond b (first_seen_after cmp seen keys) (first_seen_after cmp (seen ++ (k ∷ [])) keys) ≡ seen ++ (k ∷ keys)
       go true e ih = absurd (let twice = times-append o k seen (k ∷ keys) in let here = times-yes o k k keys refl in
           let some = ltb-true 0 _ e in let once = a k in omega (arith, twice, here, some, once))

@@ -3,7 +3,7 @@ use Rattle.arranged_county.proofs.Common.{AllByRecursion, Bool, Greater, IsTotal
 use Rattle.arranged_county.proofs.Common.{all_among, ap, ap₂, arith, cond, false, false_from_ne_true, filter, first_seen_after, from_one}
 use Rattle.arranged_county.proofs.Common.{inl, inr, is_eq, known_after, known_within, length, length-append, length-map, less, ltb-true}
 use Rattle.arranged_county.proofs.Common.{map, nat_cmp, nat_cmp_total, nat_keys, ordering_reverse, ordering_then, place-append, place-new}
-use Rattle.arranged_county.proofs.Common.{place_behind, place_from, rank_of, refl, seen_stays, slice_cmp, stands_in, subst, suc, sym}
+use Rattle.arranged_county.proofs.Common.{place_behind, place_from, rank_of, refl, seen_stays, slice_cmp, contains, subst, suc, sym}
 use Rattle.arranged_county.proofs.Common.{tied_itself, times, times-append, to_position, true, under_use, unknown_at_end, use_cmp, use_keys}
 use Rattle.arranged_county.proofs.Common.{uses_of_name, zero, ℕ, ◌++◌, ◌+◌, ◌<◌, ◌==◌, ◌∙◌, ◌∷◌, ◌≡◌, ◌≤◌, ◌⊎◌}
 use Rattle.canonical_form.proofs.Common.{Among, among-map, differ_apart, eq-eqb, known-here, known-left, known-right, lists_keys, nat_lt}
@@ -179,7 +179,7 @@ ranks_decide seen (u ∷ us) strict f g nf ng =
     go (inr a) (inr b) ih jh =
         ap₂ (slice_cmp use_cmp) (other_use u us f (λ s. differ_apart nat_keys f u.1 a (sym s)))
         (other_use u us g (λ s. differ_apart nat_keys g u.1 b (sym s)))
-        ∙ choose (stands_in nat_cmp u.1 seen) ih (jh (more f nf a) (more g ng b))
+        ∙ choose (contains nat_cmp u.1 seen) ih (jh (more f nf a) (more g ng b))
       where
         more : (k : ℕ) → times nat_cmp k seen ≡ 0 → is_eq (nat_cmp k u.1) ≡ false → times nat_cmp k (seen ++ (u.1 ∷ [])) ≡ 0
         more k n ne = times-append nat_keys k seen (u.1 ∷ []) ∙ ap₂ (λ x y. x + y) n (times-no nat_keys k u.1 [] ne)

@@ -2,9 +2,9 @@
 use Rattle.arranged_county.proofs.Common.{AreApart, ArePlaced, Bool, Err, IfOk, IfSome, IsKeyOrder, List, None, Ok, OnOk, Option, Ordering}
 use Rattle.arranged_county.proofs.Common.{Result, Some, [], any_within, ap, arith, false, get_or, get_or-set_other, get_or-set_same, inl}
 use Rattle.arranged_county.proofs.Common.{inr, is_eq, is_some, known_at, length, length-append, length-set, lt-ltb, none-some, none_within}
-use Rattle.arranged_county.proofs.Common.{place_found, position, refl, same_Some, set, slice_get, stands_in, subst, suc, sym, times}
+use Rattle.arranged_county.proofs.Common.{place_found, position, refl, same_Some, set, slice_get, contains, subst, suc, sym, times}
 use Rattle.arranged_county.proofs.Common.{to_position, true, zero, ℕ, ◌%◌, ◌++◌, ◌+◌, ◌<◌, ◌∙◌, ◌∷◌, ◌≡◌, ◌⊎◌}
-use Rattle.canonical_form.proofs.Common.{any-stands_in, false≢true, list_any, same-itself}
+use Rattle.canonical_form.proofs.Common.{any-contains, false≢true, list_any, same-itself}
 
 module _ {K : Type 0} where
   -- an element of a list with one more key is that key, or was in the list before
@@ -90,18 +90,18 @@ module _ {K : Type 0} where
 
 module _ {K : Type 0} {cmp : K → K → Ordering} (o : IsKeyOrder cmp) where
   -- a key at a place is in the list
-  pub there_stands : (ks : List K) (k : K) (place : ℕ) → slice_get ks place ≡ Some k → stands_in cmp k ks ≡ true
-  there_stands ks k place e = lt-ltb 0 (times cmp k ks) (known_at o ks place k e)
+  pub there_contained : (ks : List K) (k : K) (place : ℕ) → slice_get ks place ≡ Some k → contains cmp k ks ≡ true
+  there_contained ks k place e = lt-ltb 0 (times cmp k ks) (known_at o ks place k e)
 
   -- a key that isn't in the list is at no place
-  pub nowhere : (ks : List K) (k : K) → stands_in cmp k ks ≡ false → (place : ℕ) → slice_get ks place ≡ Some k → ⊥
-  nowhere ks k none place e = false≢true (sym none ∙ there_stands ks k place e)
+  pub nowhere : (ks : List K) (k : K) → contains cmp k ks ≡ false → (place : ℕ) → slice_get ks place ≡ Some k → ⊥
+  nowhere ks k none place e = false≢true (sym none ∙ there_contained ks k place e)
 
   -- a key in the list has a first place
-  found_first : (ks : List K) (k : K) → stands_in cmp k ks ≡ true
+  found_first : (ks : List K) (k : K) → contains cmp k ks ≡ true
       → (place : ℕ) × (Some place ≡ position (λ other. is_eq (cmp k other)) ks) × (slice_get ks place ≡ Some k)
   found_first ks k there =
-      let any : list_any (λ other. is_eq (cmp k other)) ks ≡ true = any-stands_in (λ x y. is_eq (cmp x y)) cmp (λ x y. refl) k ks ∙ there in
+      let any : list_any (λ other. is_eq (cmp k other)) ks ≡ true = any-contains (λ x y. is_eq (cmp x y)) cmp (λ x y. refl) k ks ∙ there in
       let at = to_position (λ other. is_eq (cmp k other)) ks (any_within (λ other. is_eq (cmp k other)) ks any) in (
         _,
         at,
@@ -112,17 +112,17 @@ module _ {K : Type 0} {cmp : K → K → Ordering} (o : IsKeyOrder cmp) where
   -- if a place is found for every key in the list, and only places of the key are found, it is the first
   pub stated_first : (ks : List K) (k : K) (stated : Option ℕ) → IfSome stated (λ place. slice_get ks place ≡ Some k)
       → ((place : ℕ) → slice_get ks place ≡ Some k → stated ≡ Some place)
-      → (stated ≡ position (λ other. is_eq (cmp k other)) ks) × (is_some stated ≡ stands_in cmp k ks)
-  stated_first ks k stated found each = go (stands_in cmp k ks) refl stated found each
+      → (stated ≡ position (λ other. is_eq (cmp k other)) ks) × (is_some stated ≡ contains cmp k ks)
+  stated_first ks k stated found each = go (contains cmp k ks) refl stated found each
     where
-      nowhere_first : stands_in cmp k ks ≡ false → (r : Option ℕ) → position (λ other. is_eq (cmp k other)) ks ≡ r
+      nowhere_first : contains cmp k ks ≡ false → (r : Option ℕ) → position (λ other. is_eq (cmp k other)) ks ≡ r
           → None ≡ position (λ other. is_eq (cmp k other)) ks
       nowhere_first none None e = sym e
       nowhere_first none (Some place) e = absurd (nowhere ks k none place
           (subst (λ found. IfSome found (λ place. slice_get ks place ≡ Some k)) e
           (place_found (λ x y. is_eq (cmp x y)) cmp (λ x y. refl) o k ks)))
 
-      go : (b : Bool) → stands_in cmp k ks ≡ b → (r : Option ℕ) → IfSome r (λ place. slice_get ks place ≡ Some k)
+      go : (b : Bool) → contains cmp k ks ≡ b → (r : Option ℕ) → IfSome r (λ place. slice_get ks place ≡ Some k)
           → ((place : ℕ) → slice_get ks place ≡ Some k → r ≡ Some place)
           → (r ≡ position (λ other. is_eq (cmp k other)) ks) × (is_some r ≡ b)
       go true e r f g =
@@ -133,16 +133,16 @@ module _ {K : Type 0} {cmp : K → K → Ordering} (o : IsKeyOrder cmp) where
       go false e (Some place) f g = absurd (nowhere ks k e place f)
 
   -- an added key comes after the others
-  pub added_last : (ks : List K) (k : K) → stands_in cmp k ks ≡ false
+  pub added_last : (ks : List K) (k : K) → contains cmp k ks ≡ false
       → Some (length ks) ≡ position (λ other. is_eq (cmp k other)) (ks ++ k ∷ [])
   added_last ks k none =
-      let any : list_any (λ other. is_eq (cmp k other)) ks ≡ false = any-stands_in (λ x y. is_eq (cmp x y)) cmp (λ x y. refl) k ks ∙ none in
+      let any : list_any (λ other. is_eq (cmp k other)) ks ≡ false = any-contains (λ x y. is_eq (cmp x y)) cmp (λ x y. refl) k ks ∙ none in
       let last = (none_within (λ other. is_eq (cmp k other)) ks k any (same-itself o k)).1 in
       let count = length-append ks (k ∷ []) in
       ap Some (sym last) ∙ to_position (λ other. is_eq (cmp k other)) (ks ++ (k ∷ [])) (omega (arith, last, count))
 
   -- the same if a call returns its place
-  pub added_first : {E : Type 0} (r : Result ℕ E) (ks new : List K) (k : K) → stands_in cmp k ks ≡ false → OnOk r (new ≡ ks ++ k ∷ [])
+  pub added_first : {E : Type 0} (r : Result ℕ E) (ks new : List K) (k : K) → contains cmp k ks ≡ false → OnOk r (new ≡ ks ++ k ∷ [])
       → IfOk r (λ place. place ≡ length ks) → IfOk r (λ place. Some place ≡ position (λ other. is_eq (cmp k other)) new)
   added_first (Ok place) ks new k none added at =
       ap Some at ∙ added_last ks k none ∙ ap (position (λ other. is_eq (cmp k other))) (sym added)

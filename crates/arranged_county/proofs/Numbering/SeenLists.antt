@@ -1,12 +1,12 @@
 -- The keys first seen along a list that is walked piece by piece.
 use Rattle.arranged_county.proofs.Common.{Bool, List, Option, Ordering, [], ap, ap₂, arith, cond, drop, drop_all, false, first_seen_after}
-use Rattle.arranged_county.proofs.Common.{option_to_list, refl, slice_get, stands_in, suc, sym, true, zero, ℕ, ◌++◌, ◌+◌, ◌∙◌, ◌∷◌, ◌≡◌}
+use Rattle.arranged_county.proofs.Common.{option_to_list, refl, slice_get, contains, suc, sym, true, zero, ℕ, ◌++◌, ◌+◌, ◌∙◌, ◌∷◌, ◌≡◌}
 
 module _ {K : Type 0} (cmp : K → K → Ordering) where
   -- one list after another
   pub seen_append : (seen xs ys : List K) → first_seen_after cmp seen (xs ++ ys) ≡ first_seen_after cmp (first_seen_after cmp seen xs) ys
   seen_append seen [] ys = refl
-  seen_append seen (x ∷ xs) ys = go (stands_in cmp x seen) (seen_append seen xs ys) (seen_append (seen ++ (x ∷ [])) xs ys)
+  seen_append seen (x ∷ xs) ys = go (contains cmp x seen) (seen_append seen xs ys) (seen_append (seen ++ (x ∷ [])) xs ys)
     where
       go : (b : Bool) → first_seen_after cmp seen (xs ++ ys) ≡ first_seen_after cmp (first_seen_after cmp seen xs) ys
           → first_seen_after cmp (seen ++ (x ∷ [])) (xs ++ ys) ≡ first_seen_after cmp (first_seen_after cmp (seen ++ (x ∷ [])) xs) ys

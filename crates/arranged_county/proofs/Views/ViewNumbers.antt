@@ -1,6 +1,6 @@
 -- The numbers from 1.
 use Rattle.arranged_county.proofs.Common.{None, Some, all_among, among-get, among_known, ap, arith, false, false_from_ne_true, inl, inr}
-use Rattle.arranged_county.proofs.Common.{length-range_with_len, lt-ltb, ltb-true, nat_cmp, nat_keys, range_with_len, slice_get, stands_in}
+use Rattle.arranged_county.proofs.Common.{length-range_with_len, lt-ltb, ltb-true, nat_cmp, nat_keys, range_with_len, slice_get, contains}
 use Rattle.arranged_county.proofs.Common.{suc, sym, times, true, up_to, zero, ℕ, ◌+◌, ◌-◌, ◌<◌, ◌∙◌, ◌≡◌, ◌≤◌, ◌⊎◌}
 use Rattle.canonical_form.proofs.Common.{known_is_among, range_bounds, slice_get_past}
 
@@ -15,14 +15,14 @@ get_up_to n p h = get_range 1 n p h ∙ ap Some (let t : 1 + p ≡ p + 1 = omega
 pub none_up_to : (n p : ℕ) → n ≤ p → slice_get (up_to n) p ≡ None
 none_up_to n p h = slice_get_past (up_to n) p (let len = length-range_with_len 1 n in omega (arith, len, h))
 
-pub known_up_to : (n k : ℕ) → 0 < k → k ≤ n → stands_in nat_cmp k (up_to n) ≡ true
+pub known_up_to : (n k : ℕ) → 0 < k → k ≤ n → contains nat_cmp k (up_to n) ≡ true
 known_up_to n k low high =
     let there : slice_get (up_to n) (k - 1) ≡ Some k =
     get_up_to n (k - 1) (omega (arith, low, high)) ∙ ap Some (let t : k - 1 + 1 ≡ k = omega (arith, low) in t) in
     lt-ltb 0 (times nat_cmp k (up_to n)) (among_known nat_keys k (up_to n) (among-get (up_to n) (k - 1) k there))
 
-pub unknown_up_to : (n k : ℕ) → (k ≡ 0) ⊎ (n < k) → stands_in nat_cmp k (up_to n) ≡ false
-unknown_up_to n k h = false_from_ne_true (stands_in nat_cmp k (up_to n)) (λ e. out h
+pub unknown_up_to : (n k : ℕ) → (k ≡ 0) ⊎ (n < k) → contains nat_cmp k (up_to n) ≡ false
+unknown_up_to n k h = false_from_ne_true (contains nat_cmp k (up_to n)) (λ e. out h
     (all_among (λ j. (1 ≤ j) × (j < 1 + n)) k (up_to n) (range_bounds 1 n)
     (known_is_among nat_keys k (up_to n) (ltb-true 0 (times nat_cmp k (up_to n)) e))))
   where

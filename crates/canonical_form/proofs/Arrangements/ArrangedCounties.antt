@@ -1,13 +1,13 @@
 -- The arranged county is a county, and all its numbers are canonical for the arrangement's choice.
 use Rattle.canonical_form.proofs.Common.{AllByRecursion, IsPermutation-sym, IsStrictlySortedBy, in_order-is_permutation, landmarks_in_order}
-use Rattle.canonical_form.proofs.Common.{AllKeysStandIn, arranged_tlids, carried_polygon, in_order-equal, known_is_among, position_or_len}
-use Rattle.canonical_form.proofs.Common.{AllStandIn, IsArranged, IsKeyOrder, PolygonKey, all_weaker, first_seen, same_or_not, under_cenid}
+use Rattle.canonical_form.proofs.Common.{AllKeysContained, arranged_tlids, carried_polygon, in_order-equal, known_is_among, position_or_len}
+use Rattle.canonical_form.proofs.Common.{AllContained, IsArranged, IsKeyOrder, PolygonKey, all_weaker, first_seen, same_or_not, under_cenid}
 use Rattle.canonical_form.proofs.Common.{Among, Body7, BodyP, Chain, Grows, Known, arith, false, feats, image, is_eq, is_gt, placed, rights}
 use Rattle.canonical_form.proofs.Common.{Arrangement, County, IsAscending, among-unmap, among_known, nodes_along, renaming_of, uses_of_name}
 use Rattle.canonical_form.proofs.Common.{Arranges, IsInOrder, all_among, among-map, each_from, keys_known, known_all, length-map, link_keys}
 use Rattle.canonical_form.proofs.Common.{Carries, HasOneCenidEach, carried_landmark, landmark_key_cmp, strict_from_order, times-permutation}
 use Rattle.canonical_form.proofs.Common.{Fields8, IsApart, IsTrue, Option, [], all_map, key_cmp, length, lt-ltb, map-map, nat_cmp, times-no}
-use Rattle.canonical_form.proofs.Common.{IsCounty, List, Ordering, all_uses, arranged, in_order, map_agree, slice_get, stands_in, times-yes}
+use Rattle.canonical_form.proofs.Common.{IsCounty, List, Ordering, all_uses, arranged, in_order, map_agree, slice_get, contains, times-yes}
 use Rattle.canonical_form.proofs.Common.{IsPermutation, inl, link_part_keys, links_relinked, names_in_order, nodes_in_order, polygons_along}
 use Rattle.canonical_form.proofs.Common.{Some, ap, inr, lands, map, on, refl, subst, sym, times, up_to, ℕ, ◌∙◌, ◌∷◌, ◌≡◌, ◌≤◌, ◌⊎◌}
 use Rattle.canonical_form.proofs.Common.{all-in_order, carried_link, carried_name, in_order-map, landmark_key, name_key_cmp, polygon_keys}
@@ -73,7 +73,7 @@ ordered_kept {V} {P} {cmp} o f part new_part entries kept =
     (in_order-in_order (on_total (key_with part) o.total) entries)
 
 module _ (county : County) (arrangement : Arrangement) (is : IsCounty county) (arranges : Arranges arrangement county)
-    (sides : AllKeysStandIn (polygons_along county.chains) (polygon_keys county)) where
+    (sides : AllKeysContained (polygons_along county.chains) (polygon_keys county)) where
   h : Carries (renaming_of county arrangement) county (arranged county arrangement)
   h = arrangement_carries county arrangement is arranges sides
 
@@ -124,8 +124,8 @@ module _ (county : County) (arrangement : Arrangement) (is : IsCounty county) (a
           k.2 ∙ ap new_key (place-injective key_keys 1 (polygons_in_order county arrangement) k.0 j.0 (known k.0 k.1) (known j.0 j.1) places)
           ∙ sym j.2
 
-  on_sides : AllKeysStandIn (polygons_along (arranged county arrangement).chains) (polygon_keys (arranged county arrangement))
-  on_sides = each_from (λ k. IsTrue (stands_in key_cmp k (polygons_along (arranged county arrangement).chains)))
+  on_sides : AllKeysContained (polygons_along (arranged county arrangement).chains) (polygon_keys (arranged county arrangement))
+  on_sides = each_from (λ k. IsTrue (contains key_cmp k (polygons_along (arranged county arrangement).chains)))
       (polygon_keys (arranged county arrangement))
       (λ k m. let old = among-unmap (image key_cmp (renaming_of county arrangement).polygons) k (polygon_keys county)
       (among-permutation k (polygon_keys (arranged county arrangement))
@@ -136,7 +136,7 @@ module _ (county : County) (arrangement : Arrangement) (is : IsCounty county) (a
       let there : Known key_cmp along old.0 =
       polygons_to_placed county arrangement is arranges old.0
       (ltb-true 0 (times key_cmp old.0 (polygons_along county.chains))
-      (known_all key_keys (λ j. IsTrue (stands_in key_cmp j (polygons_along county.chains)))
+      (known_all key_keys (λ j. IsTrue (contains key_cmp j (polygons_along county.chains)))
       (polygon_keys county) sides old.0 listed)) in
       let new : Among k (map new_key along) =
       subst (λ i. Among i (map new_key along)) (sym (old.2 ∙ image_new old.0 there))
@@ -156,9 +156,9 @@ module _ (county : County) (arrangement : Arrangement) (is : IsCounty county) (a
       (λ e m. let o = from_placed county arrangement is arranges e m in
       let same : e.1.feats ≡ o.0.1.feats = ap (λ (c : Chain). c.feats) o.2.1 ∙ feats-turned o.2.0 o.0.1 in
       subst (AllByRecursion (Known nat_cmp (feats county))) (sym same)
-      (all_weaker (λ n. IsTrue (stands_in nat_cmp n (feats county))) (Known nat_cmp (feats county))
+      (all_weaker (λ n. IsTrue (contains nat_cmp n (feats county))) (Known nat_cmp (feats county))
       (λ n t. ltb-true 0 (times nat_cmp n (feats county)) t) o.0.1.feats
-      (all_among (λ d. AllStandIn (feats county) d.1.feats) o.0 county.chains is.closed.names o.1))))
+      (all_among (λ d. AllContained (feats county) d.1.feats) o.0 county.chains is.closed.names o.1))))
 
   uses_kept : (n : ℕ) → Known nat_cmp (feats county) n
       → uses_of_name (all_uses (arranged county arrangement).chains) (image nat_cmp (renaming_of county arrangement).names n) ≡ uses_of_name
@@ -202,7 +202,7 @@ module _ (county : County) (arrangement : Arrangement) (is : IsCounty county) (a
 
   relinks_known : AllByRecursion (λ (l : Fields8). Known nat_cmp (lands county) l.land) relinks
   relinks_known = all_map (λ (l : Fields8). Known nat_cmp (lands county) l.land) (relinked (new_keys county arrangement)) county.links
-      (all_weaker (λ (l : Fields8). IsTrue (stands_in nat_cmp l.land (lands county))) (λ l. Known nat_cmp (lands county) l.land)
+      (all_weaker (λ (l : Fields8). IsTrue (contains nat_cmp l.land (lands county))) (λ l. Known nat_cmp (lands county) l.land)
       (λ l t. ltb-true 0 (times nat_cmp l.land (lands county)) t) county.links is.closed.link_lands)
 
   links_ordered : IsInOrder link_cmp (arranged county arrangement).links

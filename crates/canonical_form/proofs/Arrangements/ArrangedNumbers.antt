@@ -1,13 +1,13 @@
 -- The numbers of an arranged county are small, and canonical lists keep the limits of their original lists.
-use Rattle.canonical_form.proofs.Common.{AllByRecursion, Body5, IsCanonicalThrough, county-is_county, county-within_limits, greatest_number}
-use Rattle.canonical_form.proofs.Common.{AllKeysStandIn, IsWithinLimits, [], by_type_within, chain_polygons, option_to_list, packed_by_type}
-use Rattle.canonical_form.proofs.Common.{AllStandIn, county_counts, length-append, most_records, packed_keeps, packed_sevens, packed_within}
+use Rattle.canonical_form.proofs.Common.{AllByRecursion, Body5, IsCanonicalInView, county-is_county, county-within_limits, greatest_number}
+use Rattle.canonical_form.proofs.Common.{AllKeysContained, IsWithinLimits, [], by_type_within, chain_polygons, option_to_list, packed_by_type}
+use Rattle.canonical_form.proofs.Common.{AllContained, county_counts, length-append, most_records, packed_keeps, packed_sevens, packed_within}
 use Rattle.canonical_form.proofs.Common.{Arrangement, Body7, KeepsLimits, ShowsNoMore, chain_nodes, nodes_along, polygon_keys, range_bounds}
-use Rattle.canonical_form.proofs.Common.{Arranges, IsCounty, all_both, all_known, all_unmap, county_of, key_under, known_all, stands_in, ℕ}
+use Rattle.canonical_form.proofs.Common.{Arranges, IsCounty, all_both, all_known, all_unmap, county_of, key_under, known_all, contains, ℕ}
 use Rattle.canonical_form.proofs.Common.{BodyP, GrowsFrom, HasAtMost, HasWithin, all_weaker, by_type_of, length-map, numbers_of, packed_one}
 use Rattle.canonical_form.proofs.Common.{Carries, IsLeastChoice, IsWithinLimit, arranged_list, by_type_keeps, count_of_type, polygons_along}
 use Rattle.canonical_form.proofs.Common.{Chain, IsTrue, Option, Record, arith, feats, key_on, lands, length, lt-ltb, packed, subst, times}
-use Rattle.canonical_form.proofs.Common.{County, IsSight, arranged, flat_map, key_cmp, key_keys, link_key, ltb-true, map, nat_cmp, nat_keys}
+use Rattle.canonical_form.proofs.Common.{County, IsView, arranged, flat_map, key_cmp, key_keys, link_key, ltb-true, map, nat_cmp, nat_keys}
 use Rattle.canonical_form.proofs.Common.{FitsRecord, IsAccepted, IsArranged, PolygonKey, all_pieces, packed-fits, packed_five, renaming_of}
 use Rattle.canonical_form.proofs.Common.{List, None, Some, max, suc, sym, tlids, up_to, ◌*◌, ◌+◌, ◌<◌, ◌∷◌, ◌≡◌, ◌≤◌}
 use Rattle.canonical_form.proofs.Limits.CarriedLimits.{carried_contents, carried_counts, carried_lists}
@@ -100,26 +100,26 @@ module _ (county : County) (is : IsCounty county) (in_form : IsArranged county)
       (grown_small (map (λ (k : PolygonKey). k.1) (polygons_along county.chains))
       (omega (arith, few, length-map (polygons_along county.chains) (λ (k : PolygonKey). k.1))) in_form.polygons)
 
-  key_small : (k : PolygonKey) → IsTrue (stands_in key_cmp k (polygon_keys county)) → IsSmallKey k
+  key_small : (k : PolygonKey) → IsTrue (contains key_cmp k (polygon_keys county)) → IsSmallKey k
   key_small k t =
-      let side : IsTrue (stands_in key_cmp k (polygons_along county.chains)) =
-      known_all key_keys (λ j. IsTrue (stands_in key_cmp j (polygons_along county.chains))) (polygon_keys county) in_form.on_sides k
+      let side : IsTrue (contains key_cmp k (polygons_along county.chains)) =
+      known_all key_keys (λ j. IsTrue (contains key_cmp j (polygons_along county.chains))) (polygon_keys county) in_form.on_sides k
       (ltb-true 0 (times key_cmp k (polygon_keys county)) t) in
       known_all key_keys IsSmallKey (polygons_along county.chains) polygons_small k
       (ltb-true 0 (times key_cmp k (polygons_along county.chains)) side)
 
   named_small : AllByRecursion (λ (e : ℕ × Chain). NamesSmall e.1) county.chains
-  named_small = all_weaker (λ (e : ℕ × Chain). AllStandIn (feats county) e.1.feats
+  named_small = all_weaker (λ (e : ℕ × Chain). AllContained (feats county) e.1.feats
       × (AllByRecursion IsSmall (chain_nodes e.1) × AllByRecursion IsSmallKey (chain_polygons e.1)))
       (λ e. NamesSmall e.1)
       (λ e h. (
-        all_weaker (λ n. IsTrue (stands_in nat_cmp n (feats county))) IsSmall
+        all_weaker (λ n. IsTrue (contains nat_cmp n (feats county))) IsSmall
             (λ n t. known_all nat_keys IsSmall (feats county) feats_small n
             (ltb-true 0 (times nat_cmp n (feats county)) t)) e.1.feats h.0,
         h.1,
       ))
       county.chains
-      (all_both (λ (e : ℕ × Chain). AllStandIn (feats county) e.1.feats)
+      (all_both (λ (e : ℕ × Chain). AllContained (feats county) e.1.feats)
       (λ e. AllByRecursion IsSmall (chain_nodes e.1) × AllByRecursion IsSmallKey (chain_polygons e.1)) county.chains is.closed.names
       (all_both (λ (e : ℕ × Chain). AllByRecursion IsSmall (chain_nodes e.1))
       (λ e. AllByRecursion IsSmallKey (chain_polygons e.1)) county.chains
@@ -135,16 +135,16 @@ module _ (county : County) (is : IsCounty county) (in_form : IsArranged county)
         (all_known key_keys IsSmallKey (polygon_keys county)
         (λ k l. key_small k (lt-ltb 0 (times key_cmp k (polygon_keys county)) l)));
     landmarks = all_unmap IsSmall (λ (e : ℕ × List Body7). e.0) county.landmarks lands_small;
-    link_polygons = all_weaker (λ l. IsTrue (stands_in key_cmp (link_key l) (polygon_keys county))) (λ l. IsSmall l.polyid)
+    link_polygons = all_weaker (λ l. IsTrue (contains key_cmp (link_key l) (polygon_keys county))) (λ l. IsSmall l.polyid)
         (λ l t. key_small (link_key l) t) county.links is.closed.link_polygons;
-    link_lands = all_weaker (λ l. IsTrue (stands_in nat_cmp l.land (lands county))) (λ l. IsSmall l.land)
+    link_lands = all_weaker (λ l. IsTrue (contains nat_cmp l.land (lands county))) (λ l. IsSmall l.land)
         (λ l t. known_all nat_keys IsSmall (lands county) lands_small l.land
         (ltb-true 0 (times nat_cmp l.land (lands county)) t)) county.links is.closed.link_lands;
   }
 
 -- the county of any arrangement is within the limits of its source county
 module _ (limit : ℕ) (low : limit ≤ most_records) (county : County) (is : IsCounty county) (arrangement : Arrangement)
-    (arranges : Arranges arrangement county) (sides : AllKeysStandIn (polygons_along county.chains) (polygon_keys county))
+    (arranges : Arranges arrangement county) (sides : AllKeysContained (polygons_along county.chains) (polygon_keys county))
     (within : IsWithinLimits limit county) where
   new_is_county : IsCounty (arranged county arrangement)
   new_is_county = arranged_county county arrangement is arranges sides
@@ -175,17 +175,17 @@ module _ (limit : ℕ) (low : limit ≤ most_records) (county : County) (is : Is
   }
 
 -- a canonical list of what a view shows of an accepted list
-module _ (seen : County → County) (sight : IsSight seen) (records : List Record) (accepted : IsAccepted records) where
+module _ (view : County → County) (view_laws : IsView view) (records : List Record) (accepted : IsAccepted records) where
   abbrev old : County
-  old = seen (county_of records)
+  old = view (county_of records)
 
   old_is_county : IsCounty old
-  old_is_county = sight.is_county (county_of records) (county-is_county records accepted.linked)
+  old_is_county = view_laws.is_county (county_of records) (county-is_county records accepted.linked)
 
-  old_sides : AllKeysStandIn (polygons_along old.chains) (polygon_keys old)
-  old_sides = sides_in_profile old old_is_county (sight.profile (county_of records) accepted.profile)
+  old_sides : AllKeysContained (polygons_along old.chains) (polygon_keys old)
+  old_sides = sides_in_profile old old_is_county (view_laws.profile (county_of records) accepted.profile)
 
-  module _ (canonical : List Record) (h : IsCanonicalThrough seen records canonical) where
+  module _ (canonical : List Record) (h : IsCanonicalInView view records canonical) where
     -- it is the list of a choice
     made : (arrangement : Arrangement) × IsLeastChoice old arrangement × (canonical ≡ arranged_list old arrangement)
     made = canonical_is_choice old old_is_county old_sides canonical h.canonical h.same
@@ -207,7 +207,7 @@ module _ (seen : County → County) (sight : IsSight seen) (records : List Recor
         (carried_counts (renaming_of old arrangement) old new (arrangement_carries old arrangement old_is_county arranges old_sides) limits few))
 
     -- and so at most as many as the list, if the view takes no more records than the county
-    pub canonical_counts : ShowsNoMore seen → AllByRecursion FitsRecord records → (rtype : ℕ)
+    pub canonical_counts : ShowsNoMore view → AllByRecursion FitsRecord records → (rtype : ℕ)
         → count_of_type rtype canonical ≤ count_of_type rtype records
     canonical_counts no_more fits =
         let limits : ℕ → ℕ = λ n. count_of_type n records in
@@ -218,7 +218,7 @@ module _ (seen : County → County) (sight : IsSight seen) (records : List Recor
 
     module _ (fits : AllByRecursion FitsRecord records) (limit : ℕ) (low : limit ≤ most_records) (few : IsWithinLimit limit records) where
       within_limits : IsWithinLimits limit old
-      within_limits = sight.limits limit (county_of records) (county-within_limits records accepted.linked fits limit few)
+      within_limits = view_laws.limits limit (county_of records) (county-within_limits records accepted.linked fits limit few)
 
       -- the arranged county is within the limits of the original records
       arranged_within : IsWithinLimits limit new

@@ -1,7 +1,7 @@
 -- The packing of an arranged county is an arranged list of records.
 use Rattle.canonical_form.proofs.Common.{AllByRecursion, AreFull, Body7, Chain, Coordinates, County, Fields2, Fields4, Fields6, Fields7}
 use Rattle.canonical_form.proofs.Common.{IsArranged, IsArrangedList, IsCounty, IsInOrder, IsPacked, IsStrictlySortedBy, List, Ordering}
-use Rattle.canonical_form.proofs.Common.{Ranges, SequencedType, StandsInOrder, [], all_everywhere, all_weaker, ap, ap₂, arith, by_type_of}
+use Rattle.canonical_form.proofs.Common.{Ranges, SequencedType, AreRecordsInOrder, [], all_everywhere, all_weaker, ap, ap₂, arith, by_type_of}
 use Rattle.canonical_form.proofs.Common.{drop, false, filter_map, five_feat, flat_map, four_rtsq, four_tlid, i_tlid, in_order-from_strict}
 use Rattle.canonical_form.proofs.Common.{in_order-in_order, in_pieces, inner_points, is_gt, landmark_body_cmp, landmark_cmp}
 use Rattle.canonical_form.proofs.Common.{lefts-numbered_from, length, length-drop, length-map, length-numbered_from, length-take, link_cmp}
@@ -74,9 +74,9 @@ module _ (c : County) (is : IsCounty c) where
   make_6 : ℕ × Chain → ℕ × Ranges → Fields6
   make_6 e piece = record { tlid = e.0; rtsq = piece.0; ranges = piece.1 }
 
-  pub packed_stands_in_order : StandsInOrder (packed c)
+  pub packed_in_order : AreRecordsInOrder (packed c)
   unfolding make_2 make_4 make_6
-  packed_stands_in_order = record {
+  packed_in_order = record {
     types = sym (ap type_after_type (by_type_of (packed_by_type c))) ∙ type_by_type (packed c);
     of_type_1 = subst (IsInOrder (on one_tlid nat_cmp)) (sym (ones c is))
         (in_order-from_strict one_tlid (map packed_one c.chains)
@@ -154,7 +154,7 @@ module _ (c : County) (is : IsCounty c) where
   pub packed_arranged : IsArranged c → IsArrangedList (packed c)
   packed_arranged in_form = record {
     linked = packed_linked c is;
-    order = packed_stands_in_order;
+    order = packed_in_order;
     packed = packed_is_packed;
     numbers = subst IsArranged (sym (packed_county c is)) in_form;
   }

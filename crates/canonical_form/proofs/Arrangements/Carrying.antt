@@ -1,12 +1,12 @@
 -- The renaming of an arrangement carries the county onto the arranged county.
-use Rattle.canonical_form.proofs.Common.{AllByRecursion, AllKeysStandIn, all_everywhere, among-unpieces, apart-distinct, of_number-among, ℕ}
+use Rattle.canonical_form.proofs.Common.{AllByRecursion, AllKeysContained, all_everywhere, among-unpieces, apart-distinct, of_number-among, ℕ}
 use Rattle.canonical_form.proofs.Common.{Among, Body5, Body7, BodyP, Chain, County, IsTrue, Option, length, lt-ltb, nat_cmp, placed, rights}
 use Rattle.canonical_form.proofs.Common.{ArePaired, carried_polygon, chains_in_order, has_repeat-apart, landmark_key_cmp, polygons_in_order}
 use Rattle.canonical_form.proofs.Common.{Arrangement, IsApart, among-unmap, among_known, chain_nodes, image-known, nodes_along, under_cenid}
 use Rattle.canonical_form.proofs.Common.{Arranges, IsPermutation, among-pieces, among-turned, carried_chain, nodes_in_order, polygons_along}
 use Rattle.canonical_form.proofs.Common.{Bool, IsKeyOrder, PolygonKey, all_among, all_joined, all_known, entries_of, has_repeat, length-map}
 use Rattle.canonical_form.proofs.Common.{Carries, apart-permutation_of, in_order-is_permutation, known-permutation_to, rights-numbered_from}
-use Rattle.canonical_form.proofs.Common.{IsCounty, List, Ordering, all_uses, among-map, flat_map, in_order, known_all, stands_in, turned_if}
+use Rattle.canonical_form.proofs.Common.{IsCounty, List, Ordering, all_uses, among-map, flat_map, in_order, known_all, contains, turned_if}
 use Rattle.canonical_form.proofs.Common.{IsPermutation-map, IsPermutation-sym, among-permutation, apart-permutation, apart_from_sorted, map}
 use Rattle.canonical_form.proofs.Common.{IsPermutation-refl, IsPermutation-trans, carried_landmark, known_from_distinct, landmarks_in_order}
 use Rattle.canonical_form.proofs.Common.{Known, feats, image, lands, lefts, nodes, on, refl, subst, sym, times, tlids, up_to, ◌∙◌, ◌≡◌}
@@ -274,7 +274,7 @@ module _ (county : County) (arrangement : Arrangement) (is : IsCounty county) (a
   }
 
   -- polygons, if each is on a side
-  module _ (sides : AllKeysStandIn (polygons_along county.chains) (polygon_keys county)) where
+  module _ (sides : AllKeysContained (polygons_along county.chains) (polygon_keys county)) where
     pub polygon_lefts : lefts (renaming_of county arrangement).polygons ≡ polygons_in_order county arrangement
     polygon_lefts = ap lefts polygons_renamed ∙ map-map (λ (pair : PolygonKey × PolygonKey). pair.0) under_cenid
         (numbered (polygons_in_order county arrangement)) ∙ lefts-numbered (polygons_in_order county arrangement)
@@ -283,15 +283,15 @@ module _ (county : County) (arrangement : Arrangement) (is : IsCounty county) (a
     known_polygon k l = to_first_seen key_keys (polygons_along (placed county arrangement)) k
         (polygons_to_placed k
         (ltb-true 0 (times key_cmp k (polygons_along county.chains))
-        (known_all key_keys (λ j. IsTrue (stands_in key_cmp j (polygons_along county.chains))) (polygon_keys county) sides k l)))
+        (known_all key_keys (λ j. IsTrue (contains key_cmp j (polygons_along county.chains))) (polygon_keys county) sides k l)))
 
     polygon_known : (k : PolygonKey) → Known key_cmp (polygons_in_order county arrangement) k → Known key_cmp (polygon_keys county) k
     polygon_known k l =
-        let all : AllByRecursion (λ j. IsTrue (stands_in key_cmp j (polygon_keys county))) (polygons_along county.chains) =
-        all_joined (λ j. IsTrue (stands_in key_cmp j (polygon_keys county)))
+        let all : AllByRecursion (λ j. IsTrue (contains key_cmp j (polygon_keys county))) (polygons_along county.chains) =
+        all_joined (λ j. IsTrue (contains key_cmp j (polygon_keys county)))
         (λ (e : ℕ × Chain). chain_polygons e.1) county.chains is.closed.sides in
         ltb-true 0 (times key_cmp k (polygon_keys county))
-        (known_all key_keys (λ j. IsTrue (stands_in key_cmp j (polygon_keys county))) (polygons_along county.chains) all k
+        (known_all key_keys (λ j. IsTrue (contains key_cmp j (polygon_keys county))) (polygons_along county.chains) all k
         (polygons_from_placed k (from_first_seen key_keys (polygons_along (placed county arrangement)) k l)))
 
     pub polygons_permutation : IsPermutation (polygons_in_order county arrangement) (polygon_keys county)
@@ -352,8 +352,8 @@ module _ (county : County) (arrangement : Arrangement) (is : IsCounty county) (a
           (all_map (λ (pair : PolygonKey × PolygonKey). pair.0.0 ≡ pair.1.0) under_cenid (numbered (polygons_in_order county arrangement))
           (all_everywhere (λ pair. (under_cenid pair).0.0 ≡ (under_cenid pair).1.0) (λ pair. refl)
           (numbered (polygons_in_order county arrangement))));
-      turned_known = subst (AllByRecursion (λ t. IsTrue (stands_in nat_cmp t (tlids county)))) (sym turned_renamed)
-          (all_known nat_keys (λ t. IsTrue (stands_in nat_cmp t (tlids county))) (turned_tlids arrangement)
+      turned_known = subst (AllByRecursion (λ t. IsTrue (contains nat_cmp t (tlids county)))) (sym turned_renamed)
+          (all_known nat_keys (λ t. IsTrue (contains nat_cmp t (tlids county))) (turned_tlids arrangement)
           (λ t k. lt-ltb 0 (times nat_cmp t (tlids county))
           (known-permutation_to nat_keys t (arranged_tlids arrangement) (tlids county) arranges (turned_known arrangement t k))));
       turned_once = ap (has_repeat nat_cmp) turned_renamed

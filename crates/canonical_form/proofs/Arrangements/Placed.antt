@@ -6,7 +6,7 @@ use Rattle.canonical_form.proofs.Common.{filter, flat_map, groups-permutation, i
 use Rattle.canonical_form.proofs.Common.{known-later, known-permutation, known-permutation_to, known_cases, lefts-numbered_from, length}
 use Rattle.canonical_form.proofs.Common.{length-map, lt-ltb, map, map-append, map-map, map_agree_all, nat_cmp, nat_keys, nat_lt, numbered}
 use Rattle.canonical_form.proofs.Common.{numbered_from, of_number-all, only_one, placed, refl, renumbered, rights-numbered_from}
-use Rattle.canonical_form.proofs.Common.{same_or_not, stands_in, subst, suc, sym, times, times-no, times-of_number, times-yes, tlids, true}
+use Rattle.canonical_form.proofs.Common.{same_or_not, contains, subst, suc, sym, times, times-no, times-of_number, times-yes, tlids, true}
 use Rattle.canonical_form.proofs.Common.{turned_if, turned_tlids, turns, up_to, zero, ℕ, ◌++◌, ◌∙◌, ◌∷◌, ◌≡◌, ◌≤◌, ◌⊎◌}
 use Rattle.canonical_form.proofs.{Lists.Counting.entries_equal, Lists.Counting.flat_map-map, Unique.SameNumbers.kept_entry}
 
@@ -54,39 +54,39 @@ turned_apart (s ∷ arrangement) a k = go s.1 (turned_apart arrangement (apart_t
 
 -- an arrangement turns exactly the chains that it turns
 pub turns_as_stated : (arrangement : Arrangement) → IsApart nat_cmp (arranged_tlids arrangement)
-    → AllByRecursion (λ s. stands_in nat_cmp s.0 (turned_tlids arrangement) ≡ s.1) arrangement
+    → AllByRecursion (λ s. contains nat_cmp s.0 (turned_tlids arrangement) ≡ s.1) arrangement
 turns_as_stated [] a = tt
 turns_as_stated (s ∷ arrangement) a = (
   here s.1 refl,
-  all_weaker (λ t. (stands_in nat_cmp t.0 (turned_tlids arrangement) ≡ t.1) × (is_eq (nat_cmp t.0 s.0) ≡ false))
-      (λ t. stands_in nat_cmp t.0 (turned_tlids (s ∷ arrangement)) ≡ t.1) (λ t h. later s.1 t h.0 h.1) arrangement
+  all_weaker (λ t. (contains nat_cmp t.0 (turned_tlids arrangement) ≡ t.1) × (is_eq (nat_cmp t.0 s.0) ≡ false))
+      (λ t. contains nat_cmp t.0 (turned_tlids (s ∷ arrangement)) ≡ t.1) (λ t h. later s.1 t h.0 h.1) arrangement
       (both arrangement (turns_as_stated arrangement (apart_tail nat_keys s.0 (arranged_tlids arrangement) a)) (apart_others arrangement (λ t l. l))),
 )
   where
     none : times nat_cmp s.0 (arranged_tlids arrangement) ≤ 0
     none = omega (arith, times-yes nat_keys s.0 s.0 (arranged_tlids arrangement) refl, a s.0)
 
-    here : (b : Bool) → s.1 ≡ b → stands_in nat_cmp s.0 (map (λ (t : ℕ × Bool). t.0)
+    here : (b : Bool) → s.1 ≡ b → contains nat_cmp s.0 (map (λ (t : ℕ × Bool). t.0)
         (cond s.1 (s ∷ filter (λ t. t.1) arrangement) (filter (λ t. t.1) arrangement))) ≡ s.1
-    here true e = ap (λ b. stands_in nat_cmp s.0 (map (λ (t : ℕ × Bool). t.0)
+    here true e = ap (λ b. contains nat_cmp s.0 (map (λ (t : ℕ × Bool). t.0)
         (cond b (s ∷ filter (λ t. t.1) arrangement) (filter (λ t. t.1) arrangement)))) e
         ∙ lt-ltb 0 (times nat_cmp s.0 (s.0 ∷ turned_tlids arrangement)) (known-here nat_keys s.0 (turned_tlids arrangement)) ∙ sym e
-    here false e = ap (λ b. stands_in nat_cmp s.0 (map (λ (t : ℕ × Bool). t.0)
+    here false e = ap (λ b. contains nat_cmp s.0 (map (λ (t : ℕ × Bool). t.0)
         (cond b (s ∷ filter (λ t. t.1) arrangement) (filter (λ t. t.1) arrangement)))) e ∙ unknown (times nat_cmp s.0 (turned_tlids arrangement)) refl ∙ sym e
       where
-        unknown : (n : ℕ) → times nat_cmp s.0 (turned_tlids arrangement) ≡ n → stands_in nat_cmp s.0 (turned_tlids arrangement) ≡ false
+        unknown : (n : ℕ) → times nat_cmp s.0 (turned_tlids arrangement) ≡ n → contains nat_cmp s.0 (turned_tlids arrangement) ≡ false
         unknown zero f = ap (nat_lt 0) f
         unknown (suc n) f = absurd (let l : Known nat_cmp (arranged_tlids arrangement) s.0 = turned_known arrangement s.0 (omega (arith, f)) in
             omega (arith, l, none))
 
-    later : (b : Bool) (t : ℕ × Bool) → stands_in nat_cmp t.0 (turned_tlids arrangement) ≡ t.1 → is_eq (nat_cmp t.0 s.0) ≡ false
-        → stands_in nat_cmp t.0 (map (λ (u : ℕ × Bool). u.0) (cond b (s ∷ filter (λ u. u.1) arrangement) (filter (λ u. u.1) arrangement))) ≡ t.1
+    later : (b : Bool) (t : ℕ × Bool) → contains nat_cmp t.0 (turned_tlids arrangement) ≡ t.1 → is_eq (nat_cmp t.0 s.0) ≡ false
+        → contains nat_cmp t.0 (map (λ (u : ℕ × Bool). u.0) (cond b (s ∷ filter (λ u. u.1) arrangement) (filter (λ u. u.1) arrangement))) ≡ t.1
     later true t h ne = ap (nat_lt 0) (times-no nat_keys t.0 s.0 (turned_tlids arrangement) ne) ∙ h
     later false t h ne = h
 
-    both : (ts : Arrangement) → AllByRecursion (λ t. stands_in nat_cmp t.0 (turned_tlids arrangement) ≡ t.1) ts
+    both : (ts : Arrangement) → AllByRecursion (λ t. contains nat_cmp t.0 (turned_tlids arrangement) ≡ t.1) ts
         → AllByRecursion (λ t. is_eq (nat_cmp t.0 s.0) ≡ false) ts
-        → AllByRecursion (λ t. (stands_in nat_cmp t.0 (turned_tlids arrangement) ≡ t.1) × (is_eq (nat_cmp t.0 s.0) ≡ false)) ts
+        → AllByRecursion (λ t. (contains nat_cmp t.0 (turned_tlids arrangement) ≡ t.1) × (is_eq (nat_cmp t.0 s.0) ≡ false)) ts
     both [] g h = tt
     both (t ∷ ts) g h = ((g.0, h.0), both ts g.1 h.1)
 
@@ -165,7 +165,7 @@ module _ (county : County) (arrangement : Arrangement) (is : IsCounty county) (a
         ∙ rights-numbered (arranged_tlids arrangement)
 
     stated : AllByRecursion (λ (s : ℕ × Bool). turns r s.0 ≡ s.1) arrangement
-    stated = subst (λ ts. AllByRecursion (λ (s : ℕ × Bool). stands_in nat_cmp s.0 ts ≡ s.1) arrangement) (sym turning)
+    stated = subst (λ ts. AllByRecursion (λ (s : ℕ × Bool). contains nat_cmp s.0 ts ≡ s.1) arrangement) (sym turning)
         (turns_as_stated arrangement arrangement_apart)
 
     same_bodies : (ss : Arrangement) → AllByRecursion (λ s. turns r s.0 ≡ s.1) ss

@@ -1,10 +1,10 @@
 -- A county within its limits is small enough for places of 32 bits.
-use Rattle.canonical_form.proofs.Common.{AllByRecursion, AllKeysStandIn, Among, BodyP, Chain, County, HasAtMost, IsApart, IsCounty}
+use Rattle.canonical_form.proofs.Common.{AllByRecursion, AllKeysContained, Among, BodyP, Chain, County, HasAtMost, IsApart, IsCounty}
 use Rattle.canonical_form.proofs.Common.{IsKeyOrder, IsTrue, IsWithinLimits, List, Option, Ordering, PolygonKey, [], all_weaker}
 use Rattle.canonical_form.proofs.Common.{apart_from_sorted, arith, by_type_of, by_type_within, chain_polygons, few_in_groups, filter}
 use Rattle.canonical_form.proofs.Common.{flat_map, is_eq, key_keys, known_is_among, length, length-map, ltb-true, map, most_records, packed}
 use Rattle.canonical_form.proofs.Common.{packed_by_type, packed_five, packed_one, packed_sevens, polygon_keys, polygons_along, same-itself}
-use Rattle.canonical_form.proofs.Common.{stands_in, subst, times, to_filter, ℕ, ◌*◌, ◌<◌, ◌^◌, ◌∷◌, ◌≡◌, ◌≤◌}
+use Rattle.canonical_form.proofs.Common.{contains, subst, times, to_filter, ℕ, ◌*◌, ◌<◌, ◌^◌, ◌∷◌, ◌≡◌, ◌≤◌}
 use Rattle.canonical_form.proofs.Arrangements.ArrangedNumbers.{few_landmarks, long_joined, short_joined, two_polygons}
 
 -- the places of chains, names, polygons and landmarks fit into 32 bits
@@ -20,12 +20,12 @@ some_there x (y ∷ ys) m = omega arith
 
 -- distinct keys that are in a list are at most as many as its elements
 few_known : {K : Type 0} {cmp : K → K → Ordering} → IsKeyOrder cmp → (ks xs : List K) → IsApart cmp ks
-    → AllByRecursion (λ k. IsTrue (stands_in cmp k xs)) ks → length ks ≤ length xs
+    → AllByRecursion (λ k. IsTrue (contains cmp k xs)) ks → length ks ≤ length xs
 few_known {K} {cmp} o ks xs apart known =
     let groups : length (flat_map (λ k. filter (λ x. is_eq (cmp x k)) xs) ks) ≤ length xs =
     few_in_groups (λ k x. is_eq (cmp x k)) ks apart xs in
     let filled : AllByRecursion (λ k. 1 ≤ length (filter (λ x. is_eq (cmp x k)) xs)) ks =
-    all_weaker (λ k. IsTrue (stands_in cmp k xs)) (λ k. 1 ≤ length (filter (λ x. is_eq (cmp x k)) xs))
+    all_weaker (λ k. IsTrue (contains cmp k xs)) (λ k. 1 ≤ length (filter (λ x. is_eq (cmp x k)) xs))
     (λ k t. some_there k (filter (λ x. is_eq (cmp x k)) xs)
     (to_filter (λ x. is_eq (cmp x k)) k xs (known_is_among o k xs (ltb-true 0 (times cmp k xs) t)) (same-itself o k))) ks known in
     omega (arith, groups, long_joined (λ k. filter (λ x. is_eq (cmp x k)) xs) ks filled)
@@ -39,7 +39,7 @@ few_names county within =
     omega (arith, fives, length-map county.names packed_five)
 
 pub places_fit : (county : County) → IsCounty county → IsWithinLimits most_records county
-    → AllKeysStandIn (polygons_along county.chains) (polygon_keys county) → FitsPlaces county
+    → AllKeysContained (polygons_along county.chains) (polygon_keys county) → FitsPlaces county
 places_fit county is within sides =
     let counts : HasAtMost most_records (packed_by_type county) =
     subst (HasAtMost most_records) (by_type_of (packed_by_type county)) (by_type_within most_records (packed county) within.counts) in

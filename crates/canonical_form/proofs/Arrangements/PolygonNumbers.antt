@@ -1,6 +1,6 @@
 -- Polygons in the order of first appearance are the polygons of the arranged county by number.
 use Rattle.canonical_form.proofs.Common.{AllByRecursion, carried_polygon, entry_polyid, in_order-strict, option_and_then, polygons_in_order}
-use Rattle.canonical_form.proofs.Common.{AllKeysStandIn, BodyP, IsPermutation, map_agree_all, nat_cmp_total, polygons_along, value-at_place}
+use Rattle.canonical_form.proofs.Common.{AllKeysContained, BodyP, IsPermutation, map_agree_all, nat_cmp_total, polygons_along, value-at_place}
 use Rattle.canonical_form.proofs.Common.{Arrangement, entry_values, images-lefts, in_order-map, numbered_from, polygon_under, slice_get-map}
 use Rattle.canonical_form.proofs.Common.{Arranges, IsCounty, arith, arranged, in_order, key_keys, nat_keys, numbered, slice_get, strict-map}
 use Rattle.canonical_form.proofs.Common.{County, IfSome, Option, all_at, image, key_cmp, length, map-map, nat_cmp, on_total, placed, rights}
@@ -59,7 +59,7 @@ content_at_number county strict place polygon at_key at_number =
     ∙ subst (λ o. IfSome o Holds) at_number (all_at Holds (polygons_by_number county) all place)
 
 module _ (county : County) (arrangement : Arrangement) (is : IsCounty county) (arranges : Arranges arrangement county)
-    (sides : AllKeysStandIn (polygons_along county.chains) (polygon_keys county)) where
+    (sides : AllKeysContained (polygons_along county.chains) (polygon_keys county)) where
   abbrev seen : List PolygonKey
   seen = polygons_in_order county arrangement
 

@@ -1,7 +1,7 @@
 -- A canonical list of records is the packing of its county: chains, names and landmarks.
 use Rattle.canonical_form.proofs.Common.{AllByRecursion, AreFull, Chain, Coordinates, Fields1, Fields2, Fields4, Fields5, Fields6, Fields7}
 use Rattle.canonical_form.proofs.Common.{FieldsI, IsInOrder, IsLinked, IsPacked, IsStrictlySortedBy, Known, LinkedType, List, NoChain}
-use Rattle.canonical_form.proofs.Common.{Ranges, Record, StandsInOrder, [], all_known, all_unmap, ap, apart_chains, ap₂, arith, chain_of}
+use Rattle.canonical_form.proofs.Common.{Ranges, Record, AreRecordsInOrder, [], all_known, all_unmap, ap, apart_chains, ap₂, arith, chain_of}
 use Rattle.canonical_form.proofs.Common.{chain_tlids, chains_of, distinct, distinct-strict, five_feat, flat_map, four_rtsq, four_tlid}
 use Rattle.canonical_form.proofs.Common.{further_names, i_tlid, in_order, in_order-from_strict, in_order-itself, in_order-map, in_pieces}
 use Rattle.canonical_form.proofs.Common.{known-distinct, landmark_body_cmp, landmark_cmp, landmarks_of, last_point, length, length-map}
@@ -9,7 +9,7 @@ use Rattle.canonical_form.proofs.Common.{linked_tlids, lt-ltb, ltb-true, map, ma
 use Rattle.canonical_form.proofs.Common.{nat_keys, needed, numbered_from, of_number, of_number-all, of_type_1, of_type_2, of_type_4}
 use Rattle.canonical_form.proofs.Common.{of_type_5, of_type_6, of_type_7, of_type_i, on, one_tlid, packed_five, packed_fours, packed_i}
 use Rattle.canonical_form.proofs.Common.{packed_one, packed_sevens, packed_sixes, packed_twos, refl, seven_land, shape_points, six_rtsq}
-use Rattle.canonical_form.proofs.Common.{six_tlid, stands_in, strict_from_order, subst, sym, the_link, then_cmp, times, two_rtsq, two_tlid}
+use Rattle.canonical_form.proofs.Common.{six_tlid, contains, strict_from_order, subst, sym, the_link, then_cmp, times, two_rtsq, two_tlid}
 use Rattle.canonical_form.proofs.Common.{up_to, without_last, ℕ, ◌++◌, ◌==◌, ◌∙◌, ◌∷◌, ◌≡◌, ◌≤◌}
 use Rattle.canonical_form.proofs.Lists.Counting.{flat_map-map, up_to-strict}
 use Rattle.canonical_form.proofs.Lists.Grouping.{grouped, in_order-filter, in_order-weaker, parts_in_order, pieces-joined, rtsqs-back}
@@ -72,7 +72,7 @@ module _ (records : List Record) (linked : IsLinked records) where
       (each_link f g h rs)
       ∙ sym (map-append g (of_number i_tlid r.tlid (of_type_i records)) (flat_map (λ q. of_number i_tlid q.tlid (of_type_i records)) rs))
 
-  module _ (order : StandsInOrder records) (full : IsPacked records) where
+  module _ (order : AreRecordsInOrder records) (full : IsPacked records) where
     chains_are : chains_of records ≡ flat_map chain_entries (of_type_1 records)
     unfolding chain_entries
     chains_are = ap (flat_map chain_entries) (in_order-itself (on one_tlid nat_cmp) (of_type_1 records) order.of_type_1)
@@ -89,7 +89,7 @@ module _ (records : List Record) (linked : IsLinked records) where
     linked_known : (t : LinkedType) → AllByRecursion (Known nat_cmp (chain_tlids records)) (linked_tlids t records)
     linked_known t = all_known nat_keys (Known nat_cmp (chain_tlids records)) (linked_tlids t records)
         (λ n k. ltb-true 0 (times nat_cmp n (chain_tlids records))
-        (needed (stands_in nat_cmp n (linked_tlids t records)) (stands_in nat_cmp n (chain_tlids records)) (linked (NoChain t n))
+        (needed (contains nat_cmp n (linked_tlids t records)) (contains nat_cmp n (chain_tlids records)) (linked (NoChain t n))
         (lt-ltb 0 (times nat_cmp n (linked_tlids t records)) k)))
 
     by_chain : {X : Type 0} (tlid : X → ℕ) (xs : List X) → IsInOrder (on tlid nat_cmp) xs

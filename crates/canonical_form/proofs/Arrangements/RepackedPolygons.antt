@@ -1,11 +1,11 @@
 -- The type P records of an arranged list are its county's polygons, packed; so the whole list is the packing of its county.
-use Rattle.canonical_form.proofs.Common.{AllByRecursion, IsArrangedList, StandsInOrder, in_order-in_order, in_order-itself, type_after_type}
+use Rattle.canonical_form.proofs.Common.{AllByRecursion, IsArrangedList, AreRecordsInOrder, in_order-in_order, in_order-itself, type_after_type}
 use Rattle.canonical_form.proofs.Common.{Among, among-unmap, among_known, cons_option, keys-county, known-right, polygon_keys, strict-equal}
 use Rattle.canonical_form.proofs.Common.{BodyP, Equal, FieldsP, Greater, IsApart, IsTrue, Option, Record, by_type, key_cmp, nat_cmp, packed}
 use Rattle.canonical_form.proofs.Common.{IsArranged, PolygonTwice, from_in_order, in_filter_map, nat_cmp_total, polygon_body, to_filter_map}
 use Rattle.canonical_form.proofs.Common.{IsInOrder, IsLinked, all_among, among-map, county_of, known_all, ltb-false, times-cons, true≢false}
 use Rattle.canonical_form.proofs.Common.{IsKeyOrder, PolygonKey, apart_tail, filter_map, packed_body, polygons_of, same_or_not, to_in_order}
-use Rattle.canonical_form.proofs.Common.{IsPacked, Ordering, ap, distinct, of_type_8, of_type_i, of_type_p, side_keys, stands_in, times-yes}
+use Rattle.canonical_form.proofs.Common.{IsPacked, Ordering, ap, distinct, of_type_8, of_type_i, of_type_p, side_keys, contains, times-yes}
 use Rattle.canonical_form.proofs.Common.{Known, Less, List, None, Some, arith, false, inl, is_eq, is_gt, p_key, refl, subst, times, ℕ, ◌++◌}
 use Rattle.canonical_form.proofs.Common.{[], apart-distinct, known-distinct, known_is_among, packed_by_type, polygons_along, times-in_order}
 use Rattle.canonical_form.proofs.Common.{flat_map, in_order, key_keys, link_cmp, ltb-true, nat_keys, on_total, p_polyid, packed_p, times-no}
@@ -82,7 +82,7 @@ few_keys g k (d ∷ ds) = go (g d) (few_keys g k ds) (same_or_not key_keys k d)
         times-no key_keys k d (map p_key (filter_map packed_p (map (λ key. (key, g key)) ds))) ne in
         omega arith
 
-module _ (records : List Record) (linked : IsLinked records) (order : StandsInOrder records) (in_form : IsArranged (county_of records))
+module _ (records : List Record) (linked : IsLinked records) (order : AreRecordsInOrder records) (in_form : IsArranged (county_of records))
   where
     abbrev all_keys : List PolygonKey
     all_keys = flat_map side_keys (of_type_i records) ++ map p_key (of_type_p records)
@@ -130,7 +130,7 @@ module _ (records : List Record) (linked : IsLinked records) (order : StandsInOr
         subst (λ ks. Known key_cmp ks (p_key z)) (sym (keys-county records linked)) (known-distinct key_keys all_keys (p_key z) known) in
         known_is_among key_keys (p_key z) (polygons_along (county_of records).chains)
         (ltb-true 0 (times key_cmp (p_key z) (polygons_along (county_of records).chains))
-        (known_all key_keys (λ k. IsTrue (stands_in key_cmp k (polygons_along (county_of records).chains)))
+        (known_all key_keys (λ k. IsTrue (contains key_cmp k (polygons_along (county_of records).chains)))
         (polygon_keys (county_of records)) in_form.on_sides (p_key z) listed)) in
         all_among (λ other. (p_key x).1 ≡ other.1 → p_key x ≡ other) (p_key y) (polygons_along (county_of records).chains)
         (all_among (λ key. AllByRecursion (λ other. key.1 ≡ other.1 → key ≡ other) (polygons_along (county_of records).chains)) (p_key x)
@@ -159,7 +159,7 @@ module _ (records : List Record) (linked : IsLinked records) (order : StandsInOr
         (λ z m. to_in_order (on p_polyid nat_cmp) packed_ps z (to_packed z m))
 
 -- Whatever its choice of TLIDs and directions, an arranged list is the packing of its county.
-pub arranged_is_packed : (records : List Record) → IsLinked records → StandsInOrder records → IsPacked records → IsArranged
+pub arranged_is_packed : (records : List Record) → IsLinked records → AreRecordsInOrder records → IsPacked records → IsArranged
     (county_of records)
     → records ≡ packed (county_of records)
 arranged_is_packed records linked order full in_form = order.types ∙ sym (type_by_type records) ∙ ap type_after_type same

@@ -1,9 +1,9 @@
 -- Each list of records is accepted or has one refusal. Through each view the canonical lists of two accepted lists have the same
 -- text if the view shows the same map of both counties, and are equal only then.
-use Rattle.canonical_form.proofs.Common.{AreSame, County, IsSight, List, Record, Unlinked, inl, inr, refl, subst, sym, text_of, ◌≡◌, ◌⊎◌}
+use Rattle.canonical_form.proofs.Common.{AreSame, County, IsView, List, Record, Unlinked, inl, inr, refl, subst, sym, text_of, ◌≡◌, ◌⊎◌}
 use Rattle.canonical_form.proofs.Common.{IsAccepted, IsCounty, IsLinked, IsRefusal, LinkFault, OutOfProfile, ProfileFault, county_of, plain}
 use Rattle.canonical_form.proofs.Common.{IsCanonicalOf, RecordsRefusal, one_first_rule, same-reflexive, same-symmetric, same_in_profile}
-use Rattle.canonical_form.proofs.Common.{IsCanonicalThrough, IsFirstBrokenClause, IsFirstBrokenRule, ap, county-is_county, one_first_clause}
+use Rattle.canonical_form.proofs.Common.{IsCanonicalInView, IsFirstBrokenClause, IsFirstBrokenRule, ap, county-is_county, one_first_clause}
 use Rattle.canonical_form.proofs.Common.{IsInProfile, linked_has_none, linked_or_first, profile_has_none, profile_or_first, same-transitive}
 use Rattle.canonical_form.proofs.CanonicalLists.TidyLists.{canonical_texts_equal}
 
@@ -31,8 +31,8 @@ one_refusal records (OutOfProfile f) (Unlinked g) h k = absurd (linked_has_none 
 one_refusal records (OutOfProfile f) (OutOfProfile g) h k = ap OutOfProfile (one_first_clause (county_of records) f g h.1 k.1)
 
 -- viewing the county itself is a view
-pub plain_sight : IsSight plain
-plain_sight = record {
+pub plain_view : IsView plain
+plain_view = record {
   is_county = λ county h. h;
   profile = λ county h. h;
   limits = λ limit county h. h;
@@ -41,40 +41,40 @@ plain_sight = record {
 }
 
 -- canonical lists through a view
-module _ (seen : County → County) (sight : IsSight seen) where
-  seen_county : (records : List Record) → IsAccepted records → IsCounty (seen (county_of records))
-  seen_county records accepted = sight.is_county (county_of records) (county-is_county records accepted.linked)
+module _ (view : County → County) (view_laws : IsView view) where
+  view_county : (records : List Record) → IsAccepted records → IsCounty (view (county_of records))
+  view_county records accepted = view_laws.is_county (county_of records) (county-is_county records accepted.linked)
 
-  module _ (xs ys c d : List Record) (h : IsCanonicalThrough seen xs c) (k : IsCanonicalThrough seen ys d) where
-    pub same_canonical_text : AreSame (seen (county_of xs)) (seen (county_of ys)) → text_of c ≡ text_of d
+  module _ (xs ys c d : List Record) (h : IsCanonicalInView view xs c) (k : IsCanonicalInView view ys d) where
+    pub same_canonical_text : AreSame (view (county_of xs)) (view (county_of ys)) → text_of c ≡ text_of d
     same_canonical_text s =
-        let old : County = seen (county_of xs) in
-        let other : County = seen (county_of ys) in
+        let old : County = view (county_of xs) in
+        let other : County = view (county_of ys) in
         let back : AreSame (county_of c) old =
-        same-symmetric old (county_of c) (seen_county xs h.accepted) (county-is_county c h.canonical.in_form.linked) h.same in
+        same-symmetric old (county_of c) (view_county xs h.accepted) (county-is_county c h.canonical.in_form.linked) h.same in
         let there : AreSame (county_of c) other =
-        same-transitive (county_of c) old other (county-is_county c h.canonical.in_form.linked) (seen_county xs h.accepted) back s in
+        same-transitive (county_of c) old other (county-is_county c h.canonical.in_form.linked) (view_county xs h.accepted) back s in
         canonical_texts_equal c d h.canonical k.canonical (same-transitive (county_of c) other (county_of d)
-        (county-is_county c h.canonical.in_form.linked) (seen_county ys k.accepted) there k.same)
+        (county-is_county c h.canonical.in_form.linked) (view_county ys k.accepted) there k.same)
 
-    pub one_canonical_same : c ≡ d → AreSame (seen (county_of xs)) (seen (county_of ys))
+    pub one_canonical_same : c ≡ d → AreSame (view (county_of xs)) (view (county_of ys))
     one_canonical_same e =
-        let old : County = seen (county_of xs) in
-        let other : County = seen (county_of ys) in
+        let old : County = view (county_of xs) in
+        let other : County = view (county_of ys) in
         let back : AreSame (county_of d) other =
-        same-symmetric other (county_of d) (seen_county ys k.accepted) (county-is_county d k.canonical.in_form.linked) k.same in
+        same-symmetric other (county_of d) (view_county ys k.accepted) (county-is_county d k.canonical.in_form.linked) k.same in
         let there : AreSame old (county_of d) = subst (λ l. AreSame old (county_of l)) e h.same in
-        same-transitive old (county_of d) other (seen_county xs h.accepted) (county-is_county d k.canonical.in_form.linked) there back
+        same-transitive old (county_of d) other (view_county xs h.accepted) (county-is_county d k.canonical.in_form.linked) there back
 
   -- a canonical list of an accepted one is accepted
-  pub canonical_accepted : (xs c : List Record) → IsCanonicalThrough seen xs c → IsAccepted c
+  pub canonical_accepted : (xs c : List Record) → IsCanonicalInView view xs c → IsAccepted c
   canonical_accepted xs c h = record {
     linked = h.canonical.in_form.linked;
-    profile = same_in_profile (seen (county_of xs)) (county_of c) h.same (sight.profile (county_of xs) h.accepted.profile);
+    profile = same_in_profile (view (county_of xs)) (county_of c) h.same (view_laws.profile (county_of xs) h.accepted.profile);
   }
 
   -- it is its own canonical list through the view
-  pub canonical_of_itself : (xs c : List Record) → IsCanonicalThrough seen xs c → IsCanonicalThrough seen c c
+  pub canonical_of_itself : (xs c : List Record) → IsCanonicalInView view xs c → IsCanonicalInView view c c
   canonical_of_itself xs c h = record {
     accepted = canonical_accepted xs c h;
     canonical = h.canonical;
@@ -83,7 +83,7 @@ module _ (seen : County → County) (sight : IsSight seen) where
   }
 
   -- and without the view
-  pub canonical_as_it_is : (xs c : List Record) → IsCanonicalThrough seen xs c → IsCanonicalOf c c
+  pub canonical_as_it_is : (xs c : List Record) → IsCanonicalInView view xs c → IsCanonicalOf c c
   canonical_as_it_is xs c h = record {
     accepted = canonical_accepted xs c h;
     canonical = h.canonical;

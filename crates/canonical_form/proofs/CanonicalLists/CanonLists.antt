@@ -1,5 +1,5 @@
 -- A county is canonical exactly if its packing is a canonical list.
-use Rattle.canonical_form.proofs.Common.{AllKeysStandIn, AreSame, Arrangement, County, IsArranged, IsCanonCounty, IsCanonical, IsCounty}
+use Rattle.canonical_form.proofs.Common.{AllKeysContained, AreSame, Arrangement, County, IsArranged, IsCanonCounty, IsCanonical, IsCounty}
 use Rattle.canonical_form.proofs.Common.{IsLeastChoice, IsNotAfter, IsTidy, IsTidyList, arranged, county-is_county, county_of, packed}
 use Rattle.canonical_form.proofs.Common.{polygon_keys, polygons_along, subst, sym, ◌≡◌}
 use Rattle.canonical_form.proofs.{Arrangements.ArrangedCounties.arranged_county, Arrangements.ArrangedPacking.packed_arranged}
@@ -36,7 +36,7 @@ canonical_county county is h =
 
 -- The county of a choice of least text is canonical.
 pub least_choice_county : (county : County) (arrangement : Arrangement) → IsCounty county
-    → AllKeysStandIn (polygons_along county.chains) (polygon_keys county) → IsLeastChoice county arrangement
+    → AllKeysContained (polygons_along county.chains) (polygon_keys county) → IsLeastChoice county arrangement
     → IsCanonCounty (arranged county arrangement)
 least_choice_county county arrangement is sides h =
     canonical_county (arranged county arrangement) (arranged_county county arrangement is h.choice.arranges sides)

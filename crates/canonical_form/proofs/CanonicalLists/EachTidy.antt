@@ -1,10 +1,10 @@
 -- If a renaming carries a county onto an arranged county, that county is the first one under the arrangement read off the renaming.
-use Rattle.canonical_form.proofs.Common.{AllByRecursion, AllKeysStandIn, Arrangement, Arranges, Bool, Carries, County, IsApart, IsArranged}
+use Rattle.canonical_form.proofs.Common.{AllByRecursion, AllKeysContained, Arrangement, Arranges, Bool, Carries, County, IsApart, IsArranged}
 use Rattle.canonical_form.proofs.Common.{IsCounty, IsPermutation, IsPermutation-map, IsPermutation-sym, IsPermutation-trans, Known, List}
 use Rattle.canonical_form.proofs.Common.{Renumbering, all_unmap, ap, apart-permutation, apart_from_sorted, arranged, arranged_tlids}
 use Rattle.canonical_form.proofs.Common.{exactly_one, false, false≢true, image, image-known, images-lefts, inverse, known-permutation}
 use Rattle.canonical_form.proofs.Common.{known-permutation_to, known_all, lefts, length, length-map, map, map-id, map-map, map_itself}
-use Rattle.canonical_form.proofs.Common.{nat_cmp, nat_keys, numbered, polygon_keys, polygons_along, refl, renaming_of, rights, stands_in}
+use Rattle.canonical_form.proofs.Common.{nat_cmp, nat_keys, numbered, polygon_keys, polygons_along, refl, renaming_of, rights, contains}
 use Rattle.canonical_form.proofs.Common.{subst, swapped, sym, then, tlids, true, turns, up_to, ℕ, ◌∙◌, ◌≡◌}
 use Rattle.canonical_form.proofs.Arrangements.ArrangedCounties.{arranged_county, is_arranged}
 use Rattle.canonical_form.proofs.Arrangements.Carrying.{arrangement_carries, chains_renamed, images-numbered, turned_renamed}
@@ -76,7 +76,7 @@ module _ (r : Renumbering) (a b : County) (wa : IsCounty a) (wb : IsCounty b) (h
       (ap (λ m. exactly_one (turns r (old_tlid r n)) (turns (inverse r) m)) (sym (new_again n k))
       ∙ (inverse_follows r a b wa wb h).turned (old_tlid r n) (old_known n k))
 
-  module _ (tb : IsArranged b) (sides : AllKeysStandIn (polygons_along a.chains) (polygon_keys a)) where
+  module _ (tb : IsArranged b) (sides : AllKeysContained (polygons_along a.chains) (polygon_keys a)) where
     again : Carries (renaming_of a (read_off r b)) a (arranged a (read_off r b))
     again = arrangement_carries a (read_off r b) wa read_arranges sides
 
@@ -98,7 +98,7 @@ module _ (r : Renumbering) (a b : County) (wa : IsCounty a) (wb : IsCounty b) (h
     all_turned : AllByRecursion (λ n. turns (renaming_of a (read_off r b)) (old_tlid r n) ≡ turns r (old_tlid r n)) (tlids b)
     all_turned =
         all_unmap (λ s. turns (renaming_of a (read_off r b)) s.0 ≡ s.1) (directed_to r) (tlids b)
-        (subst (λ ts. AllByRecursion (λ s. stands_in nat_cmp s.0 ts ≡ s.1) (read_off r b))
+        (subst (λ ts. AllByRecursion (λ s. contains nat_cmp s.0 ts ≡ s.1) (read_off r b))
         (sym (turned_renamed a (read_off r b) wa read_arranges))
         (turns_as_stated (read_off r b) (arrangement_apart a (read_off r b) wa read_arranges)))
 

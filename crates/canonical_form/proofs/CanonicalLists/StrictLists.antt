@@ -1,15 +1,15 @@
 -- If the shapes of chains are distinct, and none is its own reverse, canonical lists are strict, and strict lists are canonical.
 use Rattle.canonical_form.proofs.Common.{AllByRecursion, IsAccepted, county-is_county, has_repeat-apart, same-transitive, strict_from_order}
 use Rattle.canonical_form.proofs.Common.{AreAllOnSides, HasShapesApart, IsCounty, SameElements, TooSymmetric, is_either_way, same-symmetric}
-use Rattle.canonical_form.proofs.Common.{AreSame, County, IsSight, IsStrict, IsTidy, Memory, Record, all_both, each_from, map-map, reverse}
+use Rattle.canonical_form.proofs.Common.{AreSame, County, IsView, IsStrict, IsTidy, Memory, Record, all_both, each_from, map-map, reverse}
 use Rattle.canonical_form.proofs.Common.{Chain, all_among, all_unmap, all_weaker, apart-same, county_of, has_repeat, points_cmp, strict-map}
 use Rattle.canonical_form.proofs.Common.{Coordinates, IsInProfile, entry_points, least_points, map, masked_chain, most_choices, points_keys}
-use Rattle.canonical_form.proofs.Common.{IsCanonicalThrough, IsStrictThrough, IsStrictlyAccepted, PolygonWithoutChain, apart_from_no_repeat}
+use Rattle.canonical_form.proofs.Common.{IsCanonicalInView, IsStrictInView, IsStrictlyAccepted, PolygonWithoutChain, apart_from_no_repeat}
 use Rattle.canonical_form.proofs.Common.{Less, List, Mask, ap, false, is_gt, masked, nat_lt, plain, refl, shapes, subst, sym, ℕ, ◌≡◌}
 use Rattle.canonical_form.proofs.CanonicalLists.OneChoice.{one_choice, only_tidy, strict_is_canonical}
 use Rattle.canonical_form.proofs.CanonicalLists.SameShapes.{points_in_order, shapes_carried, tidy_shapes}
-use Rattle.canonical_form.proofs.{CanonicalLists.Accepted.plain_sight, CanonicalLists.Ascending.canonical_exists}
-use Rattle.canonical_form.proofs.{CanonicalLists.TidyLists.tidy_of, Lists.Counting.less_from, Masks.MaskedSights.masked_sight}
+use Rattle.canonical_form.proofs.{CanonicalLists.Accepted.plain_view, CanonicalLists.Ascending.canonical_exists}
+use Rattle.canonical_form.proofs.{CanonicalLists.TidyLists.tidy_of, Lists.Counting.less_from, Masks.MaskedViews.masked_view}
 
 -- ---- lists that the stricter rules accept are accepted
 
@@ -71,49 +71,49 @@ tidy_is_strict county tidy apart =
 
 -- ---- strict lists through a view
 
-module _ (seen : County → County) (records : List Record) where
+module _ (view : County → County) (records : List Record) where
   -- they are canonical
-  pub strict_through : (answer : List Record) → IsStrictThrough seen records answer → IsCanonicalThrough seen records answer
-  strict_through answer h = record {
+  pub strict_in_view : (answer : List Record) → IsStrictInView view records answer → IsCanonicalInView view records answer
+  strict_in_view answer h = record {
     accepted = strictly_accepted records h.accepted;
     canonical = strict_is_canonical answer h.strict.in_form h.strict.strict;
     own = h.own;
     same = h.same;
   }
 
-  module _ (sight : IsSight seen) where
+  module _ (view_laws : IsView view) where
     -- no other list is canonical
-    pub strict_alone : (answer canonical : List Record) → IsStrictThrough seen records answer → IsCanonicalThrough seen records canonical
+    pub strict_alone : (answer canonical : List Record) → IsStrictInView view records answer → IsCanonicalInView view records canonical
         → canonical ≡ answer
     strict_alone answer canonical h k =
-        let old : County = seen (county_of records) in
-        let is_old : IsCounty old = sight.is_county (county_of records) (county-is_county records h.accepted.linked) in
+        let old : County = view (county_of records) in
+        let is_old : IsCounty old = view_laws.is_county (county_of records) (county-is_county records h.accepted.linked) in
         let is_new : IsCounty (county_of answer) = county-is_county answer h.strict.in_form.linked in
         only_tidy answer h.strict.in_form h.strict.strict canonical (tidy_of canonical k.canonical)
         (same-transitive (county_of answer) old (county_of canonical) is_new is_old
         (same-symmetric old (county_of answer) is_old is_new h.same) k.same)
 
     -- and there is one, if the shapes that the view shows are distinct
-    strict_exists : IsStrictlyAccepted records → HasShapesApart (seen (county_of records))
-        → (answer : List Record) × IsStrictThrough seen records answer
+    strict_exists : IsStrictlyAccepted records → HasShapesApart (view (county_of records))
+        → (answer : List Record) × IsStrictInView view records answer
     strict_exists accepted apart =
-        let found = canonical_exists seen sight records (strictly_accepted records accepted) in (
+        let found = canonical_exists view view_laws records (strictly_accepted records accepted) in (
           found.0,
           record {
             accepted = accepted;
             strict = record {
               in_form = found.1.canonical.in_form;
               strict = tidy_is_strict (county_of found.0) found.1.canonical.tidy
-                  (apart_carried (seen (county_of records)) (county_of found.0) found.1.same apart);
+                  (apart_carried (view (county_of records)) (county_of found.0) found.1.same apart);
             };
             own = found.1.own;
             same = found.1.same;
           },
         )
 
-pub strict_as_it_is : (records : List Record) → IsStrictlyAccepted records → (answer : List Record) × IsStrictThrough plain records answer
-strict_as_it_is records h = strict_exists plain records plain_sight h h.apart
+pub strict_as_it_is : (records : List Record) → IsStrictlyAccepted records → (answer : List Record) × IsStrictInView plain records answer
+strict_as_it_is records h = strict_exists plain records plain_view h h.apart
 
 pub strict_under_mask : (mask : Mask) (records : List Record) → IsStrictlyAccepted records
-    → (answer : List Record) × IsStrictThrough (masked mask) records answer
-strict_under_mask mask records h = strict_exists (masked mask) records (masked_sight mask) h (apart_masked mask (county_of records) h.apart)
+    → (answer : List Record) × IsStrictInView (masked mask) records answer
+strict_under_mask mask records h = strict_exists (masked mask) records (masked_view mask) h (apart_masked mask (county_of records) h.apart)

@@ -1,6 +1,6 @@
 -- The tidy lists of a map are the lists of its choices. Some choice has the least text, its list is canonical, and all canonical
 -- lists of one map have the same text.
-use Rattle.canonical_form.proofs.Common.{AllKeysStandIn, AreSame, Arrangement, Carries, County, IsCanonical, IsChoice, IsCounty}
+use Rattle.canonical_form.proofs.Common.{AllKeysContained, AreSame, Arrangement, Carries, County, IsCanonical, IsChoice, IsCounty}
 use Rattle.canonical_form.proofs.Common.{IsLeastBelow, IsLeastChoice, IsNotAfter, IsTidy, IsTidyList, List, Record, ap, arith, arranged}
 use Rattle.canonical_form.proofs.Common.{arranged_list, bytes_keys, choices, county-is_county, county_of, numbered_choice, order_antisymm}
 use Rattle.canonical_form.proofs.Common.{order_itself, packed, polygon_keys, polygons_along, renaming_of, same-symmetric, same-transitive}
@@ -36,7 +36,7 @@ module _ (county : County) (is : IsCounty county) where
         (least m.0 m.1));
   }
 
-module _ (county : County) (is : IsCounty county) (sides : AllKeysStandIn (polygons_along county.chains) (polygon_keys county)) where
+module _ (county : County) (is : IsCounty county) (sides : AllKeysContained (polygons_along county.chains) (polygon_keys county)) where
   -- The list of a choice is tidy and describes the same map.
   module _ (arrangement : Arrangement) (choice : IsChoice county arrangement) where
     choice_county : IsCounty (arranged county arrangement)

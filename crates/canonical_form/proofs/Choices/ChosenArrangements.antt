@@ -1,6 +1,6 @@
 -- Chains in the order of their shapes, moved at their open places, are the choice with a number.
 use Rattle.canonical_form.proofs.Common.{AgreeApart, AllByRecursion, AreInShapeOrder, AreWithin, Bool, County, DirectedChain, HasChainsOf}
-use Rattle.canonical_form.proofs.Common.{IsCounty, IsKeyOrder, List, NamesEachOnce, OpenPlace, Ordering, StandInOrder, [], alike_few, ap}
+use Rattle.canonical_form.proofs.Common.{IsCounty, IsKeyOrder, List, NamesEachOnce, OpenPlace, Ordering, ArePlacesInOrder, [], alike_few, ap}
 use Rattle.canonical_form.proofs.Common.{arith, arranged_tlids, arrangement_of, chosen, cond, directed_shape, drop, drop-map, false, insert}
 use Rattle.canonical_form.proofs.Common.{is_either_way, is_settled, length, length-map, map, map-append, moved, nat_keys, numbered_choice}
 use Rattle.canonical_form.proofs.Common.{open_place_at, open_places, other_way, points_along, points_cmp, points_keys, refl, stood, subst}
@@ -81,8 +81,8 @@ module _ (county : County) (is : IsCounty county) (by_shape : List DirectedChain
       (open_within points_keys is_either_way (length by_shape) 0 (map (points_along county) by_shape)
       (let same = length-map by_shape (points_along county) in omega (arith, same)))
 
-  pub places_in_order : StandInOrder places
-  places_in_order = subst StandInOrder (sym there) (open_in_order points_cmp is_either_way 0 (map (points_along county) by_shape))
+  pub places_in_order : ArePlacesInOrder places
+  places_in_order = subst ArePlacesInOrder (sym there) (open_in_order points_cmp is_either_way 0 (map (points_along county) by_shape))
 
   keys_same : map (points_along county) by_shape ≡ map (directed_shape county) (arrangement_of county by_shape)
   keys_same = shapes_of_order county by_shape order ∙ sym (shapes_ascending county is)

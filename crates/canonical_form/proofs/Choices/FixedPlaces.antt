@@ -1,6 +1,6 @@
 -- Moves at open places leave the elements at all other places as they are.
 use Rattle.canonical_form.proofs.Common.{AgreeApart, AllByRecursion, AreWithin, Bool, Decides, IsPermutation-insert, List, None, OpenPlace}
-use Rattle.canonical_form.proofs.Common.{Ordering, Some, StandInOrder, [], all_weaker, ap, arith, cond, drop, false, first_stood, insert}
+use Rattle.canonical_form.proofs.Common.{Ordering, Some, ArePlacesInOrder, [], all_weaker, ap, arith, cond, drop, false, first_stood, insert}
 use Rattle.canonical_form.proofs.Common.{is_settled, length, length_permutation, ltb-false, ltb-true, moved, nat_lt, open_place_at}
 use Rattle.canonical_form.proofs.Common.{open_places, refl, slice_get, slice_get_past, suc, sym, take, true, turned_by, zero, ℕ, ◌%◌, ◌++◌}
 use Rattle.canonical_form.proofs.Common.{◌+◌, ◌/◌, ◌<◌, ◌∙◌, ◌∷◌, ◌≡◌, ◌≤◌}
@@ -108,7 +108,7 @@ put_over a (suc p) (x ∷ xs) (y ∷ ys) count within (suc place) h =
     (λ past. h (λ l. (let behind = past (omega (arith, l)) in omega (arith, behind))))
 
 -- A place before an open place is apart from it and from all later ones.
-pub before_apart : (at : OpenPlace) (places : List OpenPlace) → StandInOrder (at ∷ places) → (place : ℕ) → place < at.place
+pub before_apart : (at : OpenPlace) (places : List OpenPlace) → ArePlacesInOrder (at ∷ places) → (place : ℕ) → place < at.place
     → AllByRecursion (IsApart place) (at ∷ places)
 before_apart at places in_order place before = (
   (λ l. absurd (omega (arith, l, before))),
@@ -127,14 +127,14 @@ module _ {K : Type 0} (cmp : K → K → Ordering) (either : K → Bool) where
       go true rest = rest
       go false rest = (l, rest)
 
-  pub open_in_order : (place : ℕ) (keys : List K) → StandInOrder (open_places cmp either place keys)
+  pub open_in_order : (place : ℕ) (keys : List K) → ArePlacesInOrder (open_places cmp either place keys)
   open_in_order place [] = tt
   open_in_order place (k ∷ ks) =
       go (is_settled (open_place_at cmp either place k ks)) (from_place place (suc place) ks (omega arith)) (open_in_order (suc place) ks)
     where
       go : (b : Bool) → AllByRecursion (λ at. place ≤ at.place) (open_places cmp either (suc place) ks)
-          → StandInOrder (open_places cmp either (suc place) ks)
-          → StandInOrder (cond b (open_places cmp either (suc place) ks)
+          → ArePlacesInOrder (open_places cmp either (suc place) ks)
+          → ArePlacesInOrder (cond b (open_places cmp either (suc place) ks)
           (open_place_at cmp either place k ks ∷ open_places cmp either (suc place) ks))
       go true later rest = rest
       go false later rest = (later, rest)

@@ -1,12 +1,12 @@
 -- All choices of a county are the same map.
-use Rattle.canonical_form.proofs.Common.{AllKeysStandIn, AreSame, Arrangement, County, IsChoice, IsCounty, arranged, numbered_choice}
+use Rattle.canonical_form.proofs.Common.{AllKeysContained, AreSame, Arrangement, County, IsChoice, IsCounty, arranged, numbered_choice}
 use Rattle.canonical_form.proofs.Common.{polygon_keys, polygons_along, renaming_of, same-symmetric, same-transitive, ℕ}
 use Rattle.canonical_form.proofs.{Arrangements.ArrangedCounties.arranged_county, Arrangements.Carrying.arrangement_carries}
 use Rattle.canonical_form.proofs.{Choices.TidyChoices.numbered_is_choice}
 
 module _ (county : County) (is : IsCounty county) where
   -- the counties of two choices are the same
-  module _ (sides : AllKeysStandIn (polygons_along county.chains) (polygon_keys county)) where
+  module _ (sides : AllKeysContained (polygons_along county.chains) (polygon_keys county)) where
     same_by : (arrangement : Arrangement) → IsChoice county arrangement → AreSame county (arranged county arrangement)
     same_by arrangement choice = record {
       by = renaming_of county arrangement;

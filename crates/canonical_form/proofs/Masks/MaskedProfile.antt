@@ -5,7 +5,7 @@ use Rattle.canonical_form.proofs.Common.{along_from, along_shape, along_shapes, 
 use Rattle.canonical_form.proofs.Common.{directed_cmp, has_body, is_clause_broken, is_either_way, key_cmp, least_points, length, map}
 use Rattle.canonical_form.proofs.Common.{map-map, masked, masked_chain, min, most_choices, nat_cmp, nat_lt, not, open_places, ordering_then}
 use Rattle.canonical_form.proofs.Common.{points_along, points_at, points_cmp, points_from, points_masked, range_with_len, refl, reverse}
-use Rattle.canonical_form.proofs.Common.{running, sides_masked, stands_in, subst, suc, sym, ℕ, ◌&&◌, ◌∙◌, ◌≡◌, ◌≤◌}
+use Rattle.canonical_form.proofs.Common.{running, sides_masked, contains, subst, suc, sym, ℕ, ◌&&◌, ◌∙◌, ◌≡◌, ◌≤◌}
 use Rattle.ordered_lists.proofs.Common.{is_lt}
 
 module _ (mask : Mask) (county : County) where
@@ -20,7 +20,7 @@ module _ (mask : Mask) (county : County) where
 
   clause_masked : (fault : ProfileFault) → is_clause_broken (masked mask county) fault ≡ is_clause_broken county fault
   clause_masked (PolygonWithoutChain cenid polyid) =
-      ap (λ sides. has_body county (cenid, polyid) && not (stands_in key_cmp (cenid, polyid) sides)) (sides_masked mask county)
+      ap (λ sides. has_body county (cenid, polyid) && not (contains key_cmp (cenid, polyid) sides)) (sides_masked mask county)
   clause_masked TooSymmetric = ap (nat_lt most_choices) choices_kept
   clause_masked Memory = refl
 

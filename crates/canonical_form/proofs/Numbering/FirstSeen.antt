@@ -1,7 +1,7 @@
 -- Keys in the order of their first occurrence: each occurs once, the members are the same, and the numbers grow along the keys.
 use Rattle.canonical_form.proofs.Common.{Bool, Known, List, Ordering, arith, false, is_eq, lt-ltb, ltb-true, nat_lt, subst, times, times-no}
-use Rattle.canonical_form.proofs.Common.{Grows, any-stands_in, append_assoc, first_seen_after, known-append, length-append, position_or_len}
-use Rattle.canonical_form.proofs.Common.{GrowsFrom, append-nil, first_seen, known-here, known-left, length, ltb-false, stands_in, times-yes}
+use Rattle.canonical_form.proofs.Common.{Grows, any-contains, append_assoc, first_seen_after, known-append, length-append, position_or_len}
+use Rattle.canonical_form.proofs.Common.{GrowsFrom, append-nil, first_seen, known-here, known-left, length, ltb-false, contains, times-yes}
 use Rattle.canonical_form.proofs.Common.{IsApart, IsKeyOrder, known-later, known-right, known_cases, same-itself, same_or_not, times-append}
 use Rattle.canonical_form.proofs.Common.{[], ap, cond, inl, inr, map, max, not, refl, sym, true, ℕ, ◌++◌, ◌+◌, ◌<◌, ◌∙◌, ◌∷◌, ◌≡◌, ◌≤◌, ◌⊎◌}
 use Rattle.canonical_form.proofs.Numbering.FoundPlaces.{any_within, first_stays, none_at_end, place_behind}
@@ -13,11 +13,11 @@ module _ {K : Type 0} {cmp : K → K → Ordering} (o : IsKeyOrder cmp) where
 
   pub known_within : (xs : List K) (k : K) → Known cmp xs k → position_or_len (λ other. is_eq (cmp k other)) xs < length xs
   known_within xs k h = any_within (λ other. is_eq (cmp k other)) xs
-      (any-stands_in (λ x y. is_eq (cmp x y)) cmp (λ x y. refl) k xs ∙ lt-ltb 0 (times cmp k xs) h)
+      (any-contains (λ x y. is_eq (cmp x y)) cmp (λ x y. refl) k xs ∙ lt-ltb 0 (times cmp k xs) h)
 
   pub unknown_at_end : (xs : List K) (k : K) → times cmp k xs ≡ 0 → position_or_len (λ other. is_eq (cmp k other)) xs ≡ length xs
   unknown_at_end xs k h = none_at_end (λ other. is_eq (cmp k other)) xs
-      (any-stands_in (λ x y. is_eq (cmp x y)) cmp (λ x y. refl) k xs ∙ ap (nat_lt 0) h)
+      (any-contains (λ x y. is_eq (cmp x y)) cmp (λ x y. refl) k xs ∙ ap (nat_lt 0) h)
 
   -- a known key has a place in the list
   pub place_bounds : (i : ℕ) (xs : List K) (k : K) → Known cmp xs k → (i ≤ place_from i xs k) × (place_from i xs k < i + length xs)
@@ -37,7 +37,7 @@ module _ {K : Type 0} {cmp : K → K → Ordering} (o : IsKeyOrder cmp) where
   -- keys that were seen stay at the beginning
   pub seen_stays : (seen keys : List K) → (more : List K) × (first_seen_after cmp seen keys ≡ seen ++ more)
   seen_stays seen [] = ([], sym (append-nil seen))
-  seen_stays seen (k ∷ keys) = go (stands_in cmp k seen) (seen_stays seen keys) (seen_stays (seen ++ (k ∷ [])) keys)
+  seen_stays seen (k ∷ keys) = go (contains cmp k seen) (seen_stays seen keys) (seen_stays (seen ++ (k ∷ [])) keys)
     where
       go : (b : Bool) → (more : List K) × (first_seen_after cmp seen keys ≡ seen ++ more)
           → (more : List K) × (first_seen_after cmp (seen ++ (k ∷ [])) keys ≡ (seen ++ (k ∷ [])) ++ more)
@@ -45,7 +45,7 @@ module _ {K : Type 0} {cmp : K → K → Ordering} (o : IsKeyOrder cmp) where
       go true old new = old
       go false old new = (k ∷ new.0, new.1 ∙ append_assoc seen (k ∷ []) new.0)
 
-  new_apart : (seen : List K) (k : K) → IsApart cmp seen → stands_in cmp k seen ≡ false → IsApart cmp (seen ++ (k ∷ []))
+  new_apart : (seen : List K) (k : K) → IsApart cmp seen → contains cmp k seen ≡ false → IsApart cmp (seen ++ (k ∷ []))
   new_apart seen k a f j = go (same_or_not o j k)
     where
       none : times cmp k seen ≤ 0
@@ -58,9 +58,9 @@ module _ {K : Type 0} {cmp : K → K → Ordering} (o : IsKeyOrder cmp) where
 
   apart_after : (seen keys : List K) → IsApart cmp seen → IsApart cmp (first_seen_after cmp seen keys)
   apart_after seen [] a = a
-  apart_after seen (k ∷ keys) a = go (stands_in cmp k seen) refl (apart_after seen keys a) (apart_after (seen ++ (k ∷ [])) keys)
+  apart_after seen (k ∷ keys) a = go (contains cmp k seen) refl (apart_after seen keys a) (apart_after (seen ++ (k ∷ [])) keys)
     where
-      go : (b : Bool) → stands_in cmp k seen ≡ b → IsApart cmp (first_seen_after cmp seen keys)
+      go : (b : Bool) → contains cmp k seen ≡ b → IsApart cmp (first_seen_after cmp seen keys)
           → (IsApart cmp (seen ++ (k ∷ [])) → IsApart cmp (first_seen_after cmp (seen ++ (k ∷ [])) keys))
           → IsApart cmp (cond b (first_seen_after cmp seen keys) (first_seen_after cmp (seen ++ (k ∷ [])) keys))
       go true e old new = old
@@ -71,7 +71,7 @@ module _ {K : Type 0} {cmp : K → K → Ordering} (o : IsKeyOrder cmp) where
 
   pub known_after : (seen keys : List K) (k : K) → Known cmp (first_seen_after cmp seen keys) k → Known cmp seen k ⊎ Known cmp keys k
   known_after seen [] k h = inl h
-  known_after seen (j ∷ keys) k h = go (stands_in cmp j seen) h (known_after seen keys k) (known_after (seen ++ (j ∷ [])) keys k)
+  known_after seen (j ∷ keys) k h = go (contains cmp j seen) h (known_after seen keys k) (known_after (seen ++ (j ∷ [])) keys k)
     where
       split : Known cmp (seen ++ (j ∷ [])) k ⊎ Known cmp keys k → Known cmp seen k ⊎ Known cmp (j ∷ keys) k
       split (inr l) = inr (known-later o k j keys l)
@@ -106,9 +106,9 @@ module _ {K : Type 0} {cmp : K → K → Ordering} (o : IsKeyOrder cmp) where
   pub all_after : (seen keys : List K) (k : K) → Known cmp keys k → Known cmp (first_seen_after cmp seen keys) k
   all_after seen [] k h = absurd (omega (arith, h))
   all_after seen (j ∷ keys) k h =
-      go (stands_in cmp j seen) refl (all_after seen keys k) (all_after (seen ++ (j ∷ [])) keys k) (known_cases o k j keys h)
+      go (contains cmp j seen) refl (all_after seen keys k) (all_after (seen ++ (j ∷ [])) keys k) (known_cases o k j keys h)
     where
-      go : (b : Bool) → stands_in cmp j seen ≡ b → (Known cmp keys k → Known cmp (first_seen_after cmp seen keys) k)
+      go : (b : Bool) → contains cmp j seen ≡ b → (Known cmp keys k → Known cmp (first_seen_after cmp seen keys) k)
           → (Known cmp keys k → Known cmp (first_seen_after cmp (seen ++ (j ∷ [])) keys) k)
           → (k ≡ j) ⊎ (Known cmp keys k × (is_eq (cmp k j) ≡ false))
           → Known cmp (cond b (first_seen_after cmp seen keys) (first_seen_after cmp (seen ++ (j ∷ [])) keys)) k
@@ -126,7 +126,7 @@ module _ {K : Type 0} {cmp : K → K → Ordering} (o : IsKeyOrder cmp) where
   -- the places along the keys grow
   places_grow : (seen keys : List K) → GrowsFrom (length seen) (map (place_from 1 (first_seen_after cmp seen keys)) keys)
   places_grow seen [] = tt
-  places_grow seen (k ∷ keys) = go (stands_in cmp k seen) refl (places_grow seen keys) (places_grow (seen ++ (k ∷ [])) keys)
+  places_grow seen (k ∷ keys) = go (contains cmp k seen) refl (places_grow seen keys) (places_grow (seen ++ (k ∷ [])) keys)
     where
       old : (final : List K) (more : List K) → final ≡ seen ++ more → Known cmp seen k
           → GrowsFrom (length seen) (map (place_from 1 final) keys) → GrowsFrom (length seen) (map (place_from 1 final) (k ∷ keys))
@@ -155,7 +155,7 @@ module _ {K : Type 0} {cmp : K → K → Ordering} (o : IsKeyOrder cmp) where
             subst (λ n. GrowsFrom n (map (place_from 1 final) keys)) top ih,
           )
 
-      go : (b : Bool) → stands_in cmp k seen ≡ b → GrowsFrom (length seen) (map (place_from 1 (first_seen_after cmp seen keys)) keys)
+      go : (b : Bool) → contains cmp k seen ≡ b → GrowsFrom (length seen) (map (place_from 1 (first_seen_after cmp seen keys)) keys)
           → GrowsFrom (length (seen ++ (k ∷ []))) (map (place_from 1 (first_seen_after cmp (seen ++ (k ∷ [])) keys)) keys)
           → GrowsFrom (length seen)
           (map (place_from 1 (cond b (first_seen_after cmp seen keys) (first_seen_after cmp (seen ++ (k ∷ [])) keys))) (k ∷ keys))

@@ -12,11 +12,11 @@ use Rattle.canonical_form.proofs.Common.{IsTrue, among_known, first_point, lengt
 use Rattle.canonical_form.proofs.Common.{PolygonKey, all_joined, filter_map, last_point, packed_one, polygons_of, seven_land, to_in_order}
 use Rattle.canonical_form.proofs.Common.{among-unmap, common_steps, inner_points, known-append, numbered_from, packed_sevens, to_filter_map}
 use Rattle.canonical_form.proofs.Common.{ap, drop, inl, inr, map, on, refl, suc, sym, take, zero, ◌++◌, ◌∙◌, ◌∷◌, ◌≡◌, ◌≤◌, ◌⊎◌}
-use Rattle.canonical_form.proofs.Common.{in_pieces, known_all, of_number, of_type_7, of_type_i, of_type_p, one_entry, side_keys, stands_in}
+use Rattle.canonical_form.proofs.Common.{in_pieces, known_all, of_number, of_type_7, of_type_i, of_type_p, one_entry, side_keys, contains}
 use Rattle.canonical_form.proofs.Common.{landmarks_of, packed_fours, packed_sixes, polygon_body, polygon_keys, shape_points, strict-equal}
 use Rattle.canonical_form.proofs.Packing.PackedNumbers.{eights, fives, four_own, fours, links_of_chains, numbered_strict, ones}
 use Rattle.canonical_form.proofs.Packing.PackedNumbers.{polygons_packed, seven_own, sevens, six_own, sixes, tlids_apart, two_own, twos}
-use Rattle.canonical_form.proofs.Packing.PackedNamed.{few_polygons, key_stands, land_stands, sides_along}
+use Rattle.canonical_form.proofs.Packing.PackedNamed.{few_polygons, key_contained, land_contained, sides_along}
 use Rattle.canonical_form.proofs.{Packing.PackedGroups.group_of, Packing.PolygonBodies.body_found, Packing.PolygonBodies.first_body}
 use Rattle.std.proofs.lemmas.List.Concat.{flat_map_single}
 
@@ -150,11 +150,11 @@ module _ (c : County) (is : IsCounty c) where
       go : Known key_cmp (flat_map side_keys (of_type_i (packed c))) k ⊎ Known key_cmp (map p_key (of_type_p (packed c))) k → is_entry k
       go (inl side) =
           let along : Known key_cmp (polygons_along c.chains) k = subst (λ ks. Known key_cmp ks k) (sides_along c is) side in
-          let all : AllByRecursion (λ j. IsTrue (stands_in key_cmp j (polygon_keys c))) (polygons_along c.chains) =
+          let all : AllByRecursion (λ j. IsTrue (contains key_cmp j (polygon_keys c))) (polygons_along c.chains) =
           search (rules, all_joined) in
           known_is_among key_keys k (polygon_keys c)
           (ltb-true 0 (times key_cmp k (polygon_keys c))
-          (known_all key_keys (λ j. IsTrue (stands_in key_cmp j (polygon_keys c))) (polygons_along c.chains) all k along))
+          (known_all key_keys (λ j. IsTrue (contains key_cmp j (polygon_keys c))) (polygons_along c.chains) all k along))
       go (inr body) =
           let r = among-unmap p_key k (of_type_p (packed c)) (known_is_among key_keys k (map p_key (of_type_p (packed c))) body) in
           let d = record_entry r.0 r.1 in
@@ -165,7 +165,7 @@ module _ (c : County) (is : IsCounty c) where
       (distinct-strict key_keys keys) is.ascending.polygons
       (λ k m. from_keys k (known_from_distinct key_keys keys k (among_known key_keys k (distinct key_cmp keys) m)))
       (λ k m. known_is_among key_keys k (distinct key_cmp keys)
-      (known-distinct key_keys keys k (key_stands c is k (among_known key_keys k (polygon_keys c) m))))
+      (known-distinct key_keys keys k (key_contained c is k (among_known key_keys k (polygon_keys c) m))))
 
   body_back : (e : PolygonKey × Option BodyP) → Among e c.polygons → polygon_body (packed c) e.0 ≡ e.1
   body_back e m = go e.1 refl (polygon_body (packed c) e.0) refl
@@ -207,7 +207,7 @@ module _ (c : County) (is : IsCounty c) where
       subst (λ k. Among k (lands c)) (sym (r.2 ∙ all_among (λ x. seven_land x ≡ e.0.0) r.0 (packed_sevens e.0) (seven_own e.0) e.2))
       (among-map (λ (d : ℕ × List Body7). d.0) e.0 c.landmarks e.1))
       (λ n m. known_is_among nat_keys n (distinct nat_cmp (map seven_land (of_type_7 (packed c))))
-      (known-distinct nat_keys (map seven_land (of_type_7 (packed c))) n (land_stands c is n (among_known nat_keys n (lands c) m))))
+      (known-distinct nat_keys (map seven_land (of_type_7 (packed c))) n (land_contained c is n (among_known nat_keys n (lands c) m))))
 
   bodies_back : (e : ℕ × List Body7) → Among e c.landmarks
       → in_order landmark_body_cmp (map (λ (r : Fields7). r.body) (of_number seven_land e.0 (of_type_7 (packed c)))) ≡ e.1

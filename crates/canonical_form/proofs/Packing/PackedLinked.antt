@@ -4,10 +4,10 @@ use Rattle.canonical_form.proofs.Common.{List, NameTwice, NameUnknown, NoChain, 
 use Rattle.canonical_form.proofs.Common.{apart_from_sorted, chain_tlids, eight_land, false, false≢true, flat_map, i_tlid, key_cmp, key_keys}
 use Rattle.canonical_form.proofs.Common.{known_all, lands, le-ltb, link_key, lt-ltb, ltb-true, map, nat_cmp, nat_keys, nat_lt, not}
 use Rattle.canonical_form.proofs.Common.{of_type_7, of_type_8, of_type_i, of_type_p, p_key, packed, polygon_keys, refl, rules, seven_land}
-use Rattle.canonical_form.proofs.Common.{side_keys, stands_in, times, tlids, true, ℕ, ◌&&◌, ◌++◌, ◌∙◌, ◌≡◌}
+use Rattle.canonical_form.proofs.Common.{side_keys, contains, times, tlids, true, ℕ, ◌&&◌, ◌++◌, ◌∙◌, ◌≡◌}
 use Rattle.canonical_form.proofs.Packing.PackedNumbers.{chain_numbers, eights, link_numbers, name_numbers, tlids_apart}
 use Rattle.canonical_form.proofs.Packing.PackedChains.{all_linked, sequence}
-use Rattle.canonical_form.proofs.Packing.PackedNamed.{few_polygons, key_stands, land_stands, named}
+use Rattle.canonical_form.proofs.Packing.PackedNamed.{few_polygons, key_contained, land_contained, named}
 use Rattle.county_chart.specs.declared.fault.LinkFault.TheVariants.{ChainTwice, Memory}
 
 -- if the second of two tests holds whenever the first does, the first never holds alone
@@ -32,21 +32,21 @@ module _ (c : County) (is : IsCounty c) where
   packed_linked (NameUnknown tlid feat) = search (rules, implied, name_numbers, known_all, nat_keys, named, ltb-true)
   packed_linked (PolygonTwice cenid polyid) = search (rules, le-ltb, few_polygons)
   packed_linked (LandUnknown land) =
-      implied (stands_in nat_cmp land (map eight_land (of_type_8 (packed c))))
-      (stands_in nat_cmp land (map seven_land (of_type_7 (packed c))))
+      implied (contains nat_cmp land (map eight_land (of_type_8 (packed c))))
+      (contains nat_cmp land (map seven_land (of_type_7 (packed c))))
       (λ t. let known : Known nat_cmp (map eight_land c.links) land = search (rules, eights, ltb-true) in
-      let listed : IsTrue (stands_in nat_cmp land (lands c)) =
-      known_all nat_keys (λ n. IsTrue (stands_in nat_cmp n (lands c))) (map eight_land c.links)
-      (all_map (λ n. IsTrue (stands_in nat_cmp n (lands c))) eight_land c.links is.closed.link_lands) land known in
+      let listed : IsTrue (contains nat_cmp land (lands c)) =
+      known_all nat_keys (λ n. IsTrue (contains nat_cmp n (lands c))) (map eight_land c.links)
+      (all_map (λ n. IsTrue (contains nat_cmp n (lands c))) eight_land c.links is.closed.link_lands) land known in
       lt-ltb 0 (times nat_cmp land (map seven_land (of_type_7 (packed c))))
-      ((land_stands c is) land (ltb-true 0 (times nat_cmp land (lands c)) listed)))
+      ((land_contained c is) land (ltb-true 0 (times nat_cmp land (lands c)) listed)))
   packed_linked (PolygonUnknown cenid polyid) =
-      implied (stands_in key_cmp (cenid, polyid) (map link_key (of_type_8 (packed c))))
-      (stands_in key_cmp (cenid, polyid) (flat_map side_keys (of_type_i (packed c)) ++ map p_key (of_type_p (packed c))))
+      implied (contains key_cmp (cenid, polyid) (map link_key (of_type_8 (packed c))))
+      (contains key_cmp (cenid, polyid) (flat_map side_keys (of_type_i (packed c)) ++ map p_key (of_type_p (packed c))))
       (λ t. let known : Known key_cmp (map link_key c.links) (cenid, polyid) = search (rules, eights, ltb-true) in
-      let listed : IsTrue (stands_in key_cmp (cenid, polyid) (polygon_keys c)) =
-      known_all key_keys (λ k. IsTrue (stands_in key_cmp k (polygon_keys c))) (map link_key c.links)
-      (all_map (λ k. IsTrue (stands_in key_cmp k (polygon_keys c))) link_key c.links is.closed.link_polygons) (cenid, polyid) known in
+      let listed : IsTrue (contains key_cmp (cenid, polyid) (polygon_keys c)) =
+      known_all key_keys (λ k. IsTrue (contains key_cmp k (polygon_keys c))) (map link_key c.links)
+      (all_map (λ k. IsTrue (contains key_cmp k (polygon_keys c))) link_key c.links is.closed.link_polygons) (cenid, polyid) known in
       lt-ltb 0 (times key_cmp (cenid, polyid) (flat_map side_keys (of_type_i (packed c)) ++ map p_key (of_type_p (packed c))))
-      ((key_stands c is) (cenid, polyid) (ltb-true 0 (times key_cmp (cenid, polyid) (polygon_keys c)) listed)))
+      ((key_contained c is) (cenid, polyid) (ltb-true 0 (times key_cmp (cenid, polyid) (polygon_keys c)) listed)))
   packed_linked Memory = refl

@@ -1,5 +1,5 @@
 -- The FEATs, LANDs and polygons that the records of a packed county name are in the county.
-use Rattle.canonical_form.proofs.Common.{AllByRecursion, AllStandIn, Among, Body7, BodyP, Chain, County, Fields4, Fields7, FieldsP, IsApart}
+use Rattle.canonical_form.proofs.Common.{AllByRecursion, AllContained, Among, Body7, BodyP, Chain, County, Fields4, Fields7, FieldsP, IsApart}
 use Rattle.canonical_form.proofs.Common.{IsCounty, IsTrue, Known, List, None, Option, PolygonKey, Some, [], all_among, all_in_pieces}
 use Rattle.canonical_form.proofs.Common.{all_joined, all_map, all_numbered_from, all_weaker, among-map, among-pieces, among-unmap}
 use Rattle.canonical_form.proofs.Common.{among_known, ap, apart_from_sorted, arith, common_steps, false≢true, feats, filter_map, flat_map}
@@ -7,7 +7,7 @@ use Rattle.canonical_form.proofs.Common.{four_tlid, in_pieces, inl, inr, is_some
 use Rattle.canonical_form.proofs.Common.{known_is_among, lands, length, ltb-true, map, named_feats, nat_cmp, nat_keys, numbered_from}
 use Rattle.canonical_form.proofs.Common.{of_number, of_type_7, of_type_i, of_type_p, or_cases, p_key, packed, packed_body, packed_fours}
 use Rattle.canonical_form.proofs.Common.{packed_i, packed_p, packed_sevens, polygon_keys, polygons_along, refl, rules, same_or_not}
-use Rattle.canonical_form.proofs.Common.{seven_land, side_keys, stands_in, subst, sym, times, times-cons, times-in_order, times-no}
+use Rattle.canonical_form.proofs.Common.{seven_land, side_keys, contains, subst, sym, times, times-cons, times-in_order, times-no}
 use Rattle.canonical_form.proofs.Common.{times-yes, to_filter_map, to_in_order, true, ℕ, ◌++◌, ◌+◌, ◌<◌, ◌||◌, ◌∙◌, ◌∷◌, ◌≡◌, ◌≤◌, ◌⊎◌}
 use Rattle.canonical_form.proofs.Packing.PackedGroups.{group_holds}
 use Rattle.canonical_form.proofs.Packing.PackedNumbers.{four_own, fours, links_of_chains, polygons_packed, sevens, tlids_apart}
@@ -20,27 +20,27 @@ few_packed_keys k (e ∷ es) = grind (arith, common_steps, same_or_not, key_keys
 
 module _ (c : County) (is : IsCounty c) where
   -- a test of names, of polygons and of landmarks
-  pub named : (tlid : ℕ) → AllByRecursion (λ n. IsTrue (stands_in nat_cmp n (feats c))) (named_feats tlid (packed c))
-  named tlid = subst (λ xs. AllByRecursion (λ n. IsTrue (stands_in nat_cmp n (feats c)))
+  pub named : (tlid : ℕ) → AllByRecursion (λ n. IsTrue (contains nat_cmp n (feats c))) (named_feats tlid (packed c))
+  named tlid = subst (λ xs. AllByRecursion (λ n. IsTrue (contains nat_cmp n (feats c)))
       (flat_map (λ (r : Fields4). r.feats) (of_number four_tlid tlid xs))) (sym (fours c is))
       (group_holds four_tlid packed_fours four_own
-      (λ xs. AllByRecursion (λ n. IsTrue (stands_in nat_cmp n (feats c)))
+      (λ xs. AllByRecursion (λ n. IsTrue (contains nat_cmp n (feats c)))
       (flat_map (λ (r : Fields4). r.feats) xs)) tt c.chains (tlids_apart c is)
-      (all_weaker (λ e. AllStandIn (feats c) e.1.feats)
-      (λ e. AllByRecursion (λ n. IsTrue (stands_in nat_cmp n (feats c))) (flat_map (λ (r : Fields4). r.feats) (packed_fours e)))
-      (λ e a. all_joined (λ n. IsTrue (stands_in nat_cmp n (feats c))) (λ (r : Fields4). r.feats) (packed_fours e)
-      (all_map (λ (r : Fields4). AllByRecursion (λ n. IsTrue (stands_in nat_cmp n (feats c))) r.feats)
+      (all_weaker (λ e. AllContained (feats c) e.1.feats)
+      (λ e. AllByRecursion (λ n. IsTrue (contains nat_cmp n (feats c))) (flat_map (λ (r : Fields4). r.feats) (packed_fours e)))
+      (λ e a. all_joined (λ n. IsTrue (contains nat_cmp n (feats c))) (λ (r : Fields4). r.feats) (packed_fours e)
+      (all_map (λ (r : Fields4). AllByRecursion (λ n. IsTrue (contains nat_cmp n (feats c))) r.feats)
       (λ (piece : ℕ × List ℕ). record { tlid = e.0; rtsq = piece.0; feats = piece.1 }) (numbered_from 1 (in_pieces 5 e.1.feats))
       (all_weaker (λ (piece : ℕ × List ℕ). (1 ≤ piece.0)
-      × ((piece.0 < 1 + length (in_pieces 5 e.1.feats)) × AllByRecursion (λ n. IsTrue (stands_in nat_cmp n (feats c))) piece.1))
-      (λ piece. AllByRecursion (λ n. IsTrue (stands_in nat_cmp n (feats c))) piece.1) (λ piece h. h.1.1)
+      × ((piece.0 < 1 + length (in_pieces 5 e.1.feats)) × AllByRecursion (λ n. IsTrue (contains nat_cmp n (feats c))) piece.1))
+      (λ piece. AllByRecursion (λ n. IsTrue (contains nat_cmp n (feats c))) piece.1) (λ piece h. h.1.1)
       (numbered_from 1 (in_pieces 5 e.1.feats))
-      (all_numbered_from (AllByRecursion (λ n. IsTrue (stands_in nat_cmp n (feats c)))) 1 (in_pieces 5 e.1.feats)
-      (all_in_pieces (λ n. IsTrue (stands_in nat_cmp n (feats c))) 5 (length e.1.feats) e.1.feats a)))))
+      (all_numbered_from (AllByRecursion (λ n. IsTrue (contains nat_cmp n (feats c)))) 1 (in_pieces 5 e.1.feats)
+      (all_in_pieces (λ n. IsTrue (contains nat_cmp n (feats c))) 5 (length e.1.feats) e.1.feats a)))))
       c.chains is.closed.names) tlid)
 
-  landmark_stands : (e : ℕ × List Body7) → Among e c.landmarks → Known nat_cmp (map seven_land (of_type_7 (packed c))) e.0
-  landmark_stands e m =
+  landmark_contained : (e : ℕ × List Body7) → Among e c.landmarks → Known nat_cmp (map seven_land (of_type_7 (packed c))) e.0
+  landmark_contained e m =
       let some : 1 ≤ length e.1 = all_among (λ d. 1 ≤ length d.1) e c.landmarks is.whole.bodies m in
       subst (λ xs. Known nat_cmp (map seven_land xs) e.0) (sym (sevens c is)) (at e.1 refl some)
     where
@@ -52,8 +52,8 @@ module _ (c : County) (is : IsCounty c) where
           among_known nat_keys e.0 (map seven_land (flat_map packed_sevens c.landmarks))
           (among-map seven_land r (flat_map packed_sevens c.landmarks) (among-pieces packed_sevens e r c.landmarks m there))
 
-  pub land_stands : (land : ℕ) → Known nat_cmp (lands c) land → Known nat_cmp (map seven_land (of_type_7 (packed c))) land
-  land_stands land k = search (rules, among-unmap, known_is_among, nat_keys, landmark_stands)
+  pub land_contained : (land : ℕ) → Known nat_cmp (lands c) land → Known nat_cmp (map seven_land (of_type_7 (packed c))) land
+  land_contained land k = search (rules, among-unmap, known_is_among, nat_keys, landmark_contained)
 
   pub sides_along : flat_map side_keys (of_type_i (packed c)) ≡ polygons_along c.chains
   sides_along = ap (flat_map side_keys) (links_of_chains c is) ∙ joined c.chains
@@ -63,13 +63,13 @@ module _ (c : County) (is : IsCounty c) where
       joined (e ∷ es) = ap (λ ks. side_keys (packed_i e) ++ ks) (joined es)
 
   -- a polygon of the county is on a side or has a record
-  pub key_stands : (key : PolygonKey) → Known key_cmp (polygon_keys c) key
+  pub key_contained : (key : PolygonKey) → Known key_cmp (polygon_keys c) key
       → Known key_cmp (flat_map side_keys (of_type_i (packed c)) ++ map p_key (of_type_p (packed c))) key
-  key_stands key k =
+  key_contained key k =
       let e = among-unmap (λ (d : PolygonKey × Option BodyP). d.0) key c.polygons (known_is_among key_keys key (polygon_keys c) k) in
-      let whole : (is_some e.0.1 || stands_in key_cmp e.0.0 (polygons_along c.chains)) ≡ true = search (rules, all_among) in
+      let whole : (is_some e.0.1 || contains key_cmp e.0.0 (polygons_along c.chains)) ≡ true = search (rules, all_among) in
       subst (Known key_cmp (flat_map side_keys (of_type_i (packed c)) ++ map p_key (of_type_p (packed c)))) (sym e.2)
-      (go e.0 e.1 (or_cases (is_some e.0.1) (stands_in key_cmp e.0.0 (polygons_along c.chains)) whole))
+      (go e.0 e.1 (or_cases (is_some e.0.1) (contains key_cmp e.0.0 (polygons_along c.chains)) whole))
     where
       with_body : (d : PolygonKey × Option BodyP) → Among d c.polygons → (o : Option BodyP) → d.1 ≡ o → is_some o ≡ true
           → Known key_cmp (map p_key (of_type_p (packed c))) d.0
@@ -81,7 +81,7 @@ module _ (c : County) (is : IsCounty c) where
           among_known key_keys d.0 (map p_key (of_type_p (packed c))) (among-map p_key r (of_type_p (packed c)) ordered)
 
       go : (d : PolygonKey × Option BodyP) → Among d c.polygons
-          → (is_some d.1 ≡ true) ⊎ (stands_in key_cmp d.0 (polygons_along c.chains) ≡ true)
+          → (is_some d.1 ≡ true) ⊎ (contains key_cmp d.0 (polygons_along c.chains) ≡ true)
           → Known key_cmp (flat_map side_keys (of_type_i (packed c)) ++ map p_key (of_type_p (packed c))) d.0
       go d m (inl some) = search (rules, known-right, key_keys, with_body)
       go d m (inr side) = search (rules, known-left, key_keys, sides_along, ltb-true)

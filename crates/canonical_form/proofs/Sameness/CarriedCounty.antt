@@ -1,5 +1,5 @@
 -- A renaming that carries takes a closed county to a closed one, and a whole one to a whole one.
-use Rattle.canonical_form.proofs.Common.{AllKeysStandIn, AllStandIn, Among, ArePaired, Body7, BodyP, Bool, Carries, Chain, County, Fields8}
+use Rattle.canonical_form.proofs.Common.{AllKeysContained, AllContained, Among, ArePaired, Body7, BodyP, Bool, Carries, Chain, County, Fields8}
 use Rattle.canonical_form.proofs.Common.{IsClosed, IsKeyOrder, IsPermutation-sym, IsTrue, IsWhole, Known, List, Option, Ordering}
 use Rattle.canonical_form.proofs.Common.{PolygonKey, Renumbering, all_among, among-map, among-permutation, among-pieces, among-swapped}
 use Rattle.canonical_form.proofs.Common.{among-turned, among-unmap, among-unpieces, among_known, carried_chain, carried_landmark}
@@ -7,7 +7,7 @@ use Rattle.canonical_form.proofs.Common.{carried_link, carried_polygon, chain_no
 use Rattle.canonical_form.proofs.Common.{false, feats, image, image-known, is_some, key_cmp, key_keys, key_on, known-permutation}
 use Rattle.canonical_form.proofs.Common.{known-permutation_to, known_is_among, lands, length, length-reverse, link_key, lt-ltb, ltb-true}
 use Rattle.canonical_form.proofs.Common.{map, nat_cmp, nat_keys, option_to_list, or_cases, or_left, or_right, polygon_keys, polygons_along}
-use Rattle.canonical_form.proofs.Common.{refl, rules, stands_in, subst, sym, times, true, turned_if, turns, ℕ, ◌||◌, ◌≡◌, ◌≤◌}
+use Rattle.canonical_form.proofs.Common.{refl, rules, contains, subst, sym, times, true, turned_if, turns, ℕ, ◌||◌, ◌≡◌, ◌≤◌}
 
 -- a turn keeps the nodes and polygons of a chain, in both directions
 pub nodes-turned : (n : ℕ) (b : Bool) (c : Chain) → Among n (chain_nodes c) → Among n (chain_nodes (turned_if b c))
@@ -50,42 +50,42 @@ module _ (r : Renumbering) (a b : County) (h : Carries r a b) where
   old_link l m = among-unmap (carried_link r) l a.links
       (among-permutation l b.links (map (carried_link r) a.links) (IsPermutation-sym (map (carried_link r) a.links) b.links h.links) m)
 
-  new_name : (n : ℕ) → IsTrue (stands_in nat_cmp n (feats a)) → IsTrue (stands_in nat_cmp (image nat_cmp r.names n) (feats b))
+  new_name : (n : ℕ) → IsTrue (contains nat_cmp n (feats a)) → IsTrue (contains nat_cmp (image nat_cmp r.names n) (feats b))
   new_name n t = search (rules, lt-ltb, paired_known, nat_keys, ltb-true)
 
-  new_key : (k : PolygonKey) → IsTrue (stands_in key_cmp k (polygon_keys a))
-      → IsTrue (stands_in key_cmp (image key_cmp r.polygons k) (polygon_keys b))
+  new_key : (k : PolygonKey) → IsTrue (contains key_cmp k (polygon_keys a))
+      → IsTrue (contains key_cmp (image key_cmp r.polygons k) (polygon_keys b))
   new_key k t = search (rules, lt-ltb, paired_known, key_keys, ltb-true)
 
-  names_stand : IsClosed a → (d : ℕ × Chain) → Among d a.chains → AllStandIn (feats b) (carried_chain r d).1.feats
-  names_stand closed d m = search (rules, each_from, among-unmap, feats-turned, all_among, new_name)
+  names_contained : IsClosed a → (d : ℕ × Chain) → Among d a.chains → AllContained (feats b) (carried_chain r d).1.feats
+  names_contained closed d m = search (rules, each_from, among-unmap, feats-turned, all_among, new_name)
 
-  sides_stand : IsClosed a → (d : ℕ × Chain) → Among d a.chains → AllKeysStandIn (polygon_keys b) (chain_polygons (carried_chain r d).1)
-  sides_stand closed d m = each_from (λ k. IsTrue (stands_in key_cmp k (polygon_keys b))) (chain_polygons (carried_chain r d).1)
+  sides_contained : IsClosed a → (d : ℕ × Chain) → Among d a.chains → AllKeysContained (polygon_keys b) (chain_polygons (carried_chain r d).1)
+  sides_contained closed d m = each_from (λ k. IsTrue (contains key_cmp k (polygon_keys b))) (chain_polygons (carried_chain r d).1)
       (λ k l. let o = among-unmap (image key_cmp r.polygons) k (chain_polygons (turned_if (turns r d.0) d.1))
       (subst (Among k) (chain_polygons-renumbered r (turned_if (turns r d.0) d.1)) l) in
       let old : Among o.0 (chain_polygons d.1) = polygons-unturned o.0 (turns r d.0) d.1 o.1 in
-      let stands : AllKeysStandIn (polygon_keys a) (chain_polygons d.1) = search (rules, all_among) in
-      subst (λ j. IsTrue (stands_in key_cmp j (polygon_keys b))) (sym o.2)
-      (new_key o.0 (all_among (λ j. IsTrue (stands_in key_cmp j (polygon_keys a))) o.0 (chain_polygons d.1) stands old)))
+      let stands : AllKeysContained (polygon_keys a) (chain_polygons d.1) = search (rules, all_among) in
+      subst (λ j. IsTrue (contains key_cmp j (polygon_keys b))) (sym o.2)
+      (new_key o.0 (all_among (λ j. IsTrue (contains key_cmp j (polygon_keys a))) o.0 (chain_polygons d.1) stands old)))
 
   pub carried_closed : IsClosed a → IsClosed b
   carried_closed closed = record {
-    names = each_from (λ e. AllStandIn (feats b) e.1.feats) b.chains (λ e m. let o = old_chain e m in
-        subst (λ (c : ℕ × Chain). AllStandIn (feats b) c.1.feats) (sym o.2) (names_stand closed o.0 o.1));
-    sides = each_from (λ e. AllKeysStandIn (polygon_keys b) (chain_polygons e.1)) b.chains (λ e m. let o = old_chain e m in
-        subst (λ (c : ℕ × Chain). AllKeysStandIn (polygon_keys b) (chain_polygons c.1)) (sym o.2) (sides_stand closed o.0 o.1));
-    link_lands = each_from (λ l. IsTrue (stands_in nat_cmp l.land (lands b))) b.links
+    names = each_from (λ e. AllContained (feats b) e.1.feats) b.chains (λ e m. let o = old_chain e m in
+        subst (λ (c : ℕ × Chain). AllContained (feats b) c.1.feats) (sym o.2) (names_contained closed o.0 o.1));
+    sides = each_from (λ e. AllKeysContained (polygon_keys b) (chain_polygons e.1)) b.chains (λ e m. let o = old_chain e m in
+        subst (λ (c : ℕ × Chain). AllKeysContained (polygon_keys b) (chain_polygons c.1)) (sym o.2) (sides_contained closed o.0 o.1));
+    link_lands = each_from (λ l. IsTrue (contains nat_cmp l.land (lands b))) b.links
         (λ l m. let o = old_link l m in
-        subst (λ (k : Fields8). IsTrue (stands_in nat_cmp k.land (lands b))) (sym o.2)
+        subst (λ (k : Fields8). IsTrue (contains nat_cmp k.land (lands b))) (sym o.2)
         (lt-ltb 0 (times nat_cmp (image nat_cmp r.lands o.0.land) (lands b))
         (paired_known nat_keys r.lands (lands a) (lands b) h.numbers.lands o.0.land
         (ltb-true 0 (times nat_cmp o.0.land (lands a))
-        (all_among (λ k. IsTrue (stands_in nat_cmp k.land (lands a))) o.0 a.links closed.link_lands o.1)))));
-    link_polygons = each_from (λ l. IsTrue (stands_in key_cmp (link_key l) (polygon_keys b))) b.links
+        (all_among (λ k. IsTrue (contains nat_cmp k.land (lands a))) o.0 a.links closed.link_lands o.1)))));
+    link_polygons = each_from (λ l. IsTrue (contains key_cmp (link_key l) (polygon_keys b))) b.links
         (λ l m. let o = old_link l m in
-        subst (λ (k : Fields8). IsTrue (stands_in key_cmp (link_key k) (polygon_keys b))) (sym o.2)
-        (new_key (link_key o.0) (all_among (λ k. IsTrue (stands_in key_cmp (link_key k)
+        subst (λ (k : Fields8). IsTrue (contains key_cmp (link_key k) (polygon_keys b))) (sym o.2)
+        (new_key (link_key o.0) (all_among (λ k. IsTrue (contains key_cmp (link_key k)
         (polygon_keys a))) o.0 a.links closed.link_polygons o.1)));
   }
 
@@ -101,8 +101,8 @@ module _ (r : Renumbering) (a b : County) (h : Carries r a b) where
       (among-pieces (λ (e : ℕ × Chain). chain_polygons e.1) (carried_chain r d.0) (image key_cmp r.polygons k) b.chains
       (new_chain d.0 d.1) new)
 
-  polygon_whole : (k : PolygonKey) (body : Option BodyP) → IsTrue (is_some body || stands_in key_cmp k (polygons_along a.chains))
-      → IsTrue (is_some body || stands_in key_cmp (image key_cmp r.polygons k) (polygons_along b.chains))
+  polygon_whole : (k : PolygonKey) (body : Option BodyP) → IsTrue (is_some body || contains key_cmp k (polygons_along a.chains))
+      → IsTrue (is_some body || contains key_cmp (image key_cmp r.polygons k) (polygons_along b.chains))
   polygon_whole k body t = search (rules, or_cases, or_left, or_right, lt-ltb, carried_side, ltb-true)
 
   pub carried_whole : IsWhole a → IsWhole b
@@ -113,11 +113,11 @@ module _ (r : Renumbering) (a b : County) (h : Carries r a b) where
         (among-permutation e b.landmarks (map (carried_landmark r) a.landmarks)
         (IsPermutation-sym (map (carried_landmark r) a.landmarks) b.landmarks h.landmarks) m) in
         subst (λ (c : ℕ × List Body7). 1 ≤ length c.1) (sym o.2) (all_among (λ d. 1 ≤ length d.1) o.0 a.landmarks whole.bodies o.1));
-    polygons = each_from (λ e. IsTrue (is_some e.1 || stands_in key_cmp e.0 (polygons_along b.chains))) b.polygons
+    polygons = each_from (λ e. IsTrue (is_some e.1 || contains key_cmp e.0 (polygons_along b.chains))) b.polygons
         (λ e m. let o = among-unmap (carried_polygon r) e a.polygons
         (among-permutation e b.polygons (map (carried_polygon r) a.polygons)
         (IsPermutation-sym (map (carried_polygon r) a.polygons) b.polygons h.polygons) m) in
-        subst (λ (c : PolygonKey × Option BodyP). IsTrue (is_some c.1 || stands_in key_cmp c.0 (polygons_along b.chains))) (sym o.2)
+        subst (λ (c : PolygonKey × Option BodyP). IsTrue (is_some c.1 || contains key_cmp c.0 (polygons_along b.chains))) (sym o.2)
         (polygon_whole o.0.0 o.0.1
-        (all_among (λ d. IsTrue (is_some d.1 || stands_in key_cmp d.0 (polygons_along a.chains))) o.0 a.polygons whole.polygons o.1)));
+        (all_among (λ d. IsTrue (is_some d.1 || contains key_cmp d.0 (polygons_along a.chains))) o.0 a.polygons whole.polygons o.1)));
   }

@@ -4,7 +4,7 @@ use Rattle.canonical_form.proofs.Common.{IsStrictlySortedBy, IsTrue, Known, List
 use Rattle.canonical_form.proofs.Common.{all_left, all_pieces, all_right, ap, carried_chain, carried_polygon, chain_nodes, chain_polygons}
 use Rattle.canonical_form.proofs.Common.{false, image, key_cmp, key_keys, key_on, key_under, keys_known, known_all, ltb-true, map, map-id}
 use Rattle.canonical_form.proofs.Common.{map-map, map_agree_all, nat_cmp, nat_cmp_total, nat_keys, option_map, option_to_list, polygon_keys}
-use Rattle.canonical_form.proofs.Common.{polygons_along, refl, renumbered, renumbered_polygon, stands_in, strict-map, strict-permutation}
+use Rattle.canonical_form.proofs.Common.{polygons_along, refl, renumbered, renumbered_polygon, contains, strict-map, strict-permutation}
 use Rattle.canonical_form.proofs.Common.{subst, sym, times, tlids, turned_if, turns, ℕ, ◌∙◌, ◌≡◌}
 use Rattle.canonical_form.proofs.Unique.SameNumbers.{KeepsChains, kept_entry, nodes_kept, polygons_kept}
 use Rattle.canonical_form.proofs.Unique.SameNames.{feats_kept, names_equal}
@@ -71,7 +71,7 @@ module _ (r : Renumbering) (a b : County) (h : Carries r a b) (wa : IsCounty a) 
       polygon_fixed k l =
           let known : Known key_cmp (polygons_along a.chains) k =
           ltb-true 0 (times key_cmp k (polygons_along a.chains))
-          (known_all key_keys (λ j. IsTrue (stands_in key_cmp j (polygons_along a.chains))) (polygon_keys a) ta.on_sides k l) in
+          (known_all key_keys (λ j. IsTrue (contains key_cmp j (polygons_along a.chains))) (polygon_keys a) ta.on_sides k l) in
           sym (known_all key_keys (λ j. j ≡ image key_cmp r.polygons j) (polygons_along a.chains)
           (polygons_kept r a b h wb.ascending wa.closed ta tb e) k known)
 

@@ -7,7 +7,7 @@ use Rattle.canonical_form.proofs.Common.{eight_land, eq-eqb, false, false≢true
 use Rattle.canonical_form.proofs.Common.{is_eq, key_cmp, landmark_body_keys, landmark_key_cmp, lands, length, length-filter, length-map}
 use Rattle.canonical_form.proofs.Common.{link_cmp, link_key, link_keys, link_part, link_part_cmp, link_part_keys, links_of, lists_keys}
 use Rattle.canonical_form.proofs.Common.{ltb-true, map, map_agree_all, nat_cmp, nat_cmp_total, nat_keys, ne_eqb, of_number-all}
-use Rattle.canonical_form.proofs.Common.{ordering_then, pair_keys, polygon_keys, refl, stands_in, subst, suc, sum_by-IsPermutation, sym}
+use Rattle.canonical_form.proofs.Common.{ordering_then, pair_keys, polygon_keys, refl, contains, subst, suc, sum_by-IsPermutation, sym}
 use Rattle.canonical_form.proofs.Common.{tied_itself, times, zero, ℕ, ◌&&◌, ◌<◌, ◌==◌, ◌∙◌, ◌∷◌, ◌≡◌, ◌⊎◌}
 use Rattle.canonical_form.proofs.Lists.Filtered.{filter-agree_all, filter-filtered, filter-mapped, same_after}
 use Rattle.canonical_form.proofs.{Lists.Grouping.in_order-filter, Lists.Grouping.parts_in_order, Unique.SameKeys.entries_same}
@@ -69,7 +69,7 @@ count-relanded f Dom inj links a y d k =
     (λ l known. ap (λ b. b && is_eq (link_part_cmp k (link_part l))) (same_after f Dom inj l.land y known d)) links a))
 
 -- a LAND without a landmark has no link
-no_links : (known : List ℕ) (links : List Fields8) → AllByRecursion (λ l. IsTrue (stands_in nat_cmp l.land known)) links → (y : ℕ)
+no_links : (known : List ℕ) (links : List Fields8) → AllByRecursion (λ l. IsTrue (contains nat_cmp l.land known)) links → (y : ℕ)
     → times nat_cmp y known ≡ 0 → (k : LinkPart) → length (filter (is_link y k) links) ≡ 0
 no_links known [] a y e k = refl
 no_links known (x ∷ xs) a y e k = go (cases_eq x.land y) (no_links known xs a.1 y e k)
@@ -93,7 +93,7 @@ module _ (r : Renumbering) (a b : County) (h : Carries r a b) (aa : IsAscending 
   links_carried : map (carried_link r) a.links ≡ map (relanded f_land) a.links
   unfolding f_land
   links_carried = map_agree_all (carried_link r) (relanded (image nat_cmp r.lands))
-      (λ l. IsTrue (stands_in key_cmp (link_key l) (polygon_keys a)))
+      (λ l. IsTrue (contains key_cmp (link_key l) (polygon_keys a)))
       (λ l t i. record {
         file = l.file;
         cenid =
@@ -105,7 +105,7 @@ module _ (r : Renumbering) (a b : County) (h : Carries r a b) (aa : IsAscending 
       a.links ca.link_polygons
 
   lands_known : AllByRecursion (λ l. Known nat_cmp (lands a) l.land) a.links
-  lands_known = all_weaker (λ l. IsTrue (stands_in nat_cmp l.land (lands a))) (λ l. Known nat_cmp (lands a) l.land)
+  lands_known = all_weaker (λ l. IsTrue (contains nat_cmp l.land (lands a))) (λ l. Known nat_cmp (lands a) l.land)
       (λ l t. ltb-true 0 (times nat_cmp l.land (lands a)) t) a.links ca.link_lands
 
   links_kept : (y : ℕ) → Known nat_cmp (lands a) y → links_of b.links (f_land y) ≡ links_of a.links y

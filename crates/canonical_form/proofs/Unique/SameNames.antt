@@ -1,10 +1,10 @@
 -- If a renaming carries one arranged county onto another, keeps each TLID and turns no chain, the names and the FEATs of chains are
 -- equal: names are in the order of content and uses, and their uses determine the chains' lists.
-use Rattle.canonical_form.proofs.Common.{AllByRecursion, AllStandIn, Among, Carries, Chain, County, IsApart, IsArranged, IsClosed}
+use Rattle.canonical_form.proofs.Common.{AllByRecursion, AllContained, Among, Carries, Chain, County, IsApart, IsArranged, IsClosed}
 use Rattle.canonical_form.proofs.Common.{IsKeyOrder, IsStrictlySortedBy, IsTrue, Known, List, Renumbering, Use, [], all_append, all_left}
 use Rattle.canonical_form.proofs.Common.{all_right, all_uses, all_weaker, among-unmap, ap, apart_from_sorted, ap₂, feats, filter, image}
 use Rattle.canonical_form.proofs.Common.{length, lists_keys, ltb-true, map, map-append, map-map, name_body_keys, name_key_cmp, nat_cmp}
-use Rattle.canonical_form.proofs.Common.{one_entry, pair_keys, refl, stands_in, subst, suc, sym, times, use_cmp, uses_from, uses_of_name, ℕ}
+use Rattle.canonical_form.proofs.Common.{one_entry, pair_keys, refl, contains, subst, suc, sym, times, use_cmp, uses_from, uses_of_name, ℕ}
 use Rattle.canonical_form.proofs.Common.{◌++◌, ◌==◌, ◌∙◌, ◌∷◌, ◌≡◌}
 use Rattle.canonical_form.proofs.Lists.Filtered.{filter-agree_all, filter-mapped, same_after}
 use Rattle.canonical_form.proofs.Unique.SameNumbers.{KeepsChains, all_themselves, counted_injective, kept_entry}
@@ -75,8 +75,8 @@ module _ (r : Renumbering) (a b : County) (h : Carries r a b) (ca : IsClosed a) 
 
   uses_known : AllByRecursion (λ u. Known nat_cmp (feats a) u.1) (all_uses a.chains)
   uses_known = all_uses-all (Known nat_cmp (feats a)) a.chains
-      (all_weaker (λ c. AllStandIn (feats a) c.1.feats) (λ c. AllByRecursion (Known nat_cmp (feats a)) c.1.feats)
-      (λ c g. all_weaker (λ n. IsTrue (stands_in nat_cmp n (feats a))) (Known nat_cmp (feats a))
+      (all_weaker (λ c. AllContained (feats a) c.1.feats) (λ c. AllByRecursion (Known nat_cmp (feats a)) c.1.feats)
+      (λ c g. all_weaker (λ n. IsTrue (contains nat_cmp n (feats a))) (Known nat_cmp (feats a))
       (λ n t. ltb-true 0 (times nat_cmp n (feats a)) t) c.1.feats g)
       a.chains ca.names)
 

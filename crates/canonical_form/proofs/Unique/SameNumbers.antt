@@ -6,7 +6,7 @@ use Rattle.canonical_form.proofs.Common.{all_weaker, among-map, ap, apart-distin
 use Rattle.canonical_form.proofs.Common.{chain_nodes-renumbered, chain_polygons, chain_polygons-renumbered, image, image-injective}
 use Rattle.canonical_form.proofs.Common.{image-keeps, inl, inr, key_cmp, key_keys, known-distinct, known-permutation, lefts, ltb-true, map}
 use Rattle.canonical_form.proofs.Common.{map-append, map-id, map-map, nat_cmp, nat_keys, nodes, nodes_along, polygon_keys, polygons_along}
-use Rattle.canonical_form.proofs.Common.{refl, renumbered, rights, stands_in, subst, sym, times, up_to, ℕ, ◌++◌, ◌∙◌, ◌∷◌, ◌≡◌}
+use Rattle.canonical_form.proofs.Common.{refl, renumbered, rights, contains, subst, sym, times, up_to, ℕ, ◌++◌, ◌∙◌, ◌∷◌, ◌≡◌}
 use Rattle.canonical_form.proofs.{Lists.Counting.up_to-strict, Numbering.Growth.grown}
 
 -- A renaming onto numbers that count from 1 gives different numbers to different ones.
@@ -65,11 +65,11 @@ module _ (r : Renumbering) (a b : County) (h : Carries r a b) (asc : IsAscending
   -- polygons on sides
   polygon_known : (k : PolygonKey) → Among k (polygons_along a.chains) → Known key_cmp (lefts r.polygons) k
   polygon_known k m =
-      let all : AllByRecursion (λ j. IsTrue (stands_in key_cmp j (polygon_keys a))) (polygons_along a.chains) =
-      all_joined (λ j. IsTrue (stands_in key_cmp j (polygon_keys a))) (λ c. chain_polygons c.1) a.chains ca.sides in
+      let all : AllByRecursion (λ j. IsTrue (contains key_cmp j (polygon_keys a))) (polygons_along a.chains) =
+      all_joined (λ j. IsTrue (contains key_cmp j (polygon_keys a))) (λ c. chain_polygons c.1) a.chains ca.sides in
       known-permutation key_keys k (lefts r.polygons) (polygon_keys a) h.numbers.polygons.left
       (ltb-true 0 (times key_cmp k (polygon_keys a))
-      (all_among (λ j. IsTrue (stands_in key_cmp j (polygon_keys a))) k (polygons_along a.chains) all m))
+      (all_among (λ j. IsTrue (contains key_cmp j (polygon_keys a))) k (polygons_along a.chains) all m))
 
   one_cenid_of : (keys : List PolygonKey) (all : AllByRecursion (λ key. AllByRecursion (λ other. key.1 ≡ other.1 → key ≡ other) keys) keys)
       (k j : PolygonKey) → Among k keys → Among j keys → k.1 ≡ j.1 → k ≡ j

@@ -1,6 +1,6 @@
 -- Two lists in the canonical order, packing and numbering are equal if a renaming keeps the choice of TLIDs and directions.
 use Rattle.canonical_form.proofs.Common.{Carries, IsArrangedList, KeepsChainNumbers, List, Record, Renumbering, ap, county-is_county}
-use Rattle.canonical_form.proofs.Common.{county_of, image, known_all, nat_cmp, nat_keys, packed, stands_in, sym, tlids, ◌∙◌, ◌≡◌}
+use Rattle.canonical_form.proofs.Common.{county_of, image, known_all, nat_cmp, nat_keys, packed, contains, sym, tlids, ◌∙◌, ◌≡◌}
 use Rattle.canonical_form.proofs.{Arrangements.RepackedPolygons.arranged_list_is_packed, Unique.Rigid.rigid}
 
 one_county_one_list : (xs ys : List Record) → IsArrangedList xs → IsArrangedList ys → county_of xs ≡ county_of ys → xs ≡ ys
@@ -11,4 +11,4 @@ pub rigid_lists : (r : Renumbering) (xs ys : List Record) → IsArrangedList xs 
 rigid_lists r xs ys g h c k = one_county_one_list xs ys g h
     (rigid r (county_of xs) (county_of ys) c (county-is_county xs g.linked) (county-is_county ys h.linked) g.numbers h.numbers
     (known_all nat_keys (λ n. image nat_cmp r.chains n ≡ n) (tlids (county_of xs)) k.keeps)
-    (λ n l. ap (stands_in nat_cmp n) k.turns_none))
+    (λ n l. ap (contains nat_cmp n) k.turns_none))

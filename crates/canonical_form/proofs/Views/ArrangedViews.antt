@@ -1,5 +1,5 @@
 -- Directed chains that name each chain once turn a county into a county.
-use Rattle.canonical_form.proofs.Common.{AllKeysStandIn, AreWhole, Arrangement, Arranges, County, DirectedChain, HasChainsOf, IsApart}
+use Rattle.canonical_form.proofs.Common.{AllKeysContained, AreWhole, Arrangement, Arranges, County, DirectedChain, HasChainsOf, IsApart}
 use Rattle.canonical_form.proofs.Common.{IsCounty, IsWithinLimits, List, NamesEachOnce, apart-permutation_of, apart_from_sorted, arith}
 use Rattle.canonical_form.proofs.Common.{arranged_tlids, arrangement_of, length, most_records, nat_cmp, nat_keys, polygon_keys}
 use Rattle.canonical_form.proofs.Common.{polygons_along, tlids, ◌<◌, ◌^◌}
@@ -13,7 +13,7 @@ arranges_once county order is once =
     (λ k h. let same = once k in omega (arith, same, h)) (λ k h. let same = once k in omega (arith, same, h))
 
 pub whole_arrangement : (county : County) (arrangement : List DirectedChain) → IsCounty county → IsWithinLimits most_records county → HasChainsOf county arrangement
-    → NamesEachOnce county (arrangement_of county arrangement) → AllKeysStandIn (polygons_along county.chains) (polygon_keys county)
+    → NamesEachOnce county (arrangement_of county arrangement) → AllKeysContained (polygons_along county.chains) (polygon_keys county)
     → length county.chains < 2 ^ 32 → AreWhole county arrangement
 whole_arrangement county arrangement is within there once sides few = record {
   there = there;

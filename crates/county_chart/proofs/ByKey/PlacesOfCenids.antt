@@ -5,11 +5,11 @@ use Rattle.ordered_lists.proofs.ByKey.Keys.{known-here, known-later}
 use lib.Pointwise.{pointwise}
 
 -- a look-up that finds the wanted bytes returns their place
-pub stands_at : {B : Type 0} (now : B → List ℕ) (xs : List (List ℕ)) (i : ℕ) (found : Option B) (wanted : B)
+pub is_at : {B : Type 0} (now : B → List ℕ) (xs : List (List ℕ)) (i : ℕ) (found : Option B) (wanted : B)
     → (is_some found ≡ true → i < length xs) → IfSome found (λ x. now x ≡ get_or xs i (now x))
     → option_eq (λ x y. pointwise nat_eq (now x) (now y)) found (Some wanted) ≡ true → slice_get xs i ≡ Some (now wanted)
-stands_at now xs i None wanted within at same = absurd (false≢true same)
-stands_at now xs i (Some x) wanted within at same = search (rules, slice_get_read)
+is_at now xs i None wanted within at same = absurd (false≢true same)
+is_at now xs i (Some x) wanted within at same = search (rules, slice_get_read)
 
 -- a key at a place of a list is in the list
 pub known_at : {K : Type 0} {cmp : K → K → Ordering} (o : IsKeyOrder cmp) (xs : List K) (i : ℕ) (k : K)

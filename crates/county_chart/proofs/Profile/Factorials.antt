@@ -3,7 +3,7 @@
 use Rattle.county_chart.proofs.Common.{Bool, IsApart, IsKeyOrder, Known, List, Ordering, SameElements, [], ap, apart-distinct, apart_tail}
 use Rattle.county_chart.proofs.Common.{arith, cond, differ, distinct, distinct_same, factorial, false, filter, inl, inr, is_eq, is_gt}
 use Rattle.county_chart.proofs.Common.{known-distinct, known_cases, known_from_distinct, length, ltb-false, ltb-true, map, map_agree}
-use Rattle.county_chart.proofs.Common.{nat_lt, pow-succ', product, put_in_order, refl, running, stands_in, subst, suc, sym, times, times-no}
+use Rattle.county_chart.proofs.Common.{nat_lt, pow-succ', product, put_in_order, refl, running, contains, subst, suc, sym, times, times-no}
 use Rattle.county_chart.proofs.Common.{times-same, times-yes, true, ℕ, ◌*◌, ◌<◌, ◌^◌, ◌∙◌, ◌∷◌, ◌≡◌, ◌≤◌, ◌⊎◌}
 
 module _ {K : Type 0} {cmp : K → K → Ordering} (o : IsKeyOrder cmp) where
@@ -53,7 +53,7 @@ module _ {K : Type 0} {cmp : K → K → Ordering} (o : IsKeyOrder cmp) where
   factorials ks = product (map (orders ks) (distinct cmp ks))
 
   factorials-more : (k : K) (ks : List K) → factorials (k ∷ ks) ≡ suc (times cmp k ks) * factorials ks
-  factorials-more k ks = go (stands_in cmp k ks) refl
+  factorials-more k ks = go (contains cmp k ks) refl
     where
       other : (j : K) → (j ≡ k → ⊥) → orders (k ∷ ks) j ≡ orders ks j
       other j ne = ap factorial (times-no o j k ks (differ o j k ne))
@@ -64,7 +64,7 @@ module _ {K : Type 0} {cmp : K → K → Ordering} (o : IsKeyOrder cmp) where
       new : times cmp k ks ≡ 0 → orders (k ∷ ks) k ≡ suc (times cmp k ks)
       new none = ap factorial (times-yes o k k ks refl ∙ ap suc none) ∙ sym (ap suc none)
 
-      go : (b : Bool) → stands_in cmp k ks ≡ b
+      go : (b : Bool) → contains cmp k ks ≡ b
           → product (map (orders (k ∷ ks)) (cond b (distinct cmp ks) (put_in_order cmp k (distinct cmp ks))))
           ≡ suc (times cmp k ks) * factorials ks
       go true e =

@@ -7,17 +7,17 @@ use Rattle.county_chart.proofs.DirectedChains.{points_turned}
 use Rattle.ordered_lists.proofs.Common.{is_lt}
 
 -- an item, and the lists before and after it
-pub record StandsAt {X : Type 0} (xs : List X) (place : ℕ) : Type 0 where
+pub record IsAt {X : Type 0} (xs : List X) (place : ℕ) : Type 0 where
   pub item : X
   pub get : slice_get xs place ≡ Some item
   pub upto : take (suc place) xs ≡ take place xs ++ (item ∷ [])
   pub whole : xs ≡ take place xs ++ (item ∷ drop (suc place) xs)
 
-pub stands_at : {X : Type 0} (xs : List X) (place : ℕ) → place < length xs → StandsAt xs place
-stands_at [] place h = absurd (omega arith)
-stands_at (x ∷ xs) zero h = record { item = x; get = refl; upto = refl; whole = refl }
-stands_at (x ∷ xs) (suc place) h =
-    let s = stands_at xs place (omega arith) in
+pub is_at : {X : Type 0} (xs : List X) (place : ℕ) → place < length xs → IsAt xs place
+is_at [] place h = absurd (omega arith)
+is_at (x ∷ xs) zero h = record { item = x; get = refl; upto = refl; whole = refl }
+is_at (x ∷ xs) (suc place) h =
+    let s = is_at xs place (omega arith) in
     record {
       item = s.item;
       get = s.get;
@@ -30,18 +30,18 @@ all_next P [] x a p = (p, tt)
 all_next P (y ∷ ys) x a p = (a.0, all_next P ys x a.1 p)
 
 -- the chain at a place
-pub record ChainStands (county : County) (place : ℕ) : Type 0 where
-  pub stands : StandsAt county.chains place
-  pub chain : chain_at county place ≡ Some stands.item.1
-  pub points : points_at county place ≡ stands.item.1.points
+pub record ChainIsAt (county : County) (place : ℕ) : Type 0 where
+  pub is_at : IsAt county.chains place
+  pub chain : chain_at county place ≡ Some is_at.item.1
+  pub points : points_at county place ≡ is_at.item.1.points
 
-pub chain_stands : (county : County) (place : ℕ) → place < length county.chains → ChainStands county place
-chain_stands county place h =
-    let s : StandsAt county.chains place = stands_at county.chains place h in
+pub chain_is_at : (county : County) (place : ℕ) → place < length county.chains → ChainIsAt county place
+chain_is_at county place h =
+    let s : IsAt county.chains place = is_at county.chains place h in
     let chain : chain_at county place ≡ Some s.item.1 =
     slice_get-map (λ entry. entry.1) county.chains place ∙ ap (option_map (λ entry. entry.1)) s.get in
     record {
-      stands = s;
+      is_at = s;
       chain = chain;
       points = ap points_of chain;
     }
@@ -65,13 +65,13 @@ length_from false points = refl
 pub shape_two : (county : County) → IsCounty county → (place : ℕ) → place < length county.chains
     → HasTwo (least_points (points_at county place))
 shape_two county is place h =
-    let s = chain_stands county place h in
-    let item : Among s.stands.item county.chains =
-    subst (Among s.stands.item) (sym s.stands.whole) (behind (take place county.chains) s.stands.item (drop (suc place) county.chains)) in
-    let two : 2 ≤ length s.stands.item.1.points =
-    all_among (λ entry. 2 ≤ length entry.1.points) s.stands.item county.chains is.whole.points item in
+    let s = chain_is_at county place h in
+    let item : Among s.is_at.item county.chains =
+    subst (Among s.is_at.item) (sym s.is_at.whole) (behind (take place county.chains) s.is_at.item (drop (suc place) county.chains)) in
+    let two : 2 ≤ length s.is_at.item.1.points =
+    all_among (λ entry. 2 ≤ length entry.1.points) s.is_at.item county.chains is.whole.points item in
     let points : List Coordinates = points_at county place in
-    let same : length points ≡ length s.stands.item.1.points = ap length s.points in
+    let same : length points ≡ length s.is_at.item.1.points = ap length s.points in
     let from = length_from (is_lt (points_cmp (reverse points) points)) points in
     two_of (least_points points) (omega arith)
   where

@@ -1,5 +1,5 @@
 -- A county is in the profile, or exactly one clause is broken first.
-use Rattle.county_chart.proofs.Common.{Among, BodyP, County, Memory, Option, has_body, is_some, key_cmp, key_keys, same-true, stands_in, ℕ}
+use Rattle.county_chart.proofs.Common.{Among, BodyP, County, Memory, Option, has_body, is_some, key_cmp, key_keys, same-true, contains, ℕ}
 use Rattle.county_chart.proofs.Common.{IsFirstBrokenClause, PolygonWithoutChain, inl, is_clause_broken, polygons_along, profile_fault_place}
 use Rattle.county_chart.proofs.Common.{IsInProfile, PolygonKey, ProfileFault, TooSymmetric, [], among-map, and_parts, any_among, false≢true}
 use Rattle.county_chart.proofs.Common.{List, cond, inr, is_eq, map, not, refl, subst, suc, sym, true, zero, ◌&&◌, ◌==◌, ◌∷◌, ◌≡◌, ◌⊎◌}
@@ -47,8 +47,8 @@ body_entry county key h =
 
 pub broken_among : (county : County) (f : ProfileFault) → is_clause_broken county f ≡ true → Among f (all_faults county)
 broken_among county (PolygonWithoutChain cenid polyid) h =
-    let both : (has_body county (cenid, polyid) ≡ true) × (not (stands_in key_cmp (cenid, polyid) (polygons_along county.chains)) ≡ true) =
-    and_parts (has_body county (cenid, polyid)) (not (stands_in key_cmp (cenid, polyid) (polygons_along county.chains))) h in
+    let both : (has_body county (cenid, polyid) ≡ true) × (not (contains key_cmp (cenid, polyid) (polygons_along county.chains)) ≡ true) =
+    and_parts (has_body county (cenid, polyid)) (not (contains key_cmp (cenid, polyid) (polygons_along county.chains))) h in
     let r = body_entry county (cenid, polyid) both.0 in
     let there : Among (PolygonWithoutChain r.0.0.0 r.0.0.1) (polygon_faults county) =
     among-map (λ e. PolygonWithoutChain e.0.0 e.0.1) r.0 county.polygons r.1 in

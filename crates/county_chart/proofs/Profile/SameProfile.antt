@@ -4,7 +4,7 @@ use Rattle.county_chart.proofs.Common.{IsPermutation-sym, Known, Memory, Option,
 use Rattle.county_chart.proofs.Common.{among-map, among-permutation, among-pieces, among-unmap, among_any, among_known, and_from, and_parts}
 use Rattle.county_chart.proofs.Common.{ap, carried_chain, carried_polygon, chain_polygons, false, false_from_ne_true, false≢true, has_body}
 use Rattle.county_chart.proofs.Common.{image, is_eq, is_some, key_cmp, key_keys, known_is_among, lt-ltb, ltb-true, map, most_choices}
-use Rattle.county_chart.proofs.Common.{nat_lt, not, polygons_along, refl, renumbered, same-itself, stands_in, subst, sym, times, true}
+use Rattle.county_chart.proofs.Common.{nat_lt, not, polygons_along, refl, renumbered, same-itself, contains, subst, sym, times, true}
 use Rattle.county_chart.proofs.Common.{turned_if, turns, ◌&&◌, ◌∙◌, ◌≡◌}
 use Rattle.county_chart.proofs.Sameness.Carried.{among-turned, among-unpieces, chain_polygons-renumbered}
 use Rattle.county_chart.proofs.{Profile.ProfileFaults.body_entry, Profile.SameChoices.same_choices, Sameness.Equivalence.same-symmetric}
@@ -24,9 +24,9 @@ body_on_side a h e m s =
     let t : has_body a e.0 ≡ true =
     among_any (λ d. is_eq (key_cmp e.0 d.0) && is_some d.1) e a.polygons m
     (and_from (is_eq (key_cmp e.0 e.0)) (is_some e.1) (same-itself key_keys e.0) s) in
-    let f : not (stands_in key_cmp e.0 (polygons_along a.chains)) ≡ false =
-    and-second (has_body a e.0) (not (stands_in key_cmp e.0 (polygons_along a.chains))) t (h (PolygonWithoutChain e.0.0 e.0.1)) in
-    ltb-true 0 (times key_cmp e.0 (polygons_along a.chains)) (not-false (stands_in key_cmp e.0 (polygons_along a.chains)) f)
+    let f : not (contains key_cmp e.0 (polygons_along a.chains)) ≡ false =
+    and-second (has_body a e.0) (not (contains key_cmp e.0 (polygons_along a.chains))) t (h (PolygonWithoutChain e.0.0 e.0.1)) in
+    ltb-true 0 (times key_cmp e.0 (polygons_along a.chains)) (not-false (contains key_cmp e.0 (polygons_along a.chains)) f)
 
 module _ (r : Renumbering) (a b : County) (k : Carries r a b) (h : IsInProfile a) where
   from_polygon : (e : PolygonKey × Option BodyP) → Among e b.polygons
@@ -50,9 +50,9 @@ module _ (r : Renumbering) (a b : County) (k : Carries r a b) (h : IsInProfile a
       among_known key_keys (image key_cmp r.polygons key) (polygons_along b.chains)
       (among-pieces (λ e. chain_polygons e.1) (carried_chain r s.0) (image key_cmp r.polygons key) b.chains entry there)
 
-  body_case : (key : PolygonKey) → (has_body b key && not (stands_in key_cmp key (polygons_along b.chains))) ≡ true → ⊥
+  body_case : (key : PolygonKey) → (has_body b key && not (contains key_cmp key (polygons_along b.chains))) ≡ true → ⊥
   body_case key t =
-      let both = and_parts (has_body b key) (not (stands_in key_cmp key (polygons_along b.chains))) t in
+      let both = and_parts (has_body b key) (not (contains key_cmp key (polygons_along b.chains))) t in
       let e = body_entry b key both.0 in
       let d = from_polygon e.0 e.1 in
       let some : is_some d.0.1 ≡ true = subst (λ f. is_some f.1 ≡ true) d.2 e.3 in
@@ -63,7 +63,7 @@ module _ (r : Renumbering) (a b : County) (k : Carries r a b) (h : IsInProfile a
 
   pub polygons_carried : AreAllOnSides b
   polygons_carried key =
-      false_from_ne_true (has_body b key && not (stands_in key_cmp key (polygons_along b.chains))) (body_case key)
+      false_from_ne_true (has_body b key && not (contains key_cmp key (polygons_along b.chains))) (body_case key)
 
 pub same_in_profile : (a b : County) → AreSame a b → IsInProfile a → IsInProfile b
 same_in_profile a b s h (PolygonWithoutChain cenid polyid) = polygons_carried s.by a b s.carries h (cenid, polyid)

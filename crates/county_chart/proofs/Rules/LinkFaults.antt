@@ -6,7 +6,7 @@ use Rattle.county_chart.proofs.Common.{I, five_feat, four_rtsq, four_tlid, of_nu
 use Rattle.county_chart.proofs.Common.{IsFirstBrokenRule, PolygonUnknown, SequenceBroken, SequencedType, is_rule_broken, link_fault_place}
 use Rattle.county_chart.proofs.Common.{IsLinked, LinkFault, LinkTwice, NameTwice, among_left, and_parts, eight_land, false≢true, has_repeat}
 use Rattle.county_chart.proofs.Common.{Known, List, arith, cond, false, is_eq, nat_lt, ne_eqb, p_key, refl, rtsqs, rules, times, true, zero}
-use Rattle.county_chart.proofs.Common.{Record, eqb-true, flat_map, key_keys, link_key, ltb-true, of_type_i, of_type_p, stands_in, times-yes}
+use Rattle.county_chart.proofs.Common.{Record, eqb-true, flat_map, key_keys, link_key, ltb-true, of_type_i, of_type_p, contains, times-yes}
 use Rattle.county_chart.proofs.Common.{Six, [], inl, inr, map, not, suc, ℕ, ◌&&◌, ◌++◌, ◌<◌, ◌==◌, ◌∷◌, ◌≡◌, ◌⊎◌}
 use Rattle.county_chart.proofs.Rules.FirstFault.{first_computed, first_or_none, least_there, none_computed, none_there, not_first}
 use Rattle.county_chart.proofs.Rules.FirstFault.{one_first}
@@ -169,7 +169,7 @@ broken_among records (LinkMissing tlid) e =
     (skip_types records (LinkMissing tlid)
     (among_left (LinkMissing tlid) (map LinkMissing (chain_tlids records)) _
     (known_among nat_keys LinkMissing tlid (chain_tlids records)
-    (some (times nat_cmp tlid (chain_tlids records)) (not (stands_in nat_cmp tlid (map i_tlid (of_type_i records)))) e))))
+    (some (times nat_cmp tlid (chain_tlids records)) (not (contains nat_cmp tlid (map i_tlid (of_type_i records)))) e))))
 broken_among records (LinkTwice tlid) e =
     first_half records (LinkTwice tlid)
     (skip_types records (LinkTwice tlid)

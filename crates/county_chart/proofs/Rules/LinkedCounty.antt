@@ -1,11 +1,11 @@
 -- The county of a linked list of records: its numbers ascend, and each number that it names exists.
-use Rattle.county_chart.proofs.Common.{AllByRecursion, AllKeysStandIn, PolygonUnknown, distinct-strict, length-in_order, strict_from_order}
+use Rattle.county_chart.proofs.Common.{AllByRecursion, AllKeysContained, PolygonUnknown, distinct-strict, length-in_order, strict_from_order}
 use Rattle.county_chart.proofs.Common.{Among, all_everywhere, from_in_order, known-distinct, known_is_among, polygons_along, times-in_order}
 use Rattle.county_chart.proofs.Common.{Body7, LandUnknown, LinkMissing, NameUnknown, known-append, polygon_body, polygon_keys, shape_points}
 use Rattle.county_chart.proofs.Common.{Bool, Known, List, arith, cond, false, feats, first, is_eq, lands, p_key, rules, subst, times, tlids}
 use Rattle.county_chart.proofs.Common.{Chain, Record, [], eq-eqb, filter, i_tlid, length, lt-ltb, map-id, map-map, nat_cmp, nat_lt, or_left}
 use Rattle.county_chart.proofs.Common.{ChainTwice, PolygonKey, all_joined, among-unmap, among_known, chain_tlids, named_feats, to_in_order}
-use Rattle.county_chart.proofs.Common.{Fields1, IsCounty, IsLinked, chain_of, distinct, flat_map, in_order, side_keys, stands_in, to_filter}
+use Rattle.county_chart.proofs.Common.{Fields1, IsCounty, IsLinked, chain_of, distinct, flat_map, in_order, side_keys, contains, to_filter}
 use Rattle.county_chart.proofs.Common.{Fields4, key_keys, link_key, ltb-true, nat_keys, on_total, one_tlid, only_one, or_right, times-no}
 use Rattle.county_chart.proofs.Common.{Fields5, Fields7, Fields8, FieldsI, FieldsP, IsApart, IsWhole, NoChain, all_map, is_some, key_cmp}
 use Rattle.county_chart.proofs.Common.{I, IsStrictlySortedBy, in_order-in_order, known_from_distinct, landmark_body_cmp, landmark_body_keys}
@@ -46,7 +46,7 @@ module _ (records : List Record) (linked : IsLinked records) where
   one_link n k =
       let some : 0 < times nat_cmp n (map i_tlid (of_type_i records)) =
       ltb-true 0 (times nat_cmp n (map i_tlid (of_type_i records)))
-      (needed (stands_in nat_cmp n (chain_tlids records)) (stands_in nat_cmp n (map i_tlid (of_type_i records)))
+      (needed (contains nat_cmp n (chain_tlids records)) (contains nat_cmp n (map i_tlid (of_type_i records)))
       (linked (LinkMissing n)) (lt-ltb 0 (times nat_cmp n (chain_tlids records)) k)) in
       let few : times nat_cmp n (map i_tlid (of_type_i records)) ≤ 1 =
       ltb-false 1 (times nat_cmp n (map i_tlid (of_type_i records))) (linked (LinkTwice n)) in
@@ -85,21 +85,21 @@ module _ (records : List Record) (linked : IsLinked records) where
   lands-county = search (rules, common_steps, map-map, map-id)
 
   -- each name of a chain has a type 5 record
-  name_stands : (n y : ℕ) → Among y (further_names records n) → IsTrue (stands_in nat_cmp y (feats (county_of records)))
-  name_stands n y m =
+  name_contained : (n y : ℕ) → Among y (further_names records n) → IsTrue (contains nat_cmp y (feats (county_of records)))
+  name_contained n y m =
       let r = among-unpieces (λ (q : Fields4). q.feats) y (in_order (on four_rtsq nat_cmp) (of_number four_tlid n (of_type_4 records))) m in
       let named : Known nat_cmp (named_feats n records) y = search (rules, among_known, nat_keys, among-pieces, from_in_order) in
-      let t : stands_in nat_cmp y (map five_feat (of_type_5 records)) ≡ true =
-      needed (stands_in nat_cmp y (named_feats n records)) (stands_in nat_cmp y (map five_feat (of_type_5 records)))
+      let t : contains nat_cmp y (map five_feat (of_type_5 records)) ≡ true =
+      needed (contains nat_cmp y (named_feats n records)) (contains nat_cmp y (map five_feat (of_type_5 records)))
       (linked (NameUnknown n y)) (lt-ltb 0 (times nat_cmp y (named_feats n records)) named) in
-      ap (stands_in nat_cmp y) feats-county ∙ ap (nat_lt 0) (times-in_order nat_cmp five_feat (on five_feat nat_cmp) (of_type_5 records) y)
+      ap (contains nat_cmp y) feats-county ∙ ap (nat_lt 0) (times-in_order nat_cmp five_feat (on five_feat nat_cmp) (of_type_5 records) y)
       ∙ t
 
-  key_stands : (k : PolygonKey) → Known key_cmp all_keys k → IsTrue (stands_in key_cmp k (polygon_keys (county_of records)))
-  key_stands k l = search (rules, keys-county, lt-ltb, known-distinct, key_keys)
+  key_contained : (k : PolygonKey) → Known key_cmp all_keys k → IsTrue (contains key_cmp k (polygon_keys (county_of records)))
+  key_contained k l = search (rules, keys-county, lt-ltb, known-distinct, key_keys)
 
-  side_stands : (link : FieldsI) → Among link (of_type_i records) → AllKeysStandIn (polygon_keys (county_of records)) (side_keys link)
-  side_stands link m = search (rules, each_from, key_stands, known-left, key_keys, among_known, among-pieces)
+  side_contained : (link : FieldsI) → Among link (of_type_i records) → AllKeysContained (polygon_keys (county_of records)) (side_keys link)
+  side_contained link m = search (rules, each_from, key_contained, known-left, key_keys, among_known, among-pieces)
 
   -- a property of the chain of each pair of records is a property of each chain of the county
   pub chains_all : (P : ℕ × Chain → Type 0) → ((r : Fields1) (link : FieldsI) → Among r (of_type_1 records) → Among link (of_type_i records)
@@ -113,35 +113,35 @@ module _ (records : List Record) (linked : IsLinked records) where
       (λ link. h r link (from_in_order (on one_tlid nat_cmp) (of_type_1 records) r n)) (of_number i_tlid r.tlid (of_type_i records))
       (of_number-among i_tlid r.tlid (of_type_i records)))))
 
-  land_stands : (link : Fields8) → Among link (of_type_8 records) → IsTrue (stands_in nat_cmp link.land (lands (county_of records)))
-  land_stands link m =
+  land_contained : (link : Fields8) → Among link (of_type_8 records) → IsTrue (contains nat_cmp link.land (lands (county_of records)))
+  land_contained link m =
       let named : Known nat_cmp (map eight_land (of_type_8 records)) link.land = search (rules, among_known, nat_keys, among-map) in
-      let t : stands_in nat_cmp link.land (map seven_land (of_type_7 records)) ≡ true =
-      needed (stands_in nat_cmp link.land (map eight_land (of_type_8 records)))
-      (stands_in nat_cmp link.land (map seven_land (of_type_7 records))) (linked (LandUnknown link.land))
+      let t : contains nat_cmp link.land (map seven_land (of_type_7 records)) ≡ true =
+      needed (contains nat_cmp link.land (map eight_land (of_type_8 records)))
+      (contains nat_cmp link.land (map seven_land (of_type_7 records))) (linked (LandUnknown link.land))
       (lt-ltb 0 (times nat_cmp link.land (map eight_land (of_type_8 records))) named) in
-      ap (stands_in nat_cmp link.land) lands-county
+      ap (contains nat_cmp link.land) lands-county
       ∙ lt-ltb 0 (times nat_cmp link.land (distinct nat_cmp (map seven_land (of_type_7 records))))
       (known-distinct nat_keys (map seven_land (of_type_7 records)) link.land
       (ltb-true 0 (times nat_cmp link.land (map seven_land (of_type_7 records))) t))
 
-  link_key_stands : (link : Fields8) → Among link (of_type_8 records)
-      → IsTrue (stands_in key_cmp (link_key link) (polygon_keys (county_of records)))
-  link_key_stands link m =
+  link_key_contained : (link : Fields8) → Among link (of_type_8 records)
+      → IsTrue (contains key_cmp (link_key link) (polygon_keys (county_of records)))
+  link_key_contained link m =
       let named : Known key_cmp (map link_key (of_type_8 records)) (link_key link) = search (rules, among_known, key_keys, among-map) in
-      let t : stands_in key_cmp (link_key link) all_keys ≡ true =
-      needed (stands_in key_cmp (link_key link) (map link_key (of_type_8 records))) (stands_in key_cmp (link_key link) all_keys)
+      let t : contains key_cmp (link_key link) all_keys ≡ true =
+      needed (contains key_cmp (link_key link) (map link_key (of_type_8 records))) (contains key_cmp (link_key link) all_keys)
       (linked (PolygonUnknown link.cenid link.polyid))
       (lt-ltb 0 (times key_cmp (link_key link) (map link_key (of_type_8 records))) named) in
-      key_stands (link_key link) (ltb-true 0 (times key_cmp (link_key link) all_keys) t)
+      key_contained (link_key link) (ltb-true 0 (times key_cmp (link_key link) all_keys) t)
 
   -- each type I record belongs to a chain of the county
   pub linked_chain : (link : FieldsI) → Among link (of_type_i records)
       → (r : Fields1) × Among (r.tlid, chain_of records r link) (chains_of records)
   linked_chain link m =
       let named : Known nat_cmp (map i_tlid (of_type_i records)) link.tlid = search (rules, among_known, nat_keys, among-map) in
-      let t : stands_in nat_cmp link.tlid (chain_tlids records) ≡ true =
-      needed (stands_in nat_cmp link.tlid (map i_tlid (of_type_i records))) (stands_in nat_cmp link.tlid (chain_tlids records))
+      let t : contains nat_cmp link.tlid (chain_tlids records) ≡ true =
+      needed (contains nat_cmp link.tlid (map i_tlid (of_type_i records))) (contains nat_cmp link.tlid (chain_tlids records))
       (linked (NoChain I link.tlid)) (lt-ltb 0 (times nat_cmp link.tlid (map i_tlid (of_type_i records))) named) in
       let r = among-unmap one_tlid link.tlid (of_type_1 records)
       (known_is_among nat_keys link.tlid (chain_tlids records) (ltb-true 0 (times nat_cmp link.tlid (chain_tlids records)) t)) in
@@ -154,19 +154,19 @@ module _ (records : List Record) (linked : IsLinked records) where
       )
 
   polygon_whole : (key : PolygonKey) → Known key_cmp (distinct key_cmp all_keys) key
-      → IsTrue (is_some (polygon_body records key) || stands_in key_cmp key (polygons_along (chains_of records)))
+      → IsTrue (is_some (polygon_body records key) || contains key_cmp key (polygons_along (chains_of records)))
   polygon_whole key k =
       go (known-append key_keys key (flat_map side_keys (of_type_i records)) (map p_key (of_type_p records))
       (known_from_distinct key_keys all_keys key k))
     where
       go : Known key_cmp (flat_map side_keys (of_type_i records)) key ⊎ Known key_cmp (map p_key (of_type_p records)) key
-          → IsTrue (is_some (polygon_body records key) || stands_in key_cmp key (polygons_along (chains_of records)))
+          → IsTrue (is_some (polygon_body records key) || contains key_cmp key (polygons_along (chains_of records)))
       go (inl side) =
           let link = among-unpieces side_keys key (of_type_i records)
           (known_is_among key_keys key (flat_map side_keys (of_type_i records)) side) in
           let chain = linked_chain link.0 link.1 in
           let along : Among key (polygons_along (chains_of records)) = search (rules, among-pieces) in
-          or_right (is_some (polygon_body records key)) (stands_in key_cmp key (polygons_along (chains_of records)))
+          or_right (is_some (polygon_body records key)) (contains key_cmp key (polygons_along (chains_of records)))
           (lt-ltb 0 (times key_cmp key (polygons_along (chains_of records)))
           (among_known key_keys key (polygons_along (chains_of records)) along))
       go (inr body) = search (rules, or_left, some_body)
@@ -201,5 +201,5 @@ module _ (records : List Record) (linked : IsLinked records) where
       bodies = search (rules, all_map, all_everywhere, in_order-in_order, landmark_body_keys);
       links = in_order-in_order link_keys.total (of_type_8 records);
     };
-    closed = search (rules, chains_all, each_from, name_stands, side_stands, all-in_order, land_stands, link_key_stands);
+    closed = search (rules, chains_all, each_from, name_contained, side_contained, all-in_order, land_contained, link_key_contained);
   }

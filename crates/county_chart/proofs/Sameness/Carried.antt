@@ -3,7 +3,7 @@ use Rattle.county_chart.proofs.Common.{Among, Bool, Chain, IsKeyOrder, Known, Li
 use Rattle.county_chart.proofs.Common.{SameElements, Some, [], among-pieces, among_known, among_left, among_right, chain_nodes}
 use Rattle.county_chart.proofs.Common.{chain_polygons, false, flat_map, image, inl, inr, key_cmp, key_on, key_under, known_is_among, map}
 use Rattle.county_chart.proofs.Common.{map-append, nat_cmp, option_map, option_to_list, refl, renumbered, renumbered_polygon, rules}
-use Rattle.county_chart.proofs.Common.{stands_alike, stands_in, true, turned_if, ℕ, ◌++◌, ◌∷◌, ◌≡◌, ◌⊎◌}
+use Rattle.county_chart.proofs.Common.{contains_alike, contains, true, turned_if, ℕ, ◌++◌, ◌∷◌, ◌≡◌, ◌⊎◌}
 
 pub key_on-renumbered : (r : Renumbering) (cenid : List ℕ) (polyid : Option ℕ)
     → key_on (renumbered_polygon r cenid polyid) ≡ map (image key_cmp r.polygons) (key_under cenid polyid)
@@ -56,6 +56,6 @@ module _ {K : Type 0} {cmp : K → K → Ordering} (o : IsKeyOrder cmp) {X : Typ
       among_known o k (flat_map f ys) (among-pieces f r.0 k ys (there r.0 r.1) r.2)
 
   pub pieces_alike : (xs ys : List X) → SameElements xs ys → (k : K)
-      → stands_in cmp k (flat_map f xs) ≡ stands_in cmp k (flat_map f ys)
+      → contains cmp k (flat_map f xs) ≡ contains cmp k (flat_map f ys)
   pieces_alike xs ys s k =
-      stands_alike o (flat_map f xs) (flat_map f ys) k (piece_there xs ys s.there k) (piece_there ys xs s.back k)
+      contains_alike o (flat_map f xs) (flat_map f ys) k (piece_there xs ys s.there k) (piece_there ys xs s.back k)

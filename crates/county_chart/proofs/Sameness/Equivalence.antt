@@ -1,5 +1,5 @@
 -- Sameness is an equivalence: the identity carries, and so do inverses and compositions of renamings that carry.
-use Rattle.county_chart.proofs.Common.{AllByRecursion, AllKeysStandIn, AllStandIn, ArePaired, AreSame, Bool, Carries, Chain, County}
+use Rattle.county_chart.proofs.Common.{AllByRecursion, AllKeysContained, AllContained, ArePaired, AreSame, Bool, Carries, Chain, County}
 use Rattle.county_chart.proofs.Common.{Fields8, IsApart, IsClosed, IsCounty, IsKeyOrder, IsPermutation, IsPermutation-map}
 use Rattle.county_chart.proofs.Common.{IsPermutation-sym, IsPermutation-trans, IsTrue, Known, List, None, Option, Ordering, PolygonKey}
 use Rattle.county_chart.proofs.Common.{Renumbering, Some, [], all_filter, all_known, all_left, all_map, all_pieces, all_right, all_unmap}
@@ -8,12 +8,12 @@ use Rattle.county_chart.proofs.Common.{carried_name, carried_polygon, chain_node
 use Rattle.county_chart.proofs.Common.{filter, has_repeat, has_repeat-apart, identity, image, inverse, is_named, key_cmp, key_keys, key_on}
 use Rattle.county_chart.proofs.Common.{key_under, known-distinct, lands, link_key, lt-ltb, ltb-true, map, map-id, map-map, map_agree_all}
 use Rattle.county_chart.proofs.Common.{map_itself, nat_cmp, nat_keys, nat_lt, nodes, nodes_along, option_map, option_to_list, polygon_keys}
-use Rattle.county_chart.proofs.Common.{refl, renumbered, renumbered_polygon, renumbered_side, rules, same_or_not, stands_in, subst, swapped}
+use Rattle.county_chart.proofs.Common.{refl, renumbered, renumbered_polygon, renumbered_side, rules, same_or_not, contains, subst, swapped}
 use Rattle.county_chart.proofs.Common.{sym, then, times, tlids, to_itself, true, turned-turned, turned_if, turns, ℕ, ◌∙◌, ◌∷◌, ◌≡◌}
 use Rattle.ordered_lists.proofs.ByKey.Keys.{apart-filter, image-followed, images-lefts, lefts-followed, lefts-swapped, rights-swapped}
 use Rattle.ordered_lists.proofs.ByKey.Keys.{apart-permutation, has_repeat-images, known-permutation, known-permutation_to, rights-to_itself}
 use Rattle.ordered_lists.proofs.ByKey.Keys.{filter_all, followed, image-back, image-known, image-no, lefts, rights, times-images}
-use Rattle.ordered_lists.proofs.ByKey.Keys.{image-to_itself, image-yes, joined-followed, lefts-to_itself, rights-followed, stands_in-filter}
+use Rattle.ordered_lists.proofs.ByKey.Keys.{image-to_itself, image-yes, joined-followed, lefts-to_itself, rights-followed, contains-filter}
 
 -- renaming and turning a chain commute
 pub renumbered-turned_if : (r : Renumbering) (b : Bool) (c : Chain) → renumbered r (turned_if b c) ≡ turned_if b (renumbered r c)
@@ -111,8 +111,8 @@ keys_known {K} {V} {cmp} o es =
     (all_known o (Known cmp (map (λ d. d.0) es)) (map (λ d. d.0) es) (λ k l. l))
 
 all_chains : (a : County) (es : List (ℕ × Chain)) → AllByRecursion (λ e. Known nat_cmp (tlids a) e.0) es
-    → AllByRecursion (λ e. AllStandIn (feats a) e.1.feats) es
-    → AllByRecursion (λ e. AllKeysStandIn (polygon_keys a) (chain_polygons e.1)) es
+    → AllByRecursion (λ e. AllContained (feats a) e.1.feats) es
+    → AllByRecursion (λ e. AllKeysContained (polygon_keys a) (chain_polygons e.1)) es
     → AllByRecursion (λ e. AllByRecursion (Known nat_cmp (nodes a)) (chain_nodes e.1)) es → AllByRecursion (IsChainOf a) es
 all_chains a [] t n s d = tt
 all_chains a (e ∷ es) t n s d = search (rules, all_weaker, ltb-true, all_chains a es t.1 n.1 s.1 d.1)
@@ -128,8 +128,8 @@ pub record IsLinkOf (a : County) (link : Fields8) : Type 0 where
   pub land : Known nat_cmp (lands a) link.land
   pub polygon : Known key_cmp (polygon_keys a) (link_key link)
 
-all_links : (a : County) (ls : List Fields8) → AllByRecursion (λ l. IsTrue (stands_in nat_cmp l.land (lands a))) ls
-    → AllByRecursion (λ l. IsTrue (stands_in key_cmp (link_key l) (polygon_keys a))) ls → AllByRecursion (IsLinkOf a) ls
+all_links : (a : County) (ls : List Fields8) → AllByRecursion (λ l. IsTrue (contains nat_cmp l.land (lands a))) ls
+    → AllByRecursion (λ l. IsTrue (contains key_cmp (link_key l) (polygon_keys a))) ls → AllByRecursion (IsLinkOf a) ls
 all_links a [] g h = tt
 all_links a (l ∷ ls) g h = search (rules, ltb-true, all_links a ls g.1 h.1)
 
@@ -217,7 +217,7 @@ module _ (r : Renumbering) (a b : County) (ca : IsCounty a) (cb : IsCounty b) (h
 
   turned_back : (n : ℕ) → Known nat_cmp (tlids a) n → turns (inverse r) (image nat_cmp r.chains n) ≡ turns r n
   turned_back n k =
-      ap (λ ts. stands_in nat_cmp (image nat_cmp r.chains n) (map (image nat_cmp r.chains) ts)) all_named
+      ap (λ ts. contains nat_cmp (image nat_cmp r.chains n) (map (image nat_cmp r.chains) ts)) all_named
       ∙ ap (nat_lt 0) (times-images nat_keys r.chains n apart_chains
       (known-permutation nat_keys n (lefts r.chains) (tlids a) h.numbers.chains.left k) r.turned named_turned)
 
@@ -232,12 +232,12 @@ module _ (r : Renumbering) (a b : County) (ca : IsCounty a) (cb : IsCounty b) (h
     turned = λ n k. ap (exactly_one (turns r n)) (turned_back n k) ∙ exactly_one-both (turns r n);
   }
 
-  turned_known_back : AllByRecursion (λ t. IsTrue (stands_in nat_cmp t (tlids b)))
+  turned_known_back : AllByRecursion (λ t. IsTrue (contains nat_cmp t (tlids b)))
       (map (image nat_cmp r.chains) (filter (is_named nat_cmp r.chains) r.turned))
-  turned_known_back = subst (λ ts. AllByRecursion (λ t. IsTrue (stands_in nat_cmp t (tlids b))) (map (image nat_cmp r.chains) ts))
+  turned_known_back = subst (λ ts. AllByRecursion (λ t. IsTrue (contains nat_cmp t (tlids b))) (map (image nat_cmp r.chains) ts))
       (sym all_named)
-      (all_map (λ t. IsTrue (stands_in nat_cmp t (tlids b))) (image nat_cmp r.chains) r.turned
-      (all_weaker (Known nat_cmp (lefts r.chains)) (λ t. IsTrue (stands_in nat_cmp (image nat_cmp r.chains t) (tlids b)))
+      (all_map (λ t. IsTrue (contains nat_cmp t (tlids b))) (image nat_cmp r.chains) r.turned
+      (all_weaker (Known nat_cmp (lefts r.chains)) (λ t. IsTrue (contains nat_cmp (image nat_cmp r.chains t) (tlids b)))
       (λ t k. lt-ltb 0 (times nat_cmp (image nat_cmp r.chains t) (tlids b))
       (known-permutation_to nat_keys (image nat_cmp r.chains t) (rights r.chains) (tlids b) h.numbers.chains.right
       (image-known nat_keys r.chains t k)))
@@ -315,8 +315,8 @@ module _ (r q : Renumbering) (a b c : County) (ca : IsCounty a) (cb : IsCounty b
 
   turned_on : (n : ℕ) → Known nat_cmp (tlids a) n → exactly_one (turns r n) (turns q (image nat_cmp r.chains n)) ≡ turns (then r q) n
   unfolding g_turned
-  turned_on n l = sym (ap (stands_in nat_cmp n) turned_of_then
-      ∙ stands_in-filter nat_keys g_turned n (lefts r.chains)
+  turned_on n l = sym (ap (contains nat_cmp n) turned_of_then
+      ∙ contains-filter nat_keys g_turned n (lefts r.chains)
       (known-permutation nat_keys n (lefts r.chains) (tlids a) h.numbers.chains.left l))
 
   pub then_follows : Follows q r (then r q) a
@@ -346,9 +346,9 @@ module _ (r q : Renumbering) (a b c : County) (ca : IsCounty a) (cb : IsCounty b
               (apart-distinct nat_keys (nodes_along b.chains)) h.numbers.nodes k.numbers.nodes;
           cenids = subst (AllByRecursion (λ p. p.0.0 ≡ p.1.0)) (sym (joined-followed key_keys r.polygons q.polygons key_named))
               (cenids_on r.polygons q.polygons h.numbers.cenids k.numbers.cenids);
-          turned_known = subst (AllByRecursion (λ t. IsTrue (stands_in nat_cmp t (tlids a)))) (sym turned_of_then)
-              (all_filter (λ t. IsTrue (stands_in nat_cmp t (tlids a))) g_turned (lefts r.chains)
-              (all_known nat_keys (λ t. IsTrue (stands_in nat_cmp t (tlids a))) (lefts r.chains)
+          turned_known = subst (AllByRecursion (λ t. IsTrue (contains nat_cmp t (tlids a)))) (sym turned_of_then)
+              (all_filter (λ t. IsTrue (contains nat_cmp t (tlids a))) g_turned (lefts r.chains)
+              (all_known nat_keys (λ t. IsTrue (contains nat_cmp t (tlids a))) (lefts r.chains)
               (λ t l. lt-ltb 0 (times nat_cmp t (tlids a))
               (known-permutation_to nat_keys t (lefts r.chains) (tlids a) h.numbers.chains.left l))));
           turned_once = ap (has_repeat nat_cmp) turned_of_then

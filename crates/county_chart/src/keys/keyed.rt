@@ -33,7 +33,7 @@ pub fn are_in_order<K: Ord + Copy, T: Keyed<K>>(items: &[T]) -> bool
 /// # Errors
 ///
 /// `AllocError` if an allocation failed. The items are then the same, in any order.
-pub fn put_in_order<K: Ord + Copy, T: Keyed<K>>(items: &mut Vec<T>) -> Result<(), AllocError>
+pub fn sort_by_keys<K: Ord + Copy, T: Keyed<K>>(items: &mut Vec<T>) -> Result<(), AllocError>
     ensures permutation { IsPermutation items.old.items items.new.items }
     ensures in_order { OnOk result (IsInOrder (on T.key_of K.cmp) items.new.items) }
 {

@@ -2,7 +2,7 @@
 
 ghost use Rattle.std.specs.Prelude.{IfSome, List, Some, is_some, length, slice_get, ◌≡◌};
 ghost use Rattle.std.specs.{List.Sorted.IsStrictlySortedBy, Option.option_copied};
-ghost use Rattle.ordered_lists.specs.{Entries.entry_keys, Entries.entry_values, Entries.value_under, Orders.stands_in};
+ghost use Rattle.ordered_lists.specs.{Entries.entry_keys, Entries.entry_values, Entries.value_under, Orders.contains};
 
 use ordered_lists::{Key, place_of};
 use std::marker::Model;
@@ -76,7 +76,7 @@ impl<K: Key, V> Table<K, V> {
     /// The place of a key, counted from 0, or none if the table doesn't have it.
     pub(crate) fn place(&self, key: K) -> Option<usize>
         ensures found { IfSome result (λ place. slice_get (entry_keys self.now) place ≡ Some key) }
-        ensures known { is_some result ≡ stands_in K.cmp key (entry_keys self.now) }
+        ensures known { is_some result ≡ contains K.cmp key (entry_keys self.now) }
         ensures ascending { IsStrictlySortedBy K.cmp (entry_keys self.now) }
     {
         place_of(self.keys(), key)

@@ -2,7 +2,7 @@
 use Rattle.ordered_lists.proofs.Common.{AllByRecursion, Bool, Equal, Greater, IsPermutation, IsTotalOrder, Less, List, Ordering, [], ap}
 use Rattle.ordered_lists.proofs.Common.{arith, cond, exact_unsigned, false, false_from_ne_true, false≢true, filter, filter-append}
 use Rattle.ordered_lists.proofs.Common.{has_repeat, inl, inr, is_eq, is_gt, length, length-append, length-filter, lt-ltb, map, nat_cmp}
-use Rattle.ordered_lists.proofs.Common.{nat_cmp_total, nat_lt, ordering_reverse, refl, stands_in, subst, suc, sum_by-IsPermutation, sym}
+use Rattle.ordered_lists.proofs.Common.{nat_cmp_total, nat_lt, ordering_reverse, refl, contains, subst, suc, sum_by-IsPermutation, sym}
 use Rattle.ordered_lists.proofs.Common.{tied_itself, times, true, zero, ℕ, ◌++◌, ◌+◌, ◌<◌, ◌||◌, ◌∙◌, ◌∷◌, ◌≡◌, ◌≤◌, ◌⊎◌}
 use Rattle.std.specs.List.Sorted.{IsStrictlySortedBy}
 use Rattle.ordered_lists.specs.Pairs.{composed, image, is_named, swapped, to_itself}
@@ -305,8 +305,8 @@ module _ {K : Type 0} {cmp : K → K → Ordering} (o : IsKeyOrder cmp) where
       go true e = omega (arith, a k)
       go false e = omega arith
 
-  pub stands_in-filter : (f : K → Bool) (k : K) (ls : List K) → Known cmp ls k → stands_in cmp k (filter f ls) ≡ f k
-  stands_in-filter f k ls l = ap (nat_lt 0) (times-filter f k ls) ∙ go (f k)
+  pub contains-filter : (f : K → Bool) (k : K) (ls : List K) → Known cmp ls k → contains cmp k (filter f ls) ≡ f k
+  contains-filter f k ls l = ap (nat_lt 0) (times-filter f k ls) ∙ go (f k)
     where
       go : (b : Bool) → nat_lt 0 (cond b (times cmp k ls) 0) ≡ b
       go true = lt-ltb 0 (times cmp k ls) l

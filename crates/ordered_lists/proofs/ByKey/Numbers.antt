@@ -1,7 +1,7 @@
 -- Elements by their numbers: how many have a number, and lists that ascend strictly.
 use Rattle.ordered_lists.proofs.Common.{AllByRecursion, Bool, Equal, Greater, IsInOrder, Less, List, Ordering, [], ap, arith, cond}
 use Rattle.ordered_lists.proofs.Common.{distinct, false, filter, in_order, inl, inr, is_eq, is_gt, length, map, put_in_order, refl}
-use Rattle.ordered_lists.proofs.Common.{stands_in, suc, sym, times, true, true≢false, ◌∙◌, ◌∷◌, ◌≡◌, ◌≤◌}
+use Rattle.ordered_lists.proofs.Common.{contains, suc, sym, times, true, true≢false, ◌∙◌, ◌∷◌, ◌≡◌, ◌≤◌}
 use Rattle.ordered_lists.proofs.ByKey.Keys.{IsApart, IsKeyOrder, apart_tail, times-no, times-yes}
 use Rattle.ordered_lists.proofs.{Lists.Among.Among, Lists.Among.all_among, Lists.Distinct.apart-distinct, Lists.Distinct.count-put}
 use Rattle.ordered_lists.proofs.{Lists.Elements.all_weaker, Lists.InOrder.put-in_order}
@@ -86,7 +86,7 @@ module _ {K : Type 0} {cmp : K → K → Ordering} (o : IsKeyOrder cmp) where
 
   pub distinct-in_order : (ks : List K) → IsInOrder cmp (distinct cmp ks)
   distinct-in_order [] = tt
-  distinct-in_order (k ∷ ks) = go (stands_in cmp k ks) (distinct-in_order ks)
+  distinct-in_order (k ∷ ks) = go (contains cmp k ks) (distinct-in_order ks)
     where
       go : (b : Bool) → IsInOrder cmp (distinct cmp ks) → IsInOrder cmp (cond b (distinct cmp ks) (put_in_order cmp k (distinct cmp ks)))
       go true ih = ih

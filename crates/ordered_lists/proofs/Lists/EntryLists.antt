@@ -1,6 +1,6 @@
 -- Entries as lists of keys and of values.
 use Rattle.ordered_lists.proofs.Common.{AllByRecursion, IsInOrder, entry_keys, entry_values, false≢true, map_values, slice_get, value_under}
-use Rattle.ordered_lists.proofs.Common.{Less, List, Ordering, arith, false, is_eq, is_gt, length, lt-ltb, nat_lt, stands_in, subst, times}
+use Rattle.ordered_lists.proofs.Common.{Less, List, Ordering, arith, false, is_eq, is_gt, length, lt-ltb, nat_lt, contains, subst, times}
 use Rattle.ordered_lists.proofs.Common.{None, Some, [], ap, cond, inl, inr, map, refl, suc, sym, true, zero, zip, ℕ, ◌∙◌, ◌∷◌, ◌≡◌, ◌⊎◌}
 use Rattle.ordered_lists.proofs.ByKey.Keys.{IsKeyOrder, same-itself, same_or_not, times-no, times-yes}
 use Rattle.ordered_lists.proofs.Lists.Elements.{all_weaker}
@@ -60,12 +60,12 @@ later_apart o key (k ∷ ks) (suc place) h e = later_apart o key ks place h.1 e
 
 module _ {K V : Type 0} {cmp : K → K → Ordering} (o : IsKeyOrder cmp) where
   -- a key that isn't in the list has no value
-  pub none-under : (key : K) (entries : List (K × V)) → stands_in cmp key (entry_keys entries) ≡ false → value_under cmp key entries ≡ None
+  pub none-under : (key : K) (entries : List (K × V)) → contains cmp key (entry_keys entries) ≡ false → value_under cmp key entries ≡ None
   none-under key [] e = refl
   none-under key (entry ∷ entries) e = go (same_or_not o key entry.0) (none-under key entries)
     where
       go : (key ≡ entry.0) ⊎ (is_eq (cmp key entry.0) ≡ false)
-          → (stands_in cmp key (entry_keys entries) ≡ false → value_under cmp key entries ≡ None)
+          → (contains cmp key (entry_keys entries) ≡ false → value_under cmp key entries ≡ None)
           → value_under cmp key (entry ∷ entries) ≡ None
       go (inl f) ih = absurd (false≢true (sym e ∙ lt-ltb 0 (times cmp key (entry_keys (entry ∷ entries)))
           (omega (arith, times-yes o key entry.0 (entry_keys entries) f))))

@@ -1,6 +1,6 @@
 -- Places: the elements up to a place, and the element at the place of a key, or past the end.
 use Rattle.ordered_lists.proofs.Common.{IfSome, IsStrictlySortedBy, List, None, Option, Ordering, Some, [], ap, arith, entry_keys}
-use Rattle.ordered_lists.proofs.Common.{entry_values, is_some, length, refl, slice_get, slice_get_past, stands_in, suc, sym, take}
+use Rattle.ordered_lists.proofs.Common.{entry_values, is_some, length, refl, slice_get, slice_get_past, contains, suc, sym, take}
 use Rattle.ordered_lists.proofs.Common.{unwrap_or, value_under, zero, ℕ, ◌++◌, ◌+◌, ◌∙◌, ◌∷◌, ◌≡◌}
 use Rattle.ordered_lists.proofs.{ByKey.Keys.IsKeyOrder, Lists.EntryLists.none-under, Lists.EntryLists.value-at_place}
 
@@ -26,7 +26,7 @@ length_values (entry ∷ entries) = omega (arith, length_values entries)
 -- the value at the place of a key, or past the end if no entry has the key, is the value under the key
 value-at_or_end : {K V : Type 0} {cmp : K → K → Ordering} (o : IsKeyOrder cmp) (key : K) (entries : List (K × V)) (found : Option ℕ)
     → IsStrictlySortedBy cmp (entry_keys entries) → IfSome found (λ place. slice_get (entry_keys entries) place ≡ Some key)
-    → is_some found ≡ stands_in cmp key (entry_keys entries)
+    → is_some found ≡ contains cmp key (entry_keys entries)
     → slice_get (entry_values entries) (unwrap_or found (length entries)) ≡ value_under cmp key entries
 value-at_or_end o key entries (Some place) strict at known = value-at_place o key entries place strict at
 value-at_or_end o key entries None strict at known =
@@ -36,7 +36,7 @@ value-at_or_end o key entries None strict at known =
 -- the same for a place that a chart returns, and for its number of entries
 pub value-stated : {K V : Type 0} {cmp : K → K → Ordering} (o : IsKeyOrder cmp) (key : K) (entries : List (K × V)) (found : Option ℕ)
     {place count : ℕ} → place ≡ unwrap_or found count → count ≡ length entries → IsStrictlySortedBy cmp (entry_keys entries)
-    → IfSome found (λ at. slice_get (entry_keys entries) at ≡ Some key) → is_some found ≡ stands_in cmp key (entry_keys entries)
+    → IfSome found (λ at. slice_get (entry_keys entries) at ≡ Some key) → is_some found ≡ contains cmp key (entry_keys entries)
     → slice_get (entry_values entries) place ≡ value_under cmp key entries
 value-stated o key entries found is counted strict at known =
     ap (slice_get (entry_values entries)) (is ∙ ap (unwrap_or found) counted) ∙ value-at_or_end o key entries found strict at known

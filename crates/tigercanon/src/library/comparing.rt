@@ -1,7 +1,7 @@
 //! Whether two sets are one map, as they are or under a mask.
 
 ghost use Rattle.std.specs.Prelude.{◌≡◌, ◌≢◌, Ok, Err, Some, ℕ, List, IfOk, IfErr, MatchResult, true, false};
-ghost use Rattle.tigercanon.specs.Comparing.{AreDifferent, AreDifferentThrough, AreOneMap, AreOneMapThrough, IsAcceptable};
+ghost use Rattle.tigercanon.specs.Comparing.{AreDifferent, AreDifferentInView, AreOneMap, AreOneMapInView, IsAcceptable};
 ghost use Rattle.tigercanon.specs.Comparing.{ReportsMemoryOfAccepted, ReportsRefusalOfOne, ReportsRefusalOfOneRead};
 ghost use Rattle.tigercanon.specs.declared.fault.Fault.{Fault};
 ghost use Rattle.tigercanon.specs.declared.library.comparing.CompareFault.TheVariants.{Memory};
@@ -10,7 +10,7 @@ ghost use Rattle.tigercanon.specs.Findings.{IsFound};
 ghost use Rattle.tigercanon.specs.LentParts.{bytes_of_parts};
 ghost use Rattle.tigercanon.specs.Refusals.{reported_of};
 ghost use Rattle.tigercanon.specs.Stopping.{stopped_by};
-ghost use Rattle.tigercanon.specs.Sets.{CarriesSet, CarriesSetThrough, IsCanonSetThrough};
+ghost use Rattle.tigercanon.specs.Sets.{CarriesSet, CarriesSetInView, IsCanonSetInView};
 ghost use Rattle.county_chart.specs.MaskedCounty.{masked};
 ghost use Rattle.county_chart.specs.Renumbering.{Renumbering};
 ghost use Rattle.arranged_county.specs.Views.{arranged_county, source_of};
@@ -106,7 +106,7 @@ impl<'a, A: Chart, V: Comparison> Product<()> for Compared<'a, A, V> {
     ghost IsReady = { λ _ _. Unit {0} };
 
     ghost Answers = { λ mask b self _ comparison _. (a : List (List ℕ))
-        → IsCanonSetThrough (masked mask) a (A.county (source_of self.first.now)) (arranged_county self.first.now)
+        → IsCanonSetInView (masked mask) a (A.county (source_of self.first.now)) (arranged_county self.first.now)
         → IsFound (masked mask) a b (V.finding comparison) };
 
     fn of<B: Chart>(
@@ -208,9 +208,9 @@ pub fn compare_masked(
 ) -> Result<Verdict, CompareFault>
     // The sets are one map only if both are accepted and this renaming carries the first onto the second under the mask,
     ensures same { (r : Renumbering) → result ≡ Ok (Verdict.Same r) →
-        CarriesSetThrough (masked mask) r (bytes_of_parts a.now) (bytes_of_parts b.now) }
+        CarriesSetInView (masked mask) r (bytes_of_parts a.now) (bytes_of_parts b.now) }
     // and different only if both are accepted and no renaming does.
-    ensures different { result ≡ Ok Verdict.Different → AreDifferentThrough (masked mask) (bytes_of_parts a.now) (bytes_of_parts b.now) }
+    ensures different { result ≡ Ok Verdict.Different → AreDifferentInView (masked mask) (bytes_of_parts a.now) (bytes_of_parts b.now) }
     // Otherwise one of them is refused, the second only if the first is accepted.
     ensures refused { IfErr result (ReportsRefusalOfOne (bytes_of_parts a.now) (bytes_of_parts b.now)) }
     ensures no_device { (set : ℕ) → result ≢ Err (CompareFault.In set (Fault.Load LoadFault.Device)) }
@@ -255,9 +255,9 @@ pub fn are_one_map_masked(
     mask: Mask,
 ) -> Result<bool, CompareFault>
     // The sets are one map only if both are accepted and some renaming carries the first onto the second under the mask,
-    ensures same { result ≡ Ok true → AreOneMapThrough (masked mask) (bytes_of_parts a.now) (bytes_of_parts b.now) }
+    ensures same { result ≡ Ok true → AreOneMapInView (masked mask) (bytes_of_parts a.now) (bytes_of_parts b.now) }
     // and different only if both are accepted and no renaming does.
-    ensures different { result ≡ Ok false → AreDifferentThrough (masked mask) (bytes_of_parts a.now) (bytes_of_parts b.now) }
+    ensures different { result ≡ Ok false → AreDifferentInView (masked mask) (bytes_of_parts a.now) (bytes_of_parts b.now) }
     // Otherwise one of them is refused, the second only if the first is accepted.
     ensures refused { IfErr result (ReportsRefusalOfOne (bytes_of_parts a.now) (bytes_of_parts b.now)) }
     ensures no_device { (set : ℕ) → result ≢ Err (CompareFault.In set (Fault.Load LoadFault.Device)) }

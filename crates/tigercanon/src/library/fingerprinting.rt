@@ -2,7 +2,7 @@
 
 ghost use Rattle.std.specs.Prelude.{◌≢◌, Err, List, IfOk, IfErr};
 ghost use Rattle.tigercanon.specs.Faults.{IsWantOfMemory, ReportsRefusal};
-ghost use Rattle.tigercanon.specs.Fingerprints.{IsFingerprint, IsFingerprintThrough};
+ghost use Rattle.tigercanon.specs.Fingerprints.{IsFingerprint, IsFingerprintInView};
 ghost use Rattle.tigercanon.specs.LentParts.{bytes_of_parts};
 ghost use Rattle.tigercanon.specs.Sets.{IsAcceptedSet};
 ghost use Rattle.county_chart.specs.MaskedCounty.{masked};
@@ -39,7 +39,7 @@ pub fn fingerprint(alloc: Global, parts: &[&[u8]]) -> Result<[u8; 32], Fault>
 ///
 /// As for [`fingerprint`], whatever the mask is.
 pub fn fingerprint_masked(alloc: Global, parts: &[&[u8]], mask: Mask) -> Result<[u8; 32], Fault>
-    ensures fingerprint { IfOk result (IsFingerprintThrough (masked mask) (bytes_of_parts parts.now)) }
+    ensures fingerprint { IfOk result (IsFingerprintInView (masked mask) (bytes_of_parts parts.now)) }
     ensures refused { IfErr result (ReportsRefusal (bytes_of_parts parts.now)) }
     ensures no_device { result ≢ Err (Fault.Load LoadFault.Device) }
     // For accepted parts the only fault is a failed allocation.

@@ -4,13 +4,13 @@ ghost use Rattle.std.specs.Prelude.{◌≡◌, ℕ, List, OnOk, IfOk, IfErr};
 ghost use Rattle.tigercanon.specs.Comparing.{IsAcceptable};
 ghost use Rattle.tigercanon.specs.Faults.{RefusesRecords, ReportsRefusalOfRead};
 ghost use Rattle.tigercanon.specs.Linked.{AreLinkedAs, IsLinkedSet};
-ghost use Rattle.tigercanon.specs.Sets.{IsSeenSet};
+ghost use Rattle.tigercanon.specs.Sets.{IsViewedSet};
 ghost use Rattle.county_chart.specs.County.{county_of};
 ghost use Rattle.county_chart.specs.Limits.{HoldsWithinLimits};
 ghost use Rattle.county_chart.specs.Packing.{type_after_type};
 ghost use Rattle.tl_layout.specs.declared.record_type.Record.{Record};
 ghost use Rattle.tl_layout.specs.Tables.{HoldsByType};
-ghost use Rattle.canonical_form.specs.Sights.{plain};
+ghost use Rattle.canonical_form.specs.CountyViews.{plain};
 
 use crate::fault::Fault;
 use crate::library::unlinked::UnlinkedSet;
@@ -51,8 +51,8 @@ pub(crate) fn admitted_county<'a>(
     arena: &'a Bump,
     linked: &'a LinkedRecords,
 ) -> Result<Admitted<CountyOver<'a>>, Fault>
-    ensures seen { IfOk result (λ admitted. (parts : List (List ℕ)) → IsLinkedSet parts linked.now
-        → IsSeenSet plain parts (⟦<CountyOver<'a> as Chart>⟧.county admitted)) }
+    ensures view { IfOk result (λ admitted. (parts : List (List ℕ)) → IsLinkedSet parts linked.now
+        → IsViewedSet plain parts (⟦<CountyOver<'a> as Chart>⟧.county admitted)) }
     ensures refused { IfErr result (λ fault. (records : List Record) → AreLinkedAs linked.now records → RefusesRecords records fault) }
 {
     let county = county_of_linked(alloc, arena, linked)?;

@@ -3,11 +3,11 @@
 ghost use Rattle.std.specs.Prelude.{◌≡◌, ℕ, List, IfOk, IfErr};
 ghost use Rattle.tigercanon.specs.Faults.{RefusesRecords, ReportsRefusalOfRead};
 ghost use Rattle.tigercanon.specs.Linked.{AreLinkedAs, IsLinkedSet};
-ghost use Rattle.tigercanon.specs.Sets.{IsCanonSetThrough, IsSeenSet};
+ghost use Rattle.tigercanon.specs.Sets.{IsCanonSetInView, IsViewedSet};
 ghost use Rattle.county_chart.specs.MaskedCounty.{masked};
 ghost use Rattle.tl_layout.specs.declared.mask.Mask.{Mask};
 ghost use Rattle.tl_layout.specs.declared.record_type.Record.{Record};
-ghost use Rattle.canonical_form.specs.Sights.{plain};
+ghost use Rattle.canonical_form.specs.CountyViews.{plain};
 ghost use Rattle.arranged_county.specs.Views.{arranged_county, source_of};
 
 use crate::fault::Fault;
@@ -17,7 +17,7 @@ use bumpalo::Bump;
 use std::alloc::{AllocError, Global};
 use tl_county::{Chart, LinkedRecords};
 use tl_layout::Mask;
-use tl_number::{CanonCounty, canonise_alone, under_mask};
+use tl_number::{CanonCounty, admitted_masked, canonise_alone};
 use tl_profile::Admitted;
 
 /// A product that is made from the canonical county of a set, with a device such as a sink, or with `()` if it needs none.
@@ -41,13 +41,13 @@ pub(crate) trait Product<D>: Drop + Sized {
     ) -> Self::Out
         requires { IsReady self device.old }
         ensures { (parts : List (List ℕ))
-            → IsCanonSetThrough (masked mask) parts (C.county (source_of county.now)) (arranged_county county.now)
+            → IsCanonSetInView (masked mask) parts (C.county (source_of county.now)) (arranged_county county.now)
             → Answers mask parts self device.old result device.new };
 }
 
 /// Makes the product from an admitted county that is under this mask already. One call drops the canonical county, so that the
 /// prover checks that call and not the drop of each field.
-fn make_seen<D, P: Product<D>, C: Chart + Drop>(
+fn make_masked<D, P: Product<D>, C: Chart + Drop>(
     alloc: Global,
     admitted: Admitted<C>,
     product: P,
@@ -55,7 +55,7 @@ fn make_seen<D, P: Product<D>, C: Chart + Drop>(
     mask: Mask,
 ) -> Result<P::Out, AllocError>
     requires { P.IsReady product device.old }
-    ensures made { IfOk result (λ made. (parts : List (List ℕ)) → IsSeenSet (masked mask) parts (C.county admitted)
+    ensures made { IfOk result (λ made. (parts : List (List ℕ)) → IsViewedSet (masked mask) parts (C.county admitted)
         → P.Answers mask parts product device.old made device.new) }
     ensures untouched { IfErr result (λ _. device.new ≡ device.old) }
 {
@@ -74,15 +74,15 @@ fn make<D, P: Product<D>, C: Chart + Drop>(
     mask: Mask,
 ) -> Result<P::Out, AllocError>
     requires { P.IsReady product device.old }
-    ensures made { IfOk result (λ made. (parts : List (List ℕ)) → IsSeenSet plain parts (C.county admitted)
+    ensures made { IfOk result (λ made. (parts : List (List ℕ)) → IsViewedSet plain parts (C.county admitted)
         → P.Answers mask parts product device.old made device.new) }
     ensures untouched { IfErr result (λ _. device.new ≡ device.old) }
 {
     if mask.is_none() {
-        make_seen(alloc, admitted, product, device, mask)
+        make_masked(alloc, admitted, product, device, mask)
     } else {
-        let shown = under_mask(alloc, admitted, mask)?;
-        make_seen(alloc, shown, product, device, mask)
+        let masked_county = admitted_masked(alloc, admitted, mask)?;
+        make_masked(alloc, masked_county, product, device, mask)
     }
 }
 

@@ -4,9 +4,9 @@ ghost use Rattle.std.specs.Prelude.{◌≡◌, ◌≢◌, ◌<◌, ◌+◌, ◌�
 ghost use Rattle.tigercanon.specs.Faults.{IsWantOfMemory, ReportsRefusal};
 ghost use Rattle.tigercanon.specs.LentParts.{bytes_of_parts};
 ghost use Rattle.tigercanon.specs.Linked.{IsLinkedSet};
-ghost use Rattle.tigercanon.specs.Normalising.{AreNormalised, AreNormalisedThrough, IsCutOff, IsCutOffThrough, IsOnlyText, IsOnlyTextThrough, ReportsRead, Took, is_of_sink, is_stopped};
+ghost use Rattle.tigercanon.specs.Normalising.{AreNormalised, AreNormalisedInView, IsCutOff, IsCutOffInView, IsOnlyText, IsOnlyTextInView, ReportsRead, Took, is_of_sink, is_stopped};
 ghost use Rattle.tigercanon.specs.Reading.{AreRead, NoneFailed, OneFailed};
-ghost use Rattle.tigercanon.specs.Sets.{CarriesSet, CarriesSetThrough, IsAcceptedSet, IsCanonicalText, IsCanonicalTextThrough, IsOneCanonicalText, IsOneCanonicalTextThrough};
+ghost use Rattle.tigercanon.specs.Sets.{CarriesSet, CarriesSetInView, IsAcceptedSet, IsCanonicalText, IsCanonicalTextInView, IsOneCanonicalText, IsOneCanonicalTextInView};
 ghost use Rattle.county_chart.specs.MaskedCounty.{masked};
 ghost use Rattle.tl_layout.specs.declared.record_type.Record.{Record};
 ghost use Rattle.tl_write.specs.declared.fault.WriteFault.{WriteFault};
@@ -55,13 +55,13 @@ pub fn normalise(alloc: Global, parts: &[&[u8]]) -> Result<Vec<u8>, Fault>
 ///
 /// As for [`normalise`], whatever the mask is.
 pub fn normalise_masked(alloc: Global, parts: &[&[u8]], mask: Mask) -> Result<Vec<u8>, Fault>
-    ensures canonical { IfOk result (λ text. IsCanonicalTextThrough (masked mask) (bytes_of_parts parts.now) text.items) }
+    ensures canonical { IfOk result (λ text. IsCanonicalTextInView (masked mask) (bytes_of_parts parts.now) text.items) }
     // No canonical list of the same map under the mask has another text.
-    ensures only { IfOk result (λ text. IsOnlyTextThrough (masked mask) (bytes_of_parts parts.now) text.items) }
+    ensures only { IfOk result (λ text. IsOnlyTextInView (masked mask) (bytes_of_parts parts.now) text.items) }
     // For a text that is canonical under the mask, the result is that text.
-    ensures again { (text : List ℕ) → IsOneCanonicalTextThrough (masked mask) (bytes_of_parts parts.now) text →
+    ensures again { (text : List ℕ) → IsOneCanonicalTextInView (masked mask) (bytes_of_parts parts.now) text →
         IfOk result (λ answer. answer.items ≡ text) }
-    ensures again_succeeds { (text : List ℕ) → IsOneCanonicalTextThrough (masked mask) (bytes_of_parts parts.now) text →
+    ensures again_succeeds { (text : List ℕ) → IsOneCanonicalTextInView (masked mask) (bytes_of_parts parts.now) text →
         IfErr result IsWantOfMemory }
     // The result is its own canonical text without a mask.
     ensures plain { IfOk result (λ text. IsCanonicalText (text.items ∷ []) text.items) }
@@ -106,10 +106,10 @@ pub fn normalise_with_renaming_masked(
     parts: &[&[u8]],
     mask: Mask,
 ) -> Result<(Vec<u8>, Renaming), Fault>
-    ensures canonical { IfOk result (λ answer. IsCanonicalTextThrough (masked mask) (bytes_of_parts parts.now) answer.0.items) }
+    ensures canonical { IfOk result (λ answer. IsCanonicalTextInView (masked mask) (bytes_of_parts parts.now) answer.0.items) }
     // No canonical list of the same map under the mask has another text.
-    ensures only { IfOk result (λ answer. IsOnlyTextThrough (masked mask) (bytes_of_parts parts.now) answer.0.items) }
-    ensures carries { IfOk result (λ answer. CarriesSetThrough (masked mask) answer.1 (bytes_of_parts parts.now) (answer.0.items ∷ [])) }
+    ensures only { IfOk result (λ answer. IsOnlyTextInView (masked mask) (bytes_of_parts parts.now) answer.0.items) }
+    ensures carries { IfOk result (λ answer. CarriesSetInView (masked mask) answer.1 (bytes_of_parts parts.now) (answer.0.items ∷ [])) }
     ensures refused { IfErr result (ReportsRefusal (bytes_of_parts parts.now)) }
     ensures no_device { result ≢ Err (Fault.Load LoadFault.Device) }
     // For accepted parts the only fault is a failed allocation.
@@ -184,11 +184,11 @@ pub fn normalise_to_masked<R: Source, W: Sink>(
     requires parts { All (λ part. R.failed part < u64.MAX) parts.old }
     requires out { W.failed out.old < u64.MAX }
     // The sink took the whole canonical text of the parts under the mask.
-    ensures written { IfOk result (λ n. (text : List ℕ) × AreNormalisedThrough (masked mask) R.remaining R.given parts.old parts.new text
+    ensures written { IfOk result (λ n. (text : List ℕ) × AreNormalisedInView (masked mask) R.remaining R.given parts.old parts.new text
         × (n ≡ length text) × Took W.holds out.old out.new text) }
     // Or the sink failed, after as many bytes from the beginning of the text as the fault reports.
     ensures stopped { (fault : WriteFault) → result ≡ Err (Fault.Write fault) →
-        IsCutOffThrough (masked mask) R.remaining R.given parts.old parts.new W.holds out.old out.new fault.written }
+        IsCutOffInView (masked mask) R.remaining R.given parts.old parts.new W.holds out.old out.new fault.written }
     ensures failures { W.failed out.new ≡ (if is_stopped result then W.failed out.old + 1 else W.failed out.old) }
     // Or the set is refused, and nothing was written.
     ensures refused { IfErr result (ReportsRead R.remaining R.given R.reads parts.old parts.new) }

@@ -2,9 +2,9 @@
 
 ghost use Rattle.sha2.specs.Sha256.{sha256};
 ghost use Rattle.std.specs.Prelude.{◌≡◌, ◌<◌, [], ◌∷◌, IfOk};
-ghost use Rattle.tigercanon.specs.Fingerprints.{IsFingerprintThrough};
-ghost use Rattle.tigercanon.specs.Normalising.{IsWrittenThrough};
-ghost use Rattle.tigercanon.specs.Sets.{CarriesSetThrough, IsCanonicalTextThrough};
+ghost use Rattle.tigercanon.specs.Fingerprints.{IsFingerprintInView};
+ghost use Rattle.tigercanon.specs.Normalising.{IsWrittenInView};
+ghost use Rattle.tigercanon.specs.Sets.{CarriesSetInView, IsCanonicalTextInView};
 ghost use Rattle.county_chart.specs.MaskedCounty.{masked};
 ghost use Rattle.county_chart.specs.Packing.{packed};
 ghost use Rattle.tl_layout.specs.RecordText.{text_of};
@@ -68,7 +68,7 @@ impl Product<()> for Text {
 
     ghost IsReady = { λ _ _. Unit {0} };
 
-    ghost Answers = { λ mask parts _ _ made _. IfOk made (λ text. IsCanonicalTextThrough (masked mask) parts text.items) };
+    ghost Answers = { λ mask parts _ _ made _. IfOk made (λ text. IsCanonicalTextInView (masked mask) parts text.items) };
 
     fn of<C: Chart>(
         self,
@@ -90,8 +90,8 @@ impl Product<()> for TextAndRenaming {
 
     ghost IsReady = { λ _ _. Unit {0} };
 
-    ghost Answers = { λ mask parts _ _ made _. IfOk made (λ answer. IsCanonicalTextThrough (masked mask) parts answer.0.items
-        × CarriesSetThrough (masked mask) answer.1 parts (answer.0.items ∷ [])) };
+    ghost Answers = { λ mask parts _ _ made _. IfOk made (λ answer. IsCanonicalTextInView (masked mask) parts answer.0.items
+        × CarriesSetInView (masked mask) answer.1 parts (answer.0.items ∷ [])) };
 
     fn of<C: Chart>(
         self,
@@ -117,7 +117,7 @@ impl<W: Sink> Product<W> for Written {
 
     ghost IsReady = { λ _ out. W.failed out < MAX };
 
-    ghost Answers = { λ mask parts _ old made new. IsWrittenThrough (masked mask) W.failed W.holds parts old new made };
+    ghost Answers = { λ mask parts _ old made new. IsWrittenInView (masked mask) W.failed W.holds parts old new made };
 
     fn of<C: Chart>(
         self,
@@ -139,7 +139,7 @@ impl Product<()> for Hash {
 
     ghost IsReady = { λ _ _. Unit {0} };
 
-    ghost Answers = { λ mask parts _ _ hash _. IsFingerprintThrough (masked mask) parts hash };
+    ghost Answers = { λ mask parts _ _ hash _. IsFingerprintInView (masked mask) parts hash };
 
     fn of<C: Chart>(
         self,

@@ -9,7 +9,7 @@ ghost use Rattle.tigercanon.specs.Stopping.{stopped_by};
 
 use crate::fault::Fault;
 use crate::library::comparing::CompareFault;
-use crate::program::writing::write_text;
+use crate::program::writing::write_whole;
 use fault_report::{Line, push};
 use tl_write::Sink;
 
@@ -69,7 +69,7 @@ pub(crate) fn write_line<E: Sink>(line: &[u8], err: &mut E)
     requires { E.failed err.old < u64.MAX }
     ensures { ReportsLineTo E.failed E.holds err.old err.new line.now }
 {
-    let _ = write_text(line, err);
+    let _ = write_whole(line, err);
 }
 
 /// Writes to a sink, in one line, why a job stopped, and returns the exit status.
@@ -106,7 +106,7 @@ pub(crate) fn print_text<W: Sink>(
     requires { W.failed out.old < u64.MAX }
     ensures { PrintsTo W.failed W.holds out.old out.new text.now ending result }
 {
-    match write_text(text, out) {
+    match write_whole(text, out) {
         Ok(()) => Ok(ending),
         Err(fault) => Err(Stopped {
             fault: Fault::Write(fault),

@@ -59,7 +59,7 @@ impl<W: Write> Sink for LentOut<'_, W> {
 }
 
 /// Writes the text to a sink, or a beginning of it if the sink fails. No failed write is tried again.
-pub(crate) fn write_text<W: Sink>(text: &[u8], out: &mut W) -> Result<(), WriteFault>
+pub(crate) fn write_whole<W: Sink>(text: &[u8], out: &mut W) -> Result<(), WriteFault>
     requires { W.failed out.old < u64.MAX }
     ensures whole { OnOk result (Took W.holds out.old out.new text.now) }
     ensures none_failed { OnOk result (W.failed out.new ≡ W.failed out.old) }

@@ -18,13 +18,13 @@ module _ {X : Type 0} (number : X → ℕ) where
 
 -- the chains of later TLIDs don't need the records of earlier ones
 pub chains_along-later : (n : ℕ) (twos : List Fields2) (fours : List Fields4) (sixes : List Fields6) (rs : List Fields1)
-    (links : List FieldsI) → AllByRecursion (λ m. nat_cmp n m ≡ Less) (map one_tlid rs)
+    (topologies : List FieldsI) → AllByRecursion (λ m. nat_cmp n m ≡ Less) (map one_tlid rs)
     → chains_along (later_than two_tlid n twos) (later_than four_tlid n fours)
-    (later_than six_tlid n sixes) rs links ≡ chains_along twos fours sixes rs links
-chains_along-later n twos fours sixes [] links h = refl
+    (later_than six_tlid n sixes) rs topologies ≡ chains_along twos fours sixes rs topologies
+chains_along-later n twos fours sixes [] topologies h = refl
 chains_along-later n twos fours sixes (r ∷ rs) [] h = refl
-chains_along-later n twos fours sixes (r ∷ rs) (link ∷ links) h =
-    search (rules, number-later, chains_along-later n twos fours sixes rs links h.1)
+chains_along-later n twos fours sixes (r ∷ rs) (topology ∷ topologies) h =
+    search (rules, number-later, chains_along-later n twos fours sixes rs topologies h.1)
 
 pub landmarks-later : (n : ℕ) (sevens : List Fields7) (eights : List Fields8) (lands : List ℕ)
     → AllByRecursion (λ m. nat_cmp n m ≡ Less) lands
@@ -41,26 +41,26 @@ polygons-later key points (j ∷ keys) h =
     λ i. first (map (λ (r : FieldsP). r.body) (same i)) ∷ polygons-later key points keys h.1 i
 
 -- the chain made from the groups of its TLID
-pub chain-of_groups : (head : Fields1) (link : FieldsI) (twos shape : List Fields2) (fours named : List Fields4)
-    (sixes ranged : List Fields6) (tlid : ℕ) → tlid ≡ head.tlid
+pub chain-of_groups : (basics : Fields1) (topology : FieldsI) (twos shape : List Fields2) (fours named : List Fields4)
+    (sixes ranged : List Fields6) (tlid : ℕ) → tlid ≡ basics.tlid
     → shape ≡ filter (λ x. is_eq (nat_cmp (two_tlid x) tlid)) twos → named ≡ filter (λ x. is_eq (nat_cmp (four_tlid x) tlid)) fours
     → ranged ≡ filter (λ x. is_eq (nat_cmp (six_tlid x) tlid)) sixes
-    → chain_with head link shape named ranged
-    ≡ chain_with head link (of_number two_tlid head.tlid twos) (of_number four_tlid head.tlid fours) (of_number six_tlid head.tlid sixes)
-chain-of_groups head link twos shape fours named sixes ranged tlid e shape_is named_is ranged_is = search (rules, group-of_number)
+    → chain_with basics topology shape named ranged
+    ≡ chain_with basics topology (of_number two_tlid basics.tlid twos) (of_number four_tlid basics.tlid fours) (of_number six_tlid basics.tlid sixes)
+chain-of_groups basics topology twos shape fours named sixes ranged tlid e shape_is named_is ranged_is = search (rules, group-of_number)
 
 -- one more chain is built
-module _ (done whole : List Chain) (head : Fields1) (later heads : List Fields1) (link : FieldsI) (others links : List FieldsI)
+module _ (done whole : List Chain) (basics : Fields1) (later all_basics : List Fields1) (topology : FieldsI) (others topologies : List FieldsI)
     (twos : List Fields2) (fours : List Fields4) (sixes : List Fields6) where
-  abbrev chain_of_head : Chain
-  chain_of_head = chain_with head link (of_number two_tlid head.tlid twos) (of_number four_tlid head.tlid fours)
-      (of_number six_tlid head.tlid sixes)
+  abbrev chain_of_basics : Chain
+  chain_of_basics = chain_with basics topology (of_number two_tlid basics.tlid twos) (of_number four_tlid basics.tlid fours)
+      (of_number six_tlid basics.tlid sixes)
 
-  pub chains-step : heads ≡ head ∷ later → links ≡ link ∷ others
-      → IsStrictlySortedBy nat_cmp (map one_tlid heads)
-      → done ++ chains_along twos fours sixes heads links ≡ whole
-      → (done ++ (chain_of_head ∷ [])) ++ chains_along (later_than two_tlid head.tlid twos) (later_than four_tlid head.tlid fours)
-      (later_than six_tlid head.tlid sixes) later others ≡ whole
+  pub chains-step : all_basics ≡ basics ∷ later → topologies ≡ topology ∷ others
+      → IsStrictlySortedBy nat_cmp (map one_tlid all_basics)
+      → done ++ chains_along twos fours sixes all_basics topologies ≡ whole
+      → (done ++ (chain_of_basics ∷ [])) ++ chains_along (later_than two_tlid basics.tlid twos) (later_than four_tlid basics.tlid fours)
+      (later_than six_tlid basics.tlid sixes) later others ≡ whole
   chains-step heads_are links_are ascending before = search (rules, one_done, later_than, chains_along-later, strict_head)
 
 -- one more landmark is built

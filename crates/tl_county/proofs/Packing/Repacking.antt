@@ -8,7 +8,7 @@ use Rattle.tl_county.proofs.Common.{IsLinked, LandUnknown, LinkMissing, NameUnkn
 use Rattle.tl_county.proofs.Common.{IsTrue, Memory, Option, Record, as_type, by_type, greater, i_tlid, key_cmp, lt-ltb, map-map, nat_cmp}
 use Rattle.tl_county.proofs.Common.{LinkFault, LinkTwice, NameTwice, all_known, all_unmap, filter_map, has_repeat, option_map, seven_land}
 use Rattle.tl_county.proofs.Common.{One, Six, Two, ap₂, map, not, on, refl, sym, ◌&&◌, ◌++◌, ◌<◌, ◌||◌, ◌∙◌, ◌∷◌, ◌≡◌}
-use Rattle.tl_county.proofs.Common.{Ordering, all_both, chain_of, flat_map, in_order, link_key, nat_keys, one_tlid, side_keys, stands_in, ℕ}
+use Rattle.tl_county.proofs.Common.{Ordering, all_both, chain_of, flat_map, in_order, link_key, nat_keys, one_tlid, side_keys, contains, ℕ}
 use Rattle.tl_county.proofs.Common.{PolygonTwice, SequencedType, all-in_order, further_names, map_agree_all, nat_cmp_total, of_number-all}
 use Rattle.tl_county.proofs.Sameness.SameChains.{chains_alike}
 use Rattle.tl_layout.specs.declared.record_type.Record.TheVariants.{I}
@@ -73,26 +73,26 @@ rising : (f : ℕ → ℕ) (i j : ℕ) → (i < j → f i < f j) → (j < i → 
 rising f i j up down = search (rules, cases_order, tied_itself, nat_cmp_total, less, greater)
 
 -- the number is one of the list's numbers
-abbrev Stands : {X : Type 0} → (X → ℕ) → List X → ℕ → Type 0
-Stands number xs n = IsTrue (stands_in nat_cmp n (map number xs))
+abbrev IsContained : {X : Type 0} → (X → ℕ) → List X → ℕ → Type 0
+IsContained number xs n = IsTrue (contains nat_cmp n (map number xs))
 
-all_standing : {X : Type 0} (number : X → ℕ) (xs : List X) → AllByRecursion (λ x. Stands number xs (number x)) xs
-all_standing number xs = all_unmap (Stands number xs) number xs
-    (all_known nat_keys (Stands number xs) (map number xs) (λ n known. lt-ltb 0 (times nat_cmp n (map number xs)) known))
+all_contained : {X : Type 0} (number : X → ℕ) (xs : List X) → AllByRecursion (λ x. IsContained number xs (number x)) xs
+all_contained number xs = all_unmap (IsContained number xs) number xs
+    (all_known nat_keys (IsContained number xs) (map number xs) (λ n known. lt-ltb 0 (times nat_cmp n (map number xs)) known))
 
 -- one type of records in order, under new RTSQs
 sequence_kept : {X : Type 0} (tlid rtsq : X → ℕ) (f : X → X) (new : ℕ → ℕ → ℕ) → ((x : X) → tlid (f x) ≡ tlid x)
     → ((x : X) → rtsq (f x) ≡ new (tlid x) (rtsq x)) → (n : ℕ) (xs : List X)
-    → ((i j : ℕ) → Stands rtsq (of_number tlid n xs) i → Stands rtsq (of_number tlid n xs) j → i < j → new n i < new n j)
+    → ((i j : ℕ) → IsContained rtsq (of_number tlid n xs) i → IsContained rtsq (of_number tlid n xs) j → i < j → new n i < new n j)
     → in_order (on rtsq nat_cmp) (of_number tlid n (map f xs)) ≡ map f (in_order (on rtsq nat_cmp) (of_number tlid n xs))
 sequence_kept {X} tlid rtsq f new kt kr n xs up =
     ap (in_order (on rtsq nat_cmp)) (number-kept tlid f kt n xs)
-    ∙ order-changed (on rtsq nat_cmp) f (λ x. (tlid x ≡ n) × Stands rtsq (of_number tlid n xs) (rtsq x))
+    ∙ order-changed (on rtsq nat_cmp) f (λ x. (tlid x ≡ n) × IsContained rtsq (of_number tlid n xs) (rtsq x))
     (λ x y p q. ap is_gt (ap₂ nat_cmp (kr x ∙ ap (λ m. new m (rtsq x)) p.0) (kr y ∙ ap (λ m. new m (rtsq y)) q.0))
     ∙ ap is_gt (rising (new n) (rtsq x) (rtsq y) (up (rtsq x) (rtsq y) p.1 q.1) (up (rtsq y) (rtsq x) q.1 p.1)))
     (of_number tlid n xs)
-    (all_both (λ x. tlid x ≡ n) (λ x. Stands rtsq (of_number tlid n xs) (rtsq x)) (of_number tlid n xs)
-    (of_number-all tlid n xs) (all_standing rtsq (of_number tlid n xs)))
+    (all_both (λ x. tlid x ≡ n) (λ x. IsContained rtsq (of_number tlid n xs) (rtsq x)) (of_number tlid n xs)
+    (of_number-all tlid n xs) (all_contained rtsq (of_number tlid n xs)))
 
 flat_map-kept : {X Y : Type 0} (c : X → List Y) (f : X → X) → ((x : X) → c (f x) ≡ c x) → (xs : List X)
     → flat_map c (map f xs) ≡ flat_map c xs
@@ -111,15 +111,15 @@ module _ (f : ℕ → ℕ) (P : ℕ → Type 0) (up : (i j : ℕ) → P i → P 
 -- one type of records under new RTSQs: the RTSQs of a chain
 rtsqs_kept : {X : Type 0} (tlid rtsq : X → ℕ) (f : X → X) (new : ℕ → ℕ → ℕ) → ((x : X) → tlid (f x) ≡ tlid x)
     → ((x : X) → rtsq (f x) ≡ new (tlid x) (rtsq x)) → (n : ℕ) (xs : List X)
-    → ((i j : ℕ) → Stands rtsq (of_number tlid n xs) i → Stands rtsq (of_number tlid n xs) j → i < j → new n i < new n j)
+    → ((i j : ℕ) → IsContained rtsq (of_number tlid n xs) i → IsContained rtsq (of_number tlid n xs) j → i < j → new n i < new n j)
     → has_repeat nat_cmp (map rtsq (of_number tlid n (map f xs))) ≡ has_repeat nat_cmp (map rtsq (of_number tlid n xs))
 rtsqs_kept {X} tlid rtsq f new kt kr n xs up =
     ap (λ ys. has_repeat nat_cmp (map rtsq ys)) (number-kept tlid f kt n xs)
     ∙ ap (has_repeat nat_cmp) (map-map rtsq f (of_number tlid n xs)
     ∙ map_agree_all (λ x. rtsq (f x)) (λ x. new n (rtsq x)) (λ x. tlid x ≡ n) (λ x e. kr x ∙ ap (λ m. new m (rtsq x)) e)
     (of_number tlid n xs) (of_number-all tlid n xs) ∙ sym (map-map (new n) rtsq (of_number tlid n xs)))
-    ∙ repeat-rising (new n) (Stands rtsq (of_number tlid n xs)) up (map rtsq (of_number tlid n xs))
-    (all_map (Stands rtsq (of_number tlid n xs)) rtsq (of_number tlid n xs) (all_standing rtsq (of_number tlid n xs)))
+    ∙ repeat-rising (new n) (IsContained rtsq (of_number tlid n xs)) up (map rtsq (of_number tlid n xs))
+    (all_map (IsContained rtsq (of_number tlid n xs)) rtsq (of_number tlid n xs) (all_contained rtsq (of_number tlid n xs)))
 
 module _ (q : Sequence) (xs : List Record) (up : KeepsSequence q xs) where
   new_two : Fields2 → Fields2
@@ -227,22 +227,22 @@ module _ (q : Sequence) (xs : List Record) (up : KeepsSequence q xs) where
   same_broken : (f : LinkFault) → is_rule_broken ys f ≡ is_rule_broken xs f
   unfolding ys
   same_broken (ChainTwice n) = λ i. nat_lt 1 (times nat_cmp n (map one_tlid (keeps_rest xs i).of_type_1))
-  same_broken (NoChain t n) = λ i. stands_in nat_cmp n (linked_same t i) && not
-      (stands_in nat_cmp n (map one_tlid (keeps_rest xs i).of_type_1))
+  same_broken (NoChain t n) = λ i. contains nat_cmp n (linked_same t i) && not
+      (contains nat_cmp n (map one_tlid (keeps_rest xs i).of_type_1))
   same_broken (SequenceBroken t n) = sequence_same t n
   same_broken (LinkMissing n) = λ i.
-      stands_in nat_cmp n (map one_tlid (keeps_rest xs i).of_type_1) && not (stands_in nat_cmp n (map i_tlid (keeps_rest xs i).of_type_i))
+      contains nat_cmp n (map one_tlid (keeps_rest xs i).of_type_1) && not (contains nat_cmp n (map i_tlid (keeps_rest xs i).of_type_i))
   same_broken (LinkTwice n) = λ i. nat_lt 1 (times nat_cmp n (map i_tlid (keeps_rest xs i).of_type_i))
   same_broken (NameTwice n) = λ i. nat_lt 1 (times nat_cmp n (map five_feat (keeps_rest xs i).of_type_5))
-  same_broken (NameUnknown n y) = λ i. stands_in nat_cmp y (named_same n i) && not
-      (stands_in nat_cmp y (map five_feat (keeps_rest xs i).of_type_5))
+  same_broken (NameUnknown n y) = λ i. contains nat_cmp y (named_same n i) && not
+      (contains nat_cmp y (map five_feat (keeps_rest xs i).of_type_5))
   same_broken (PolygonTwice c k) = λ i. nat_lt 1 (times key_cmp (c, k) (map p_key (keeps_rest xs i).of_type_p))
   same_broken (LandUnknown n) = λ i.
-      stands_in nat_cmp n (map eight_land (keeps_rest xs i).of_type_8) && not
-      (stands_in nat_cmp n (map seven_land (keeps_rest xs i).of_type_7))
+      contains nat_cmp n (map eight_land (keeps_rest xs i).of_type_8) && not
+      (contains nat_cmp n (map seven_land (keeps_rest xs i).of_type_7))
   same_broken (PolygonUnknown c k) = λ i.
-      stands_in key_cmp (c, k) (map link_key (keeps_rest xs i).of_type_8) && not
-      (stands_in key_cmp (c, k) (flat_map side_keys (keeps_rest xs i).of_type_i ++ map p_key (keeps_rest xs i).of_type_p))
+      contains key_cmp (c, k) (map link_key (keeps_rest xs i).of_type_8) && not
+      (contains key_cmp (c, k) (flat_map side_keys (keeps_rest xs i).of_type_i ++ map p_key (keeps_rest xs i).of_type_p))
   same_broken Memory = refl
 
   pub resequenced-linked : IsLinked xs → IsLinked (map (resequenced q) xs)

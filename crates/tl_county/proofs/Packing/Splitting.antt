@@ -4,7 +4,7 @@ use Rattle.tl_county.proofs.Common.{List, NameUnknown, NoChain, Ordering, Record
 use Rattle.tl_county.proofs.Common.{arith, chain_tlids, common_steps, cond, county_of, eqb-true, false, false≢true, flat_map, four_rtsq}
 use Rattle.tl_county.proofs.Common.{four_tlid, greater, has_repeat, in_order, inl, inr, is_eq, is_gt, is_rule_broken, less, lt-ltb, map}
 use Rattle.tl_county.proofs.Common.{nat_cmp, nat_keys, not, of_number, of_type_2, of_type_4, of_type_5, on, put_in_order, refl, rules}
-use Rattle.tl_county.proofs.Common.{stands_in, subst, sym, times-no, true, two_rtsq, two_tlid, ℕ, ◌&&◌, ◌++◌, ◌<◌, ◌==◌, ◌∙◌, ◌∷◌, ◌≡◌, ◌⊎◌}
+use Rattle.tl_county.proofs.Common.{contains, subst, sym, times-no, true, two_rtsq, two_tlid, ℕ, ◌&&◌, ◌++◌, ◌<◌, ◌==◌, ◌∙◌, ◌∷◌, ◌≡◌, ◌⊎◌}
 use Rattle.tl_county.proofs.Packing.Repacking.{AreRepacked, repacked-county}
 use Rattle.tl_county.proofs.Sameness.SameCounty.{reordered-county, reordered-linked}
 use Rattle.tl_county.specs.Repacked.{AreCut, IsCut, IsEmpty, IsSplit, LeavesEmptyOut}
@@ -25,8 +25,8 @@ falls : (m n : ℕ) → n < m → is_gt (nat_cmp m n) ≡ true
 falls m n h = ap is_gt (greater m n h)
 
 -- a key that is in the list twice is in the list
-stands-twice : (n k : ℕ) (ks : List ℕ) → stands_in nat_cmp n (k ∷ ks) ≡ stands_in nat_cmp n (k ∷ k ∷ ks)
-stands-twice n k ks = search (rules, lt-ltb)
+contains-twice : (n k : ℕ) (ks : List ℕ) → contains nat_cmp n (k ∷ ks) ≡ contains nat_cmp n (k ∷ k ∷ ks)
+contains-twice n k ks = search (rules, lt-ltb)
 
 module _ {X Y : Type 0} (tlid rtsq : X → ℕ) (held : X → List Y) where
   abbrev pub by_rtsq : X → X → Ordering
@@ -77,14 +77,14 @@ module _ {X Y : Type 0} (tlid rtsq : X → ℕ) (held : X → List Y) where
     pub held-cut : (n : ℕ) → flat_map held (of_number tlid n (whole ∷ others)) ≡ flat_map held (of_number tlid n (first ∷ second ∷ others))
     held-cut n = of_chain n (λ xs ys. flat_map held xs ≡ flat_map held ys) (λ e. joined_with (flat_map held (of_number tlid n others))) refl
 
-    pub known-cut : (n : ℕ) → stands_in nat_cmp n (map tlid (whole ∷ others)) ≡ stands_in nat_cmp n (map tlid (first ∷ second ∷ others))
-    known-cut n = search (rules, stands-twice)
+    pub known-cut : (n : ℕ) → contains nat_cmp n (map tlid (whole ∷ others)) ≡ contains nat_cmp n (map tlid (first ∷ second ∷ others))
+    known-cut n = search (rules, contains-twice)
 
     differs : (m n : ℕ) → (m < n) ⊎ (n < m) → is_eq (nat_cmp m n) ≡ false
     differs m n (inl h) = ap is_eq (less m n h)
     differs m n (inr h) = ap is_eq (greater m n h)
 
-    absent : (xs : List X) → AllByRecursion IsFree xs → stands_in nat_cmp (rtsq second) (map rtsq xs) ≡ false
+    absent : (xs : List X) → AllByRecursion IsFree xs → contains nat_cmp (rtsq second) (map rtsq xs) ≡ false
     absent [] free = refl
     absent (x ∷ xs) free = search (rules, times-no, nat_keys, differs, absent xs free.1)
 
@@ -112,8 +112,8 @@ module _ {X Y : Type 0} (tlid rtsq : X → ℕ) (held : X → List Y) where
   -- leaving out a record: there are fewer numbers, so fewer are unknown or occur twice
   module _ (empty : X) where
     pub unknown-empty : (n : ℕ) (others : List X) (known : Bool)
-        → (stands_in nat_cmp n (map tlid (empty ∷ others)) && not known) ≡ false
-        → (stands_in nat_cmp n (map tlid others) && not known) ≡ false
+        → (contains nat_cmp n (map tlid (empty ∷ others)) && not known) ≡ false
+        → (contains nat_cmp n (map tlid others) && not known) ≡ false
     unknown-empty n others known = search (rules, lt-ltb)
 
     pub repeat-empty : (n : ℕ) (others : List X) → has_repeat nat_cmp (map rtsq (of_number tlid n (empty ∷ others))) ≡ false
@@ -190,7 +190,7 @@ joined-county records split s =
 -- the head of a list left out
 two-left_out : (others : List Record) (empty : Fields2) → IsLinked (Two empty ∷ others) → IsLinked others
 two-left_out others empty linked (NoChain Type2 n) =
-    unknown-empty two_tlid two_rtsq (λ (r : Fields2). r.points) empty n (of_type_2 others) (stands_in nat_cmp n (chain_tlids others))
+    unknown-empty two_tlid two_rtsq (λ (r : Fields2). r.points) empty n (of_type_2 others) (contains nat_cmp n (chain_tlids others))
     (linked (NoChain Type2 n))
 two-left_out others empty linked (SequenceBroken sequenced_types.Two n) =
     repeat-empty two_tlid two_rtsq (λ (r : Fields2). r.points) empty n (of_type_2 others) (linked (SequenceBroken sequenced_types.Two n))
@@ -198,12 +198,12 @@ two-left_out others empty linked fault = linked fault
 
 four-left_out : (others : List Record) (empty : Fields4) → empty.feats ≡ [] → IsLinked (Four empty ∷ others) → IsLinked others
 four-left_out others empty none linked (NoChain Type4 n) =
-    unknown-empty four_tlid four_rtsq (λ (r : Fields4). r.feats) empty n (of_type_4 others) (stands_in nat_cmp n (chain_tlids others))
+    unknown-empty four_tlid four_rtsq (λ (r : Fields4). r.feats) empty n (of_type_4 others) (contains nat_cmp n (chain_tlids others))
     (linked (NoChain Type4 n))
 four-left_out others empty none linked (SequenceBroken sequenced_types.Four n) =
     repeat-empty four_tlid four_rtsq (λ (r : Fields4). r.feats) empty n (of_type_4 others) (linked (SequenceBroken sequenced_types.Four n))
 four-left_out others empty none linked (NameUnknown n y) =
-    ap (λ feats. stands_in nat_cmp y feats && not (stands_in nat_cmp y (map (λ r. r.feat) (of_type_5 others))))
+    ap (λ feats. contains nat_cmp y feats && not (contains nat_cmp y (map (λ r. r.feat) (of_type_5 others))))
     (sym (held-empty four_tlid four_rtsq (λ (r : Fields4). r.feats) empty none n (of_type_4 others)))
     ∙ linked (NameUnknown n y)
 four-left_out others empty none linked fault = linked fault

@@ -5,7 +5,7 @@ use Rattle.tl_county.proofs.Common.{IsPermutation-trans, IsStrictlySortedBy, IsW
 use Rattle.tl_county.proofs.Common.{SameElements, Tables, Typed, [], all_places, ap, arith, by_type, by_type_of, chain_nodes, chains_along}
 use Rattle.tl_county.proofs.Common.{common_steps, county-is_county, county-within_limits, county_along, county_of, distinct, eight_land}
 use Rattle.tl_county.proofs.Common.{entries-equal, entry_keys, entry_values, five_feat, flat_map, flat_map-map, from_permutation, i_tlid}
-use Rattle.tl_county.proofs.Common.{keys-map_values, landmark_of, landmarks_along, length, link_nodes, map, map-map, map_values}
+use Rattle.tl_county.proofs.Common.{keys-map_values, landmark_of, landmarks_along, length, topology_nodes, map, map-map, map_values}
 use Rattle.tl_county.proofs.Common.{most_records, nat_cmp, nodes, of_number-all, one_tlid, refl, rules, seven_land, subst, sym}
 use Rattle.tl_county.proofs.Common.{type_after_type, typed_of, values-map_values, values-zip, zip, ℕ, ◌++◌, ◌∙◌, ◌∷◌, ◌≡◌}
 use Rattle.tl_county.proofs.Rules.LinkedTables.{county-built, feats-strict, side_by_side, tlids-strict}
@@ -21,12 +21,12 @@ length-chains_along twos fours sixes (r ∷ rs) (l ∷ ls) e = let rest : map on
 
 -- the nodes of chains are those of their type I records
 nodes-chains_along : (twos : List Fields2) (fours : List Fields4) (sixes : List Fields6) (rs : List Fields1) (ls : List FieldsI)
-    → map one_tlid rs ≡ map i_tlid ls → flat_map chain_nodes (chains_along twos fours sixes rs ls) ≡ flat_map link_nodes ls
+    → map one_tlid rs ≡ map i_tlid ls → flat_map chain_nodes (chains_along twos fours sixes rs ls) ≡ flat_map topology_nodes ls
 nodes-chains_along twos fours sixes [] [] e = refl
 nodes-chains_along twos fours sixes [] (l ∷ ls) e = cc
 nodes-chains_along twos fours sixes (r ∷ rs) [] e = cc
 nodes-chains_along twos fours sixes (r ∷ rs) (l ∷ ls) e = let rest : map one_tlid rs ≡ map i_tlid ls = cc in
-    ap (λ n. link_nodes l ++ n) (nodes-chains_along twos fours sixes rs ls rest)
+    ap (λ n. topology_nodes l ++ n) (nodes-chains_along twos fours sixes rs ls rest)
 
 module _ (t : Typed) (order : AreInOrder t) where
   module _ (linked : IsLinked (type_after_type t)) where
@@ -42,7 +42,7 @@ module _ (t : Typed) (order : AreInOrder t) where
     pub beside : map one_tlid t.of_type_1 ≡ map i_tlid t.of_type_i
     beside = search (rules, common_steps, by_type_of, side_by_side, ordered)
 
-    pub nodes-built : nodes (county_along t) ≡ distinct nat_cmp (flat_map link_nodes t.of_type_i)
+    pub nodes-built : nodes (county_along t) ≡ distinct nat_cmp (flat_map topology_nodes t.of_type_i)
     nodes-built =
         let chains = chains_along t.of_type_2 t.of_type_4 t.of_type_6 t.of_type_1 t.of_type_i in
         ap (distinct nat_cmp) (sym (flat_map-map chain_nodes (λ (e : ℕ × Chain). e.1) (zip (map one_tlid t.of_type_1) chains))

@@ -3,7 +3,7 @@ use Rattle.tl_county.proofs.Common.{AllByRecursion, Bool, Coordinates, Equal, Fi
 use Rattle.tl_county.proofs.Common.{Option, Ordering, Some, [], all_known, all_weaker, ap, arith, before_all, bytes_cmp, cond, dedup}
 use Rattle.tl_county.proofs.Common.{dedup_from, distinct, false, false≢true, first_least, inl, inr, is_eq, is_gt, known_from_distinct}
 use Rattle.tl_county.proofs.Common.{landmark_cmp, less_from, lt-ltb, nat_cmp, nat_lt, optional_point_cmp, ordering_then, point_cmp}
-use Rattle.tl_county.proofs.Common.{put_in_order, refl, rules, same-itself, same_or_not, stands_in, subst, sym, times, times-cons}
+use Rattle.tl_county.proofs.Common.{put_in_order, refl, rules, same-itself, same_or_not, contains, subst, sym, times, times-cons}
 use Rattle.tl_county.proofs.Common.{times-yes, true, ◌∙◌, ◌∷◌, ◌≡◌, ◌⊎◌}
 
 module _ {K : Type 0} {cmp : K → K → Ordering} (o : IsKeyOrder cmp) where
@@ -26,7 +26,7 @@ module _ {K : Type 0} {cmp : K → K → Ordering} (o : IsKeyOrder cmp) where
           at (inr n) = absurd (false≢true (sym n ∙ e))
       go false e same other =
           let less : cmp k j ≡ Less = less_from o (cmp k j) h.0.0 (apart (same_or_not o k j)) in
-          let none : stands_in cmp k (j ∷ ks) ≡ false = ap (nat_lt 0) (before_all o k j ks h.1 less) in
+          let none : contains cmp k (j ∷ ks) ≡ false = ap (nat_lt 0) (before_all o k j ks h.1 less) in
           ap (λ l. k ∷ l) other
           ∙ sym (front (distinct cmp (j ∷ ks)) (all_known o (λ i. is_gt (cmp k i) ≡ false) (distinct cmp (j ∷ ks))
           (λ i m. first_least o k (j ∷ ks) h i (omega (arith, times-cons o i k (j ∷ ks), known_from_distinct o (j ∷ ks) i m)))))

@@ -5,7 +5,7 @@ use Rattle.tl_county.proofs.Common.{AreInOrder, Record, all_weaker, chain_with, 
 use Rattle.tl_county.proofs.Common.{Equal, Fields7, Fields8, FieldsI, NoChain, [], by_type, eq-eqb, filter, i_tlid, lt-ltb, nat_cmp, needed}
 use Rattle.tl_county.proofs.Common.{I, Known, arith, cond, false, inr, is_eq, is_gt, is_lt, map, not, refl, rules, subst, times, true, ◌++◌}
 use Rattle.tl_county.proofs.Common.{IsInOrder, LinkTwice, NameTwice, among-map, chains_of, county_of, five_feat, four_tlid, inl, seven_land}
-use Rattle.tl_county.proofs.Common.{IsLinked, Ordering, chain_of, distinct, flat_map, in_order, of_type_8, of_type_i, stands_in, to_filter}
+use Rattle.tl_county.proofs.Common.{IsLinked, Ordering, chain_of, distinct, flat_map, in_order, of_type_8, of_type_i, contains, to_filter}
 use Rattle.tl_county.proofs.Common.{IsStrictlySortedBy, LandUnknown, distinct-strict, group-and_later, landmark_body_cmp, strict_from_order}
 use Rattle.tl_county.proofs.Common.{LandmarkParts, among_known, known_is_among, landmark_entry, link_part_cmp, nat_cmp_total, of_number-all}
 use Rattle.tl_county.proofs.Common.{Less, apart_chains, chains_along, common_steps, county_along, in_order-map, linked_tlids, ordering_then}
@@ -94,7 +94,7 @@ module _ (records : List Record) (order : AreInOrder (by_type records)) (linked 
       search (rules, one_link, among_known, nat_keys) in omega arith))
       (λ n m. known_is_among nat_keys n (chain_tlids records)
       (ltb-true 0 (times nat_cmp n (chain_tlids records))
-      (needed (stands_in nat_cmp n (linked_tlids I records)) (stands_in nat_cmp n (chain_tlids records)) (linked (NoChain I n))
+      (needed (contains nat_cmp n (linked_tlids I records)) (contains nat_cmp n (chain_tlids records)) (linked (NoChain I n))
       (lt-ltb 0 (times nat_cmp n (linked_tlids I records)) (among_known nat_keys n (linked_tlids I records) m)))))
 
   -- the chain made from its groups
@@ -161,8 +161,8 @@ module _ (records : List Record) (order : AreInOrder (by_type records)) (linked 
       at : (r : Fields8) → Among r (of_type_8 records) → Known nat_cmp lands r.land
       at r m = known-distinct nat_keys (map seven_land (of_type_7 records)) r.land
           (ltb-true 0 (times nat_cmp r.land (map seven_land (of_type_7 records)))
-          (needed (stands_in nat_cmp r.land (map eight_land (of_type_8 records)))
-          (stands_in nat_cmp r.land (map seven_land (of_type_7 records))) (linked (LandUnknown r.land))
+          (needed (contains nat_cmp r.land (map eight_land (of_type_8 records)))
+          (contains nat_cmp r.land (map seven_land (of_type_7 records))) (linked (LandUnknown r.land))
           (lt-ltb 0 (times nat_cmp r.land (map eight_land (of_type_8 records)))
           (among_known nat_keys r.land (map eight_land (of_type_8 records)) (among-map eight_land r (of_type_8 records) m)))))
 

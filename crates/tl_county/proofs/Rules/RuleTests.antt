@@ -9,7 +9,7 @@ use Rattle.tl_county.proofs.Common.{Less, NameTwice, and_parts, bytes_cmp, five_
 use Rattle.tl_county.proofs.Common.{LinkFault, Ordering, is_unknown, is_unnamed, known-here, least-same, rule_place, seven_land, times-cons}
 use Rattle.tl_county.proofs.Common.{None, Some, bit, cond, find, inl, inr, p_key, part, refl, rules, subst, times, true, ◌&&◌, ◌++◌, ◌==◌}
 use Rattle.tl_county.proofs.Common.{[], ap, map, not, sym, ℕ, ◌+◌, ◌<◌, ◌∙◌, ◌∷◌, ◌≡◌, ◌⊎◌}
-use Rattle.tl_county.proofs.Common.{distinct, flat_map, key_keys, link_key, ltb-true, nat_keys, or_cases, side_keys, stands_in, times-yes}
+use Rattle.tl_county.proofs.Common.{distinct, flat_map, key_keys, link_key, ltb-true, nat_keys, or_cases, side_keys, contains, times-yes}
 use Rattle.tl_county.proofs.Rules.RuleOrders.{IsRule, fault_of_rule}
 use Rattle.county_chart.specs.County.{i_tlid, one_tlid}
 use Rattle.county_chart.specs.declared.fault.LinkFault.TheVariants.{ChainTwice, NoChain}
@@ -60,9 +60,9 @@ module _ {X : Type 0} (f g : X → ℕ) where
 
   repeated_in : (ks : List ℕ) → has_repeat nat_cmp ks ≡ true → (m : ℕ) × (1 < times nat_cmp m ks)
   repeated_in [] e = absurd (false≢true e)
-  repeated_in (k ∷ ks) e = go (or_cases (stands_in nat_cmp k ks) (has_repeat nat_cmp ks) e) (repeated_in ks)
+  repeated_in (k ∷ ks) e = go (or_cases (contains nat_cmp k ks) (has_repeat nat_cmp ks) e) (repeated_in ks)
     where
-      go : (stands_in nat_cmp k ks ≡ true) ⊎ (has_repeat nat_cmp ks ≡ true)
+      go : (contains nat_cmp k ks ≡ true) ⊎ (has_repeat nat_cmp ks ≡ true)
           → (has_repeat nat_cmp ks ≡ true → (m : ℕ) × (1 < times nat_cmp m ks)) → (m : ℕ) × (1 < times nat_cmp m (k ∷ ks))
       go (inl s) ih = (
         k,
@@ -141,17 +141,17 @@ times-uses n y (r ∷ rs) =
 
 -- the first use has a FEAT that no name has
 pub unnamed-first : (first : ℕ × ℕ) (later : List (ℕ × ℕ)) (feats : List ℕ) → IsInOrder sequence_cmp (first ∷ later)
-    → stands_in nat_cmp first.1 feats ≡ false → IsLeastPassing sequence_cmp (is_unnamed (first ∷ later) feats) (Some first)
+    → contains nat_cmp first.1 feats ≡ false → IsLeastPassing sequence_cmp (is_unnamed (first ∷ later) feats) (Some first)
 unnamed-first first later feats h none = (
   (λ i. lt-ltb 0 (times sequence_cmp first (first ∷ later)) (known-here sequence_keys first later) i && not (none i)),
   λ other t. first_least sequence_keys first later h other
       (ltb-true 0 (times sequence_cmp other (first ∷ later))
-      (and_parts (stands_in sequence_cmp other (first ∷ later)) (not (stands_in nat_cmp other.1 feats)) t).0),
+      (and_parts (contains sequence_cmp other (first ∷ later)) (not (contains nat_cmp other.1 feats)) t).0),
 )
 
 -- the least use without a name is the first one
 pub unnamed-found : (uses : List (ℕ × ℕ)) (feats : List ℕ) → IsInOrder sequence_cmp uses
-    → IsLeastPassing sequence_cmp (is_unnamed uses feats) (find (λ pair. not (stands_in nat_cmp pair.1 feats)) uses)
+    → IsLeastPassing sequence_cmp (is_unnamed uses feats) (find (λ pair. not (contains nat_cmp pair.1 feats)) uses)
 unnamed-found [] feats h = λ pair. refl
 unnamed-found (first ∷ later) feats h = search (rules, unnamed-first, least-same, common_steps, unnamed-found later feats h.1)
 
@@ -236,10 +236,10 @@ module _ (records : List Record) (t : Typed) (e : by_type records ≡ t) where
   pub rule_17 : IsRule sequence_cmp (is_unnamed (flat_map uses_of t.of_type_4) (map five_feat t.of_type_5)) records 11
       (λ pair. NameUnknown pair.0 pair.1)
   rule_17 = record {
-    broken = λ k. ap (λ (u : Typed). stands_in nat_cmp k.1
+    broken = λ k. ap (λ (u : Typed). contains nat_cmp k.1
         (flat_map (λ (r : Fields4). r.feats) (of_number four_tlid k.0 u.of_type_4)) && not
-        (stands_in nat_cmp k.1 (map five_feat u.of_type_5))) e
-        ∙ ap (λ n. nat_lt 0 n && not (stands_in nat_cmp k.1 (map five_feat t.of_type_5))) (sym (times-uses k.0 k.1 t.of_type_4));
+        (contains nat_cmp k.1 (map five_feat u.of_type_5))) e
+        ∙ ap (λ n. nat_lt 0 n && not (contains nat_cmp k.1 (map five_feat t.of_type_5))) (sym (times-uses k.0 k.1 t.of_type_4));
     place = λ k. refl;
     key = λ p. (number p 0, number p 1);
     only = λ p. refl;

@@ -6,7 +6,7 @@ use Rattle.tl_county.proofs.Common.{county_of, distinct, distinct_same, each_fro
 use Rattle.tl_county.proofs.Common.{is_eq, is_some, is_unknown, is_without_chain, key_cmp, key_keys, known-append, known-left, known-right}
 use Rattle.tl_county.proofs.Common.{known_is_among, length, linked_chain, list_any, lt-ltb, ltb-true, map, map-id, nat_lt, needed, not}
 use Rattle.tl_county.proofs.Common.{of_type_1, of_type_i, of_type_p, p_key, polygon_body, polygons_along, refl, rules, same-true, side_keys}
-use Rattle.tl_county.proofs.Common.{stands_alike, stands_in, stands_in-distinct, suc, sym, true, ℕ, ◌&&◌, ◌++◌, ◌||◌, ◌∙◌, ◌∷◌, ◌≡◌}
+use Rattle.tl_county.proofs.Common.{contains_alike, contains, contains-distinct, suc, sym, true, ℕ, ◌&&◌, ◌++◌, ◌||◌, ◌∙◌, ◌∷◌, ◌≡◌}
 
 -- a list has a first element exactly if it isn't empty
 first_there : {X Y : Type 0} (f : X → Y) (xs : List X) → is_some (first (map f xs)) ≡ nat_lt 0 (length xs)
@@ -16,7 +16,7 @@ first_there f (x ∷ xs) = sym (lt-ltb 0 (suc (length xs)) (omega arith))
 -- if keys are listed with their contents, a key has content exactly if it is listed and has content
 content_under : {K V : Type 0} {cmp : K → K → Ordering} (o : IsKeyOrder cmp) (content : K → Option V) (key : K) (keys : List K)
     → list_any (λ (entry : K × Option V). is_eq (cmp key entry.0) && is_some entry.1) (map (λ k. (k, content k)) keys)
-    ≡ (stands_in cmp key keys && is_some (content key))
+    ≡ (contains cmp key keys && is_some (content key))
 content_under o content key [] = refl
 content_under {K} {V} {cmp} o content key (k ∷ keys) = go (is_eq (cmp key k)) refl (content_under o content key keys)
   where
@@ -31,7 +31,7 @@ content_under {K} {V} {cmp} o content key (k ∷ keys) = go (is_eq (cmp key k)) 
     either false true = refl
     either false false = refl
 
-    go : (b : Bool) → is_eq (cmp key k) ≡ b → rest ≡ (stands_in cmp key keys && is_some (content key))
+    go : (b : Bool) → is_eq (cmp key k) ≡ b → rest ≡ (contains cmp key keys && is_some (content key))
         → ((b && is_some (content k)) || rest) ≡ (nat_lt 0 (length (cond b (k ∷ others) others)) && is_some (content key))
     go true e ih = search (rules, same-true, rest, either, lt-ltb, others)
     go false e ih = ih
@@ -46,12 +46,12 @@ module _ {K : Type 0} {cmp : K → K → Ordering} (o : IsKeyOrder cmp) where
   -- if all added keys are known already, they add nothing
   pub distinct-all_known : (known more : List K) → ((k : K) → is_unknown cmp more known k ≡ false)
       → distinct cmp known ≡ distinct cmp (known ++ more)
-  distinct-all_known known more h = search (rules, distinct_same, stands_alike, known-left, known-append, ltb-true, needed, lt-ltb)
+  distinct-all_known known more h = search (rules, distinct_same, contains_alike, known-left, known-append, ltb-true, needed, lt-ltb)
 
   -- a key that is unknown among the keys in order is unknown among the keys
   pub unknown-distinct : (asked known ordered : List K) → ordered ≡ distinct cmp known → (k : K)
       → is_unknown cmp asked (map (λ j. j) ordered) k ≡ is_unknown cmp asked known k
-  unknown-distinct asked known ordered e k = search (rules, map-id, stands_in-distinct)
+  unknown-distinct asked known ordered e k = search (rules, map-id, contains-distinct)
 
 module _ (records : List Record) (linked : IsLinked records) where
   abbrev on_sides : List PolygonKey
@@ -81,25 +81,25 @@ module _ (records : List Record) (linked : IsLinked records) where
       each r link n m = search (rules, each_from, among_known, key_keys, among-pieces)
 
   -- a polygon is on a side in a type I record exactly if it is on a side of a chain
-  same_sides : (key : PolygonKey) → stands_in key_cmp key on_sides ≡ stands_in key_cmp key along
-  same_sides key = stands_alike key_keys on_sides along key (side_along key) (along_side key)
+  same_sides : (key : PolygonKey) → contains key_cmp key on_sides ≡ contains key_cmp key along
+  same_sides key = contains_alike key_keys on_sides along key (side_along key) (along_side key)
 
   -- it has a type P record exactly if the county has content for it
-  same_body : (key : PolygonKey) → stands_in key_cmp key (map p_key (of_type_p records)) ≡ has_body (county_of records) key
+  same_body : (key : PolygonKey) → contains key_cmp key (map p_key (of_type_p records)) ≡ has_body (county_of records) key
   same_body key =
-      let there : stands_in key_cmp key (map p_key (of_type_p records)) ≡ is_some (polygon_body records key) =
+      let there : contains key_cmp key (map p_key (of_type_p records)) ≡ is_some (polygon_body records key) =
       search (rules, count-map, first_there) in
       sym
       (content_under key_keys (polygon_body records) key (distinct key_cmp (on_sides ++ map p_key (of_type_p records)))
       ∙ ap (λ b. b && is_some (polygon_body records key))
-      (stands_in-distinct key_keys key (on_sides ++ map p_key (of_type_p records)))
-      ∙ within (stands_in key_cmp key (map p_key (of_type_p records))) refl (is_some (polygon_body records key)) there
+      (contains-distinct key_keys key (on_sides ++ map p_key (of_type_p records)))
+      ∙ within (contains key_cmp key (map p_key (of_type_p records))) refl (is_some (polygon_body records key)) there
       ∙ sym there)
     where
-      within : (b : Bool) → stands_in key_cmp key (map p_key (of_type_p records)) ≡ b → (c : Bool) → b ≡ c
-          → (stands_in key_cmp key (on_sides ++ map p_key (of_type_p records)) && c) ≡ c
+      within : (b : Bool) → contains key_cmp key (map p_key (of_type_p records)) ≡ b → (c : Bool) → b ≡ c
+          → (contains key_cmp key (on_sides ++ map p_key (of_type_p records)) && c) ≡ c
       within true e true d = search (rules, lt-ltb, known-right, key_keys, ltb-true)
-      within b e false d = never (stands_in key_cmp key (on_sides ++ map p_key (of_type_p records)))
+      within b e false d = never (contains key_cmp key (on_sides ++ map p_key (of_type_p records)))
         where
           never : (a : Bool) → (a && false) ≡ false
           never true = refl

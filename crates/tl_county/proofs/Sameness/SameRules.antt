@@ -2,14 +2,14 @@
 use Rattle.tl_county.proofs.Common.{Among, FieldsP, Memory, NoChain, Record, as_type, i_tlid, key_cmp, nat_cmp, of_type, two_rtsq, two_tlid}
 use Rattle.tl_county.proofs.Common.{Bool, LinkFault, LinkTwice, NameTwice, among-map, five_feat, four_rtsq, four_tlid, of_number, of_type_2}
 use Rattle.tl_county.proofs.Common.{ChainTwice, LinkedType, PolygonKey, among_known, ap, chain_tlids, known-right, named_feats, same-filter}
-use Rattle.tl_county.proofs.Common.{Fields4, NameUnknown, among-pieces, among-unmap, known-append, linked_tlids, pieces_alike, stands_alike}
+use Rattle.tl_county.proofs.Common.{Fields4, NameUnknown, among-pieces, among-unmap, known-append, linked_tlids, pieces_alike, contains_alike}
 use Rattle.tl_county.proofs.Common.{FieldsI, RecordType, apart-same, eight_land, false≢true, has_repeat, known-left, seven_land, times-same}
 use Rattle.tl_county.proofs.Common.{FieldsOf, IsLinked, ap₂, flat_map, key_keys, link_key, nat_keys, one_tlid, same-map, six_rtsq, six_tlid}
 use Rattle.tl_county.proofs.Common.{I, inl, inr, map, not, subst, sym, true, ℕ, ◌&&◌, ◌++◌, ◌==◌, ◌∙◌, ◌≡◌, ◌⊎◌}
 use Rattle.tl_county.proofs.Common.{IsFirstBrokenRule, LandUnknown, PolygonUnknown, apart_from_no_repeat, has_repeat-apart, same-filter_map}
 use Rattle.tl_county.proofs.Common.{Known, Type1, Type2, Type4, Type5, Type6, Type7, Type8, TypeI, TypeP, false, nat_lt, p_key, refl, rtsqs}
 use Rattle.tl_county.proofs.Common.{LinkMissing, PolygonTwice, SameElements, SequenceBroken, among-unpieces, is_rule_broken, known_is_among}
-use Rattle.tl_county.proofs.Common.{List, of_type_4, of_type_5, of_type_6, of_type_7, of_type_8, of_type_i, of_type_p, side_keys, stands_in}
+use Rattle.tl_county.proofs.Common.{List, of_type_4, of_type_5, of_type_6, of_type_7, of_type_8, of_type_i, of_type_p, side_keys, contains}
 use Rattle.county_chart.specs.declared.fault.LinkedType.TheVariants.{Four, Six, Two}
 use Rattle.county_chart.specs.declared.fault.SequencedType.TheVariants as sequenced
 
@@ -51,7 +51,7 @@ module _ (xs ys : List Record) (s : SameElements xs ys) where
   s_fours_of n = same-filter (λ r. r.tlid == n) (of_type_4 xs) (of_type_4 ys) (same_of_type Type4)
 
   -- the FEATs that a chain names
-  named_alike : (n y : ℕ) → stands_in nat_cmp y (named_feats n xs) ≡ stands_in nat_cmp y (named_feats n ys)
+  named_alike : (n y : ℕ) → contains nat_cmp y (named_feats n xs) ≡ contains nat_cmp y (named_feats n ys)
   named_alike n y = pieces_alike nat_keys (λ (q : Fields4). q.feats) (of_number four_tlid n (of_type_4 xs))
       (of_number four_tlid n (of_type_4 ys)) (s_fours_of n) y
 
@@ -72,9 +72,9 @@ module _ (xs ys : List Record) (s : SameElements xs ys) where
           (subst (Known key_cmp (map p_key (of_type_p ws))) (sym r.2)
           (among_known key_keys (p_key r.0) (map p_key (of_type_p ws)) (among-map p_key r.0 (of_type_p ws) (polygons r.0 r.1))))
 
-  pub keys_alike : (k : PolygonKey) → stands_in key_cmp k (flat_map side_keys (of_type_i xs) ++ map p_key (of_type_p xs)) ≡ stands_in key_cmp k
+  pub keys_alike : (k : PolygonKey) → contains key_cmp k (flat_map side_keys (of_type_i xs) ++ map p_key (of_type_p xs)) ≡ contains key_cmp k
       (flat_map side_keys (of_type_i ys) ++ map p_key (of_type_p ys))
-  keys_alike k = stands_alike key_keys (flat_map side_keys (of_type_i xs) ++ map p_key (of_type_p xs))
+  keys_alike k = contains_alike key_keys (flat_map side_keys (of_type_i xs) ++ map p_key (of_type_p xs))
       (flat_map side_keys (of_type_i ys) ++ map p_key (of_type_p ys)) k
       (one_way xs ys (same_of_type TypeI).there (same_of_type TypeP).there k) (one_way ys xs (same_of_type TypeI).back (same_of_type TypeP).back k)
 

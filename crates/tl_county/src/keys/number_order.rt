@@ -18,7 +18,7 @@ pub(crate) struct NumberOrder {
     pub(crate) places: Vec<u64>,
 }
 
-fn number_at(numbers: &[u64], place: u64) -> Option<u64>
+fn number_there(numbers: &[u64], place: u64) -> Option<u64>
     ensures { result ≡ slice_get numbers.now place }
 {
     numbers.get(place as usize).copied()
@@ -28,7 +28,11 @@ fn numbers_at(alloc: Global, numbers: &[u64], places: &[u64]) -> Result<Vec<u64>
     ensures { IfOk result (λ found. found.items ≡ at_places numbers.now places.now) }
 {
     let mut found = Vec::with_capacity(alloc, places.len())?;
-    found.extend(places.iter().filter_map(|place| number_at(numbers, *place)))?;
+    found.extend(
+        places
+            .iter()
+            .filter_map(|place| number_there(numbers, *place)),
+    )?;
     Ok(found)
 }
 
@@ -37,7 +41,7 @@ fn sort_places(numbers: &[u64], places: &mut Vec<u64>) -> Result<(), AllocError>
     ensures permutation { IsPermutation places.old.items places.new.items }
     ensures in_order { OnOk result (IsInOrder (on (λ place. get_or numbers.now place 0) nat_cmp) places.new.items) }
 {
-    places.sort_by_cached_key(|place| number_at(numbers, *place).unwrap_or(0))
+    places.sort_by_cached_key(|place| number_there(numbers, *place).unwrap_or(0))
 }
 
 /// The order of numbers that aren't in order.

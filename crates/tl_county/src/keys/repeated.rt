@@ -4,7 +4,7 @@ ghost use Rattle.std.specs.Ordering.{on};
 ghost use Rattle.std.specs.Prelude.{IfOk, IsPermutation, None, OnOk, map, true, ◌≡◌};
 ghost use Rattle.ordered_lists.specs.{Keyed.IsLeastPassing, Keyed.is_repeated, Orders.IsInOrder};
 
-use county_chart::{Keyed, put_in_order};
+use county_chart::{Keyed, sort_by_keys};
 use ordered_lists::Key;
 use std::alloc::{AllocError, Global};
 
@@ -45,7 +45,7 @@ pub(crate) fn put_in_order_with_repeated<K: Key, T: Keyed<K>>(
     if are_ascending::<K, T>(items) {
         return Ok(None);
     }
-    put_in_order::<K, T>(items)?;
+    sort_by_keys::<K, T>(items)?;
     Ok(least_repeated::<K, T>(items))
 }
 

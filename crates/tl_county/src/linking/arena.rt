@@ -9,8 +9,8 @@ use crate::linking::building::{
     ChainBuilder, LandmarkBuilder, OneChain, join_bodies, join_feats, join_points, join_ranges,
     name_bodies, surroundings_of,
 };
-use crate::linking::chain_heads::ChainHead;
 use crate::linking::chain_over::ChainOver;
+use crate::linking::chain_records::ChainBasics;
 use bumpalo::Bump;
 use county_chart::{LandmarkIn, NameIn};
 use std::alloc::{AllocError, Global};
@@ -62,18 +62,18 @@ impl<'a> InArena<'a> {
     /// The points of a chain, from its records of types 1 and 2.
     fn keep_points(
         &mut self,
-        head: &ChainHead<'_>,
+        basics: &ChainBasics<'_>,
         shape: &[Rec2],
     ) -> Result<&'a [Point], AllocError>
-        ensures { IfOk result (λ points. points.now ≡ head.now.start ∷ (flat_map (λ (r : Fields2). r.points) shape.now ++ (head.now.end ∷ []))) }
+        ensures { IfOk result (λ points. points.now ≡ basics.now.start ∷ (flat_map (λ (r : Fields2). r.points) shape.now ++ (basics.now.end ∷ []))) }
     {
         if shape.is_empty() {
-            return keep(self.arena, &[head.start(), head.end()]);
+            return keep(self.arena, &[basics.start(), basics.end()]);
         }
         self.points.clear();
-        self.points.push(head.start())?;
+        self.points.push(basics.start())?;
         join_points(&mut self.points, shape)?;
-        self.points.push(head.end())?;
+        self.points.push(basics.end())?;
         keep(self.arena, &self.points)
     }
 
@@ -107,13 +107,13 @@ impl<'a> InArena<'a> {
         &mut self,
         records: &OneChain<'t, 'h, 'r>,
     ) -> Result<ChainLists<'a>, AllocError>
-        ensures points { IfOk result (λ lists. lists.points.now ≡ records.now.head.now.start ∷
-            (flat_map (λ (r : Fields2). r.points) records.now.shape.now ++ (records.now.head.now.end ∷ []))) }
+        ensures points { IfOk result (λ lists. lists.points.now ≡ records.now.basics.now.start ∷
+            (flat_map (λ (r : Fields2). r.points) records.now.shape.now ++ (records.now.basics.now.end ∷ []))) }
         ensures feats { IfOk result (λ lists. lists.feats.now ≡ flat_map (λ (r : Fields4). r.feats) records.now.names.now) }
         ensures numbers { IfOk result (λ lists. AllByRecursion (IsNumber 8) lists.feats.now) }
         ensures ranges { IfOk result (λ lists. lists.ranges.now ≡ map (λ (r : Fields6). r.ranges) records.now.ranges.now) }
     {
-        let points = self.keep_points(records.head, records.shape)?;
+        let points = self.keep_points(records.basics, records.shape)?;
         let feats = self.keep_feats(records.names)?;
         let ranges = self.keep_ranges(records.ranges)?;
         Ok(ChainLists {
@@ -130,13 +130,13 @@ impl<'t, 'a> ChainBuilder<'t, ChainIn<'a>> for InArena<'a> {
         records: &OneChain<'t, 'h, 'r>,
     ) -> Result<ChainIn<'a>, AllocError> {
         let lists = self.join_lists(records)?;
-        let around = surroundings_of(records.link);
+        let around = surroundings_of(records.topology);
         Ok(ChainIn::new(
-            *records.head.record().body(),
+            *records.basics.record().body(),
             lists.points,
             lists.feats,
             lists.ranges,
-            *records.link.body(),
+            *records.topology.body(),
             around,
         ))
     }
@@ -149,8 +149,8 @@ impl<'a> ChainBuilder<'a, ChainOver<'a>> for InArena<'a> {
     ) -> Result<ChainOver<'a>, AllocError> {
         let lists = self.join_lists(records)?;
         Ok(ChainOver::new(
-            records.head.record(),
-            records.link,
+            records.basics.record(),
+            records.topology,
             lists.points,
             lists.feats,
             lists.ranges,

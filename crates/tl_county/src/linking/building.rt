@@ -2,7 +2,7 @@
 
 ghost use Rattle.std.specs.Prelude.{IfOk, OnOk, Some, [], filter, flat_map, map, option_to_list, ◌++◌, ◌∷◌, ◌≡◌};
 ghost use Rattle.std.specs.{List.AllByRecursion, List.Sorted.IsStrictlySortedBy, Ordering.is_gt, Ordering.nat_cmp, Ordering.on};
-ghost use Rattle.tl_county.specs.Building.{chain_with, chains_along, landmark_of, link_nodes, polygon_body_of};
+ghost use Rattle.tl_county.specs.Building.{chain_with, chains_along, landmark_of, topology_nodes, polygon_body_of};
 ghost use Rattle.county_chart.specs.County.{eight_land, first, four_tlid, one_tlid, p_key, seven_land, six_tlid, two_tlid};
 ghost use Rattle.county_chart.specs.PolygonKeys.{key_cmp};
 ghost use Rattle.ordered_lists.specs.Orders.{IsInOrder, distinct};
@@ -11,7 +11,7 @@ ghost use Rattle.tl_layout.specs.{ByType.of_number, Numbers.IsNumber, Numbers.Is
 
 use crate::keys::absent::have_same_keys;
 use crate::keys::repeated::keys_of;
-use crate::linking::chain_heads::{ChainHead, ChainLink};
+use crate::linking::chain_records::{ChainBasics, ChainTopology};
 use county_chart::{PolygonKey, StoredChain, StoredLandmark, split_group};
 use ordered_lists::NumberSet;
 use std::alloc::{AllocError, Global};
@@ -110,29 +110,29 @@ pub(crate) fn join_bodies(bodies: &mut Vec<Body7>, records: &[Rec7]) -> Result<(
 }
 
 /// The nodes and the sides of a record of type I.
-pub(crate) fn surroundings_of(link: &RecI) -> Surroundings
-    ensures start_node { result.start_node ≡ link.now.start_node }
-    ensures end_node { result.end_node ≡ link.now.end_node }
-    ensures left { result.left ≡ link.now.left }
-    ensures right { result.right ≡ link.now.right }
+pub(crate) fn surroundings_of(topology: &RecI) -> Surroundings
+    ensures start_node { result.start_node ≡ topology.now.start_node }
+    ensures end_node { result.end_node ≡ topology.now.end_node }
+    ensures left { result.left ≡ topology.now.left }
+    ensures right { result.right ≡ topology.now.right }
     ensures in_range { IsNumberOrNone 10 result.start_node × IsNumberOrNone 10 result.end_node }
 {
     Surroundings {
-        start_node: link.start_node(),
-        end_node: link.end_node(),
-        left: *link.left(),
-        right: *link.right(),
+        start_node: topology.start_node(),
+        end_node: topology.end_node(),
+        left: *topology.left(),
+        right: *topology.right(),
     }
 }
 
 /// The records of a chain: those of types 1 and I, which live for `'t`, and those of types 2, 4 and 6 in the order of their RTSQs.
 #[derive(Drop)]
 pub(crate) struct OneChain<'t, 'h, 'r> {
-    pub(crate) head: &'h ChainHead<'t>,
+    pub(crate) basics: &'h ChainBasics<'t>,
     pub(crate) shape: &'r [Rec2],
     pub(crate) names: &'r [Rec4],
     pub(crate) ranges: &'r [Rec6],
-    pub(crate) link: &'t RecI,
+    pub(crate) topology: &'t RecI,
 }
 
 /// Builds the chains of a county in the way that it stores them. The chains may borrow the records of types 1 and I, which live for
@@ -140,7 +140,7 @@ pub(crate) struct OneChain<'t, 'h, 'r> {
 pub(crate) trait ChainBuilder<'t, C: StoredChain> {
     /// The chain made from its records.
     fn build_chain<'h, 'r>(&mut self, records: &OneChain<'t, 'h, 'r>) -> Result<C, AllocError>
-        ensures { IfOk result (λ built. C.chain built ≡ chain_with records.now.head.now records.now.link.now records.now.shape.now
+        ensures { IfOk result (λ built. C.chain built ≡ chain_with records.now.basics.now records.now.topology.now records.now.shape.now
             records.now.names.now records.now.ranges.now) };
 }
 
@@ -157,22 +157,22 @@ struct Details<'r> {
 fn push_chain<'t, 'h, 'r, C: StoredChain, B: ChainBuilder<'t, C>>(
     chains: &mut Vec<C>,
     builder: &mut B,
-    head: &'h ChainHead<'t>,
-    link: &'t RecI,
+    basics: &'h ChainBasics<'t>,
+    topology: &'t RecI,
     details: &mut Details<'r>,
 ) -> Result<(), AllocError>
     requires shapes { IsInOrder (on two_tlid nat_cmp) details.old.shapes.now }
     requires names { IsInOrder (on four_tlid nat_cmp) details.old.names.now }
     requires ranges { IsInOrder (on six_tlid nat_cmp) details.old.ranges.now }
-    ensures chains { OnOk result (map C.chain chains.new.items ≡ map C.chain chains.old.items ++ (chain_with head.now link.now
-        (of_number two_tlid head.now.tlid details.old.shapes.now)
-        (of_number four_tlid head.now.tlid details.old.names.now)
-        (of_number six_tlid head.now.tlid details.old.ranges.now) ∷ [])) }
-    ensures shapes { OnOk result (details.new.shapes.now ≡ filter (λ r. is_gt (nat_cmp (two_tlid r) head.now.tlid)) details.old.shapes.now) }
-    ensures names { OnOk result (details.new.names.now ≡ filter (λ r. is_gt (nat_cmp (four_tlid r) head.now.tlid)) details.old.names.now) }
-    ensures ranges { OnOk result (details.new.ranges.now ≡ filter (λ r. is_gt (nat_cmp (six_tlid r) head.now.tlid)) details.old.ranges.now) }
+    ensures chains { OnOk result (map C.chain chains.new.items ≡ map C.chain chains.old.items ++ (chain_with basics.now topology.now
+        (of_number two_tlid basics.now.tlid details.old.shapes.now)
+        (of_number four_tlid basics.now.tlid details.old.names.now)
+        (of_number six_tlid basics.now.tlid details.old.ranges.now) ∷ [])) }
+    ensures shapes { OnOk result (details.new.shapes.now ≡ filter (λ r. is_gt (nat_cmp (two_tlid r) basics.now.tlid)) details.old.shapes.now) }
+    ensures names { OnOk result (details.new.names.now ≡ filter (λ r. is_gt (nat_cmp (four_tlid r) basics.now.tlid)) details.old.names.now) }
+    ensures ranges { OnOk result (details.new.ranges.now ≡ filter (λ r. is_gt (nat_cmp (six_tlid r) basics.now.tlid)) details.old.ranges.now) }
 {
-    let tlid = head.tlid();
+    let tlid = basics.tlid();
     let (shape, shapes) = split_group::<u64, Rec2>(details.shapes, tlid);
     let (named, names) = split_group::<u64, Rec4>(details.names, tlid);
     let (ranged, ranges) = split_group::<u64, Rec6>(details.ranges, tlid);
@@ -180,11 +180,11 @@ fn push_chain<'t, 'h, 'r, C: StoredChain, B: ChainBuilder<'t, C>>(
     details.names = names;
     details.ranges = ranges;
     let records = OneChain {
-        head,
+        basics,
         shape,
         names: named,
         ranges: ranged,
-        link,
+        topology,
     };
     chains.push(builder.build_chain(&records)?)?;
     Ok(())
@@ -194,27 +194,33 @@ fn push_chain<'t, 'h, 'r, C: StoredChain, B: ChainBuilder<'t, C>>(
 pub(crate) fn chains_of_records<'t, 'r, C: StoredChain, B: ChainBuilder<'t, C>>(
     alloc: Global,
     builder: &mut B,
-    heads: &[ChainHead<'t>],
-    links: &[ChainLink<'t>],
+    all_basics: &[ChainBasics<'t>],
+    topologies: &[ChainTopology<'t>],
     shapes: &'r [Rec2],
     names: &'r [Rec4],
     ranges: &'r [Rec6],
 ) -> Result<Vec<C>, AllocError>
-    requires heads { IsStrictlySortedBy nat_cmp (map one_tlid heads.now) }
+    requires all_basics { IsStrictlySortedBy nat_cmp (map one_tlid all_basics.now) }
     requires shapes { IsInOrder (on two_tlid nat_cmp) shapes.now }
     requires names { IsInOrder (on four_tlid nat_cmp) names.now }
     requires ranges { IsInOrder (on six_tlid nat_cmp) ranges.now }
-    ensures { IfOk result (λ chains. map C.chain chains.items ≡ chains_along shapes.now names.now ranges.now heads.now links.now) }
+    ensures { IfOk result (λ chains. map C.chain chains.items ≡ chains_along shapes.now names.now ranges.now all_basics.now topologies.now) }
 {
-    let mut chains = Vec::with_capacity(alloc, heads.len())?;
+    let mut chains = Vec::with_capacity(alloc, all_basics.len())?;
     let mut details = Details {
         shapes,
         names,
         ranges,
     };
-    for place in 0..heads.len().min(links.len()) {
-        let link = links[place].record();
-        push_chain::<C, B>(&mut chains, builder, &heads[place], link, &mut details)?;
+    for place in 0..all_basics.len().min(topologies.len()) {
+        let topology = topologies[place].record();
+        push_chain::<C, B>(
+            &mut chains,
+            builder,
+            &all_basics[place],
+            topology,
+            &mut details,
+        )?;
     }
     Ok(chains)
 }
@@ -274,13 +280,13 @@ fn insert_node(nodes: &mut NumberSet, node: Option<u64>) -> Result<(), AllocErro
 }
 
 /// The nodes of type I records in order, each once. If nodes are numbered from 1 without gaps, each has a mark.
-pub(crate) fn nodes_of(alloc: Global, links: &[RecI]) -> Result<Vec<u64>, AllocError>
-    ensures { IfOk result (λ nodes. nodes.items ≡ distinct nat_cmp (flat_map link_nodes links.now)) }
+pub(crate) fn nodes_of(alloc: Global, topologies: &[RecI]) -> Result<Vec<u64>, AllocError>
+    ensures { IfOk result (λ nodes. nodes.items ≡ distinct nat_cmp (flat_map topology_nodes topologies.now)) }
 {
-    let mut nodes = NumberSet::new(alloc, 2 * links.len())?;
-    for link in links {
-        insert_node(&mut nodes, link.start_node())?;
-        insert_node(&mut nodes, link.end_node())?;
+    let mut nodes = NumberSet::new(alloc, 2 * topologies.len())?;
+    for topology in topologies {
+        insert_node(&mut nodes, topology.start_node())?;
+        insert_node(&mut nodes, topology.end_node())?;
     }
     nodes.in_order(alloc)
 }

@@ -10,8 +10,8 @@ use tl_layout::{Body1, BodyI, Point, Ranges, Rec1, RecI, Side};
 /// too, for example from an arena.
 #[derive(Drop)]
 pub struct ChainOver<'a> {
-    head: &'a Rec1,
-    link: &'a RecI,
+    basics: &'a Rec1,
+    topology: &'a RecI,
     points: &'a [Point],
     feats: &'a [u32],
     ranges: &'a [Ranges],
@@ -23,42 +23,42 @@ impl<'a> Model for ChainOver<'a> {
     ghost Value = { Chain };
 
     ghost view = { λ c. record {
-      body = c.head.now.body;
+      body = c.basics.now.body;
       points = c.points.now;
       feats = c.feats.now;
       ranges = c.ranges.now;
-      topology = c.link.now.body;
-      start_node = c.link.now.start_node;
-      end_node = c.link.now.end_node;
-      left = c.link.now.left;
-      right = c.link.now.right;
+      topology = c.topology.now.body;
+      start_node = c.topology.now.start_node;
+      end_node = c.topology.now.end_node;
+      left = c.topology.now.left;
+      right = c.topology.now.right;
     } };
 }
 
 impl<'a> ChainOver<'a> {
     /// The chain of a type 1 record and a type I record, with all of its points, its FEATs and its further address ranges.
     pub(crate) fn new(
-        head: &'a Rec1,
-        link: &'a RecI,
+        basics: &'a Rec1,
+        topology: &'a RecI,
         points: &'a [Point],
         feats: &'a [u32],
         ranges: &'a [Ranges],
     ) -> ChainOver<'a>
         ensures { result ≡ record {
-          body = head.now.body;
+          body = basics.now.body;
           points = points.now;
           feats = feats.now;
           ranges = ranges.now;
-          topology = link.now.body;
-          start_node = link.now.start_node;
-          end_node = link.now.end_node;
-          left = link.now.left;
-          right = link.now.right;
+          topology = topology.now.body;
+          start_node = topology.now.start_node;
+          end_node = topology.now.end_node;
+          left = topology.now.left;
+          right = topology.now.right;
         } }
     {
         ChainOver {
-            head,
-            link,
+            basics,
+            topology,
             points,
             feats,
             ranges,
@@ -70,7 +70,7 @@ impl<'a> StoredChain for ChainOver<'a> {
     ghost chain = { λ c. c };
 
     fn body(&self) -> &Body1 {
-        self.head.body()
+        self.basics.body()
     }
 
     fn points(&self) -> &[Point] {
@@ -86,23 +86,23 @@ impl<'a> StoredChain for ChainOver<'a> {
     }
 
     fn topology(&self) -> &BodyI {
-        self.link.body()
+        self.topology.body()
     }
 
     fn start_node(&self) -> Option<u64> {
-        self.link.start_node()
+        self.topology.start_node()
     }
 
     fn end_node(&self) -> Option<u64> {
-        self.link.end_node()
+        self.topology.end_node()
     }
 
     fn left(&self) -> &Side {
-        self.link.left()
+        self.topology.left()
     }
 
     fn right(&self) -> &Side {
-        self.link.right()
+        self.topology.right()
     }
 }
 

@@ -143,8 +143,8 @@ pub fn link_in_order(alloc: Global, tables: Tables) -> Result<LinkedRecords, Lin
 {
     let mut tables = OrderedTables {
         records: tables,
-        heads: Vec::new(alloc),
-        links: Vec::new(alloc),
+        all_basics: Vec::new(alloc),
+        topologies: Vec::new(alloc),
     };
     let gathered = sort_and_check(alloc, &mut tables)?;
     let tlids = gathered.tlids;

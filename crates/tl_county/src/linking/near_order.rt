@@ -9,25 +9,25 @@ use ordered_lists::{Key, bring_close};
 use std::alloc::AllocError;
 
 /// A key with a number. Greater keys mostly have greater numbers.
-pub(crate) trait Numbered {
+pub(crate) trait KeyAsNumber {
     fn number(&self) -> u64;
 }
 
 /// TLID, and below it RTSQ, which takes 10 bits.
-impl Numbered for (u64, u16) {
+impl KeyAsNumber for (u64, u16) {
     fn number(&self) -> u64 {
         self.0.wrapping_shl(10) | u64::from(self.1)
     }
 }
 
-impl Numbered for PolygonKey {
+impl KeyAsNumber for PolygonKey {
     fn number(&self) -> u64 {
         polygon_number(*self)
     }
 }
 
 /// Brings the items close to the order of their keys.
-fn bring_close_by_key<K: Key + Numbered, T: Keyed<K> + Copy>(
+fn bring_close_by_key<K: Key + KeyAsNumber, T: Keyed<K> + Copy>(
     items: &mut Vec<T>,
 ) -> Result<(), AllocError>
     ensures { IsPermutation items.old.items items.new.items }
@@ -43,7 +43,7 @@ fn bring_close_by_key<K: Key + Numbered, T: Keyed<K> + Copy>(
 }
 
 /// Puts the items in the order of their keys, and returns the least key that occurs twice.
-pub(crate) fn put_copies_in_order<K: Key + Numbered, T: Keyed<K> + Copy>(
+pub(crate) fn put_copies_in_order<K: Key + KeyAsNumber, T: Keyed<K> + Copy>(
     items: &mut Vec<T>,
 ) -> Result<Option<K>, AllocError>
     ensures permutation { IsPermutation items.old.items items.new.items }

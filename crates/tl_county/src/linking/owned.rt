@@ -7,7 +7,7 @@ use crate::linking::building::{
     ChainBuilder, LandmarkBuilder, OneChain, join_bodies, join_feats, join_points, join_ranges,
     surroundings_of,
 };
-use crate::linking::chain_heads::ChainHead;
+use crate::linking::chain_records::ChainBasics;
 use county_chart::Landmark;
 use std::alloc::{AllocError, Global};
 use tl_layout::{Rec2, Rec7, Rec8};
@@ -20,30 +20,30 @@ pub(crate) struct Owned {
 }
 
 /// The points of a chain, from its records of types 1 and 2.
-fn shape_of(alloc: Global, head: &ChainHead<'_>, shape: &[Rec2]) -> Result<Shape, AllocError>
-    ensures { IfOk result (λ points. points ≡ head.now.start ∷ (flat_map (λ (r : Fields2). r.points) shape.now ++ (head.now.end ∷ []))) }
+fn shape_of(alloc: Global, basics: &ChainBasics<'_>, shape: &[Rec2]) -> Result<Shape, AllocError>
+    ensures { IfOk result (λ points. points ≡ basics.now.start ∷ (flat_map (λ (r : Fields2). r.points) shape.now ++ (basics.now.end ∷ []))) }
 {
     let mut inner = Vec::new(alloc);
     join_points(&mut inner, shape)?;
-    Ok(Shape::new(alloc, head.start(), &inner, head.end())?)
+    Ok(Shape::new(alloc, basics.start(), &inner, basics.end())?)
 }
 
 impl<'t> ChainBuilder<'t, Chain> for Owned {
     fn build_chain<'h, 'r>(&mut self, records: &OneChain<'t, 'h, 'r>) -> Result<Chain, AllocError> {
-        let head = records.head;
-        let link = records.link;
-        let points = shape_of(self.alloc, head, records.shape)?;
+        let basics = records.basics;
+        let topology = records.topology;
+        let points = shape_of(self.alloc, basics, records.shape)?;
         let mut feats = Vec::new(self.alloc);
         join_feats(&mut feats, records.names)?;
         let mut entries = Vec::with_capacity(self.alloc, records.ranges.len())?;
         join_ranges(&mut entries, records.ranges)?;
-        let around = surroundings_of(link);
+        let around = surroundings_of(topology);
         Ok(Chain::new(
-            *head.record().body(),
+            *basics.record().body(),
             points,
             feats,
             entries,
-            *link.body(),
+            *topology.body(),
             around,
         ))
     }

@@ -75,7 +75,7 @@ pub(crate) fn check_sequences(repeated: &Repeated) -> Result<(), LinkFault>
 
 /// Rules 14 and 15: each record of type 1 has its record of type I, and no TLID has two. `tlids` are the TLIDs of the type 1
 /// records, and `linked` those of the type I records.
-pub(crate) fn check_links(
+pub(crate) fn check_topologies(
     tables: &OrderedTables,
     tlids: &[u64],
     linked: &[u64],

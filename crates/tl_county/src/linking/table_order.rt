@@ -16,7 +16,7 @@ ghost use Rattle.tl_county.specs.RepeatedKeys.{AreLeastRepeated};
 use crate::keys::number_order::number_order;
 use crate::keys::repeated::put_in_order_with_repeated;
 use crate::linking::near_order::put_copies_in_order;
-use county_chart::{LandmarkKey, LinkKey, PolygonKey, put_in_order};
+use county_chart::{LandmarkKey, LinkKey, PolygonKey, sort_by_keys};
 use std::alloc::{AllocError, Global};
 use tl_layout::{Rec1, Rec2, Rec4, Rec5, Rec6, Rec7, Rec8, RecI, RecP, Tables};
 
@@ -26,9 +26,9 @@ pub(crate) struct OrderedTables {
     /// The records. Those of all types but 1 and I lie in order.
     pub(crate) records: Tables,
     /// The places of the type 1 records, in the order of their TLIDs.
-    pub(crate) heads: Vec<u64>,
+    pub(crate) all_basics: Vec<u64>,
     /// The places of the type I records, in the order of their TLIDs.
-    pub(crate) links: Vec<u64>,
+    pub(crate) topologies: Vec<u64>,
 }
 
 /// The TLIDs of the records of types 1 and I.
@@ -37,7 +37,7 @@ pub(crate) struct Tlids {
     /// The TLIDs of the type 1 records.
     pub(crate) chains: Vec<u64>,
     /// The TLIDs of the type I records.
-    pub(crate) links: Vec<u64>,
+    pub(crate) topologies: Vec<u64>,
 }
 
 /// The least key of each type that two records have, if any.
@@ -100,26 +100,26 @@ fn order_named(
     ensures landmarks { OnOk result (IsPutInOrder landmark_cmp landmarks.old.items landmarks.new.items) }
     ensures links { OnOk result (IsPutInOrder link_cmp links.old.items links.new.items) }
 {
-    put_in_order::<u32, Rec5>(names)?;
-    put_in_order::<LandmarkKey, Rec7>(landmarks)?;
-    put_in_order::<LinkKey, Rec8>(links)
+    sort_by_keys::<u32, Rec5>(names)?;
+    sort_by_keys::<LandmarkKey, Rec7>(landmarks)?;
+    sort_by_keys::<LinkKey, Rec8>(links)
 }
 
 /// Finds the places of the records of types 1 and I in the order of their TLIDs, and returns the TLIDs.
 fn order_chains(alloc: Global, tables: &mut OrderedTables) -> Result<Tlids, AllocError>
     ensures records { tables.new.records ≡ tables.old.records }
-    ensures heads { OnOk result (IsPutInOrder (on one_tlid nat_cmp) tables.old.records.type_1.items (ordered_of tables.new).of_type_1) }
-    ensures links { OnOk result (IsPutInOrder (on i_tlid nat_cmp) tables.old.records.type_i.items (ordered_of tables.new).of_type_i) }
-    ensures tlids_of_heads { IfOk result (λ tlids. tlids.chains.items ≡ map one_tlid (ordered_of tables.new).of_type_1) }
-    ensures tlids_of_links { IfOk result (λ tlids. tlids.links.items ≡ map i_tlid (ordered_of tables.new).of_type_i) }
+    ensures all_basics { OnOk result (IsPutInOrder (on one_tlid nat_cmp) tables.old.records.type_1.items (ordered_of tables.new).of_type_1) }
+    ensures topologies { OnOk result (IsPutInOrder (on i_tlid nat_cmp) tables.old.records.type_i.items (ordered_of tables.new).of_type_i) }
+    ensures tlids_of_basics { IfOk result (λ tlids. tlids.chains.items ≡ map one_tlid (ordered_of tables.new).of_type_1) }
+    ensures tlids_of_topologies { IfOk result (λ tlids. tlids.topologies.items ≡ map i_tlid (ordered_of tables.new).of_type_i) }
 {
-    let heads = number_order::<Rec1>(alloc, &tables.records.type_1)?;
-    let links = number_order::<RecI>(alloc, &tables.records.type_i)?;
-    tables.heads = heads.places;
-    tables.links = links.places;
+    let all_basics = number_order::<Rec1>(alloc, &tables.records.type_1)?;
+    let topologies = number_order::<RecI>(alloc, &tables.records.type_i)?;
+    tables.all_basics = all_basics.places;
+    tables.topologies = topologies.places;
     Ok(Tlids {
-        chains: heads.numbers,
-        links: links.numbers,
+        chains: all_basics.numbers,
+        topologies: topologies.numbers,
     })
 }
 
@@ -128,9 +128,9 @@ fn order_chains(alloc: Global, tables: &mut OrderedTables) -> Result<Tlids, Allo
 pub(crate) fn order_tables(alloc: Global, tables: &mut OrderedTables) -> Result<Ordered, AllocError>
     ensures in_order { OnOk result (AreInOrder (ordered_of tables.new)) }
     ensures same { OnOk result (ArePermuted (typed_of tables.old.records) (ordered_of tables.new)) }
-    ensures links_there { OnOk result (IsPermutation tables.new.records.type_i.items (ordered_of tables.new).of_type_i) }
+    ensures topologies_there { OnOk result (IsPermutation tables.new.records.type_i.items (ordered_of tables.new).of_type_i) }
     ensures chains { IfOk result (λ ordered. ordered.tlids.chains.items ≡ map one_tlid (ordered_of tables.new).of_type_1) }
-    ensures links { IfOk result (λ ordered. ordered.tlids.links.items ≡ map i_tlid (ordered_of tables.new).of_type_i) }
+    ensures topologies { IfOk result (λ ordered. ordered.tlids.topologies.items ≡ map i_tlid (ordered_of tables.new).of_type_i) }
     ensures repeated { IfOk result (λ ordered. AreLeastRepeated ordered.repeated (ordered_of tables.new)) }
 {
     let records = &mut tables.records;

@@ -11,7 +11,7 @@ use crate::collector::Collector;
 use crate::fault::{LineFault, LoadFault};
 use crate::judge::{is_full_line, judge_line};
 use crate::loader_for::LoaderFor;
-use canonical_lines::Canonical;
+use canonical_lines::CanonicalLine;
 use tl_layout::{Rec1, Rec2, Rec4, Rec5, Rec6, Rec7, Rec8, RecI, RecP, Tabled};
 
 impl<K: Collector> LoaderFor<K> {
@@ -43,7 +43,11 @@ impl<K: Collector> LoaderFor<K> {
     /// Keeps and counts the record of a full line without reading the line, if the collector can and there are fewer than
     /// `limit` of its type. Returns whether it did.
     #[inline(always)]
-    fn push_unread<L: Canonical>(&mut self, line: &[u8], is_clean: bool) -> Result<bool, LoadFault>
+    fn push_unread<L: CanonicalLine>(
+        &mut self,
+        line: &[u8],
+        is_clean: bool,
+    ) -> Result<bool, LoadFault>
         requires begins { take 1 line.now ≡ L.RTYPE ∷ [] }
         requires clean { IsTrue is_clean → AreAllowed line.now }
         ensures kept { IfOk result (λ was_kept. IsTrue was_kept → KeepsUnread K.holds line.now (as_record L.as_record (judged_as L.LEN L.reading line.now)) self.old self.new) }
@@ -116,7 +120,7 @@ impl<K: Collector> LoaderFor<K> {
     }
 
     /// Judges the next line by the layout of its type.
-    fn judge_as<L: Canonical>(&mut self, line: &[u8], is_clean: bool) -> Result<(), LoadFault>
+    fn judge_as<L: CanonicalLine>(&mut self, line: &[u8], is_clean: bool) -> Result<(), LoadFault>
         requires parts { self.old.parts < u64.MAX }
         requires begins { take 1 line.now ≡ L.RTYPE ∷ [] }
         requires clean { IsTrue is_clean → AreAllowed line.now }

@@ -1,5 +1,5 @@
 -- The lesser of two choices, choice by choice.
-use Rattle.tl_number.proofs.Common.{AllKeysStandIn, Bool, County, Equal, Four, Greater, IfSome, IsCounty, IsLeastBelow, IsNotAfter}
+use Rattle.tl_number.proofs.Common.{AllKeysContained, Bool, County, Equal, Four, Greater, IfSome, IsCounty, IsLeastBelow, IsNotAfter}
 use Rattle.tl_number.proofs.Common.{IsWithinLimits, Less, None, Option, Ordering, Two, ap, arith, arrangement_within, choice_list}
 use Rattle.tl_number.proofs.Common.{choices_cmp, choices_same, chosen_county, cond, decided, false, false≢true, groups_cmp, is_gt, is_le}
 use Rattle.tl_number.proofs.Common.{lesser_choice, ltb-false, ltb-true, most_records, nat_lt, numbered_choice, numbered_is_choice, ones_cmp}
@@ -40,7 +40,7 @@ lesser_least county old number below m l = go (nat_lt m number) refl
         (lesser_of county old number (choices_cmp county old number) refl).1
 
 module _ (county : County) (is : IsCounty county) (within : IsWithinLimits most_records county)
-    (sides : AllKeysStandIn (polygons_along county.chains) (polygon_keys county)) where
+    (sides : AllKeysContained (polygons_along county.chains) (polygon_keys county)) where
   -- If the records of type 1 of two choices differ, they decide between the texts.
   pub ones_decide : (n m : ℕ) → (ones_cmp county n m ≡ Equal → ⊥) → choices_cmp county n m ≡ ones_cmp county n m
   ones_decide n m differ =

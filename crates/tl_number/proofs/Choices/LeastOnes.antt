@@ -1,6 +1,6 @@
 -- The arrangements of numbered choices agree, except for the chains that are moved at open places.
-use Rattle.tl_number.proofs.Common.{AgreeApart, AgreeButOpen, AllKeysStandIn, AreInShapeOrder, AreWhole, AreWithin, County, DirectedChain}
-use Rattle.tl_number.proofs.Common.{Equal, Greater, IsCounty, IsWithinLimits, Less, List, OpenPlace, Ordering, StandInOrder, agree_both}
+use Rattle.tl_number.proofs.Common.{AgreeApart, AgreeButOpen, AllKeysContained, AreInShapeOrder, AreWhole, AreWithin, County, DirectedChain}
+use Rattle.tl_number.proofs.Common.{Equal, Greater, IsCounty, IsWithinLimits, Less, List, OpenPlace, Ordering, ArePlacesInOrder, agree_both}
 use Rattle.tl_number.proofs.Common.{arrangement_of_number_apart, arrangement_of_number_count, arrangement_of_number_once}
 use Rattle.tl_number.proofs.Common.{arrangement_of_number_there, false, false≢true, few_chains, is_either_way, is_gt, is_le, length, map}
 use Rattle.tl_number.proofs.Common.{most_records, moved, open_places, other_way, places_in_order, places_within, points_along, points_cmp}
@@ -12,7 +12,7 @@ greater_from Equal e = absurd (false≢true (sym e))
 greater_from Greater e = refl
 
 module _ (county : County) (is : IsCounty county) (within : IsWithinLimits most_records county)
-    (sides : AllKeysStandIn (polygons_along county.chains) (polygon_keys county)) where
+    (sides : AllKeysContained (polygons_along county.chains) (polygon_keys county)) where
   pub whole_of_number : (by_shape : List DirectedChain) (order : AreInShapeOrder county by_shape) (places : List OpenPlace)
       → places ≡ open_places points_cmp is_either_way 0 (map (points_along county) by_shape) → (arrangement : List DirectedChain) (n : ℕ)
       → arrangement ≡ (moved other_way places (by_shape, n)).0 → AreWhole county arrangement
@@ -34,7 +34,7 @@ module _ (county : County) (is : IsCounty county) (within : IsWithinLimits most_
           count = count ∙ sym other_count;
           within = subst (λ k. AreWithin k all) (sym count)
               (subst (AreWithin (length by_shape)) (sym same) (places_within county is by_shape order places there));
-          in_order = subst StandInOrder (sym same) (places_in_order county is by_shape order places there);
+          in_order = subst ArePlacesInOrder (sym same) (places_in_order county is by_shape order places there);
           apart = subst (λ ps. AgreeApart ps one other) (sym same)
               (agree_both places one other by_shape (arrangement_of_number_apart county is by_shape order places there one n stated)
               (arrangement_of_number_apart county is by_shape order places there other m other_stated));

@@ -1,5 +1,5 @@
 -- All choices of a county have the same points, chain by chain, and so the same type 2 records.
-use Rattle.tl_number.proofs.Common.{AllKeysStandIn, AreSame, Chain, Coordinates, County, Fields2, IsArranged, IsCounty, IsTidy, List}
+use Rattle.tl_number.proofs.Common.{AllKeysContained, AreSame, Chain, Coordinates, County, Fields2, IsArranged, IsCounty, IsTidy, List}
 use Rattle.tl_number.proofs.Common.{SameElements, [], ap, arranged, choices_same, entry_points, entry_shape, in_order-equal, in_pieces}
 use Rattle.tl_number.proofs.Common.{inner_points, is_arranged, length, length-map, map, numbered_choice, numbered_from, numbered_is_choice}
 use Rattle.tl_number.proofs.Common.{packed_twos, points_cmp, points_in_order, points_keys, polygon_keys, polygons_along, refl}
@@ -38,7 +38,7 @@ module _ (a b : County) (same : AreSame a b) (tidy_a : IsTidy a) (tidy_b : IsTid
       same_twos a.chains b.chains (arranged_a.tlids ∙ ap up_to count ∙ sym arranged_b.tlids) points_same
 
 -- so all choices of a county have the same type 2 records
-pub twos_of_numbers : (county : County) → IsCounty county → AllKeysStandIn (polygons_along county.chains) (polygon_keys county) → (n m : ℕ)
+pub twos_of_numbers : (county : County) → IsCounty county → AllKeysContained (polygons_along county.chains) (polygon_keys county) → (n m : ℕ)
     → type_2_by_chain (arranged county (numbered_choice county n)) ≡ type_2_by_chain (arranged county (numbered_choice county m))
 twos_of_numbers county is sides n m =
     let a = numbered_is_choice county is n in

@@ -1,30 +1,30 @@
 -- Arrangements of a county within its limits, and the numbers of its polygons.
-use Rattle.tl_number.proofs.Common.{AllKeysStandIn, IsWithinLimits, PolygonKey, most_records, numbered_choice, polygon_keys, polygons_along}
+use Rattle.tl_number.proofs.Common.{AllKeysContained, IsWithinLimits, PolygonKey, most_records, numbered_choice, polygon_keys, polygons_along}
 use Rattle.tl_number.proofs.Common.{Among, County, Fields8, IsTrue, Known, image, key_cmp, key_keys, link_key, ltb-true, placed, times, ℕ}
-use Rattle.tl_number.proofs.Common.{Arrangement, Arranges, IsCounty, all_among, among_known, image-keeps, known_all, renaming_of, stands_in}
+use Rattle.tl_number.proofs.Common.{Arrangement, Arranges, IsCounty, all_among, among_known, image-keeps, known_all, renaming_of, contains}
 use Rattle.tl_number.proofs.Common.{arrangement_carries, from_first_seen, numbered_is_choice, polygons_from_placed, polygons_in_order, ◌≡◌}
 
 -- an arrangement of a county within its limits that has all polygons on its sides
 pub record IsArrangementOf (county : County) (arrangement : Arrangement) : Type 0 where
   pub is : IsCounty county
   pub within : IsWithinLimits most_records county
-  pub sides : AllKeysStandIn (polygons_along county.chains) (polygon_keys county)
+  pub sides : AllKeysContained (polygons_along county.chains) (polygon_keys county)
   pub arranges : Arranges arrangement county
 
 -- the arrangement of each choice is one
 pub choice_arranges : (county : County) → IsCounty county → IsWithinLimits most_records county
-    → AllKeysStandIn (polygons_along county.chains) (polygon_keys county) → (n : ℕ) → IsArrangementOf county (numbered_choice county n)
+    → AllKeysContained (polygons_along county.chains) (polygon_keys county) → (n : ℕ) → IsArrangementOf county (numbered_choice county n)
 choice_arranges county is within sides n =
     record { is = is; within = within; sides = sides; arranges = (numbered_is_choice county is n).arranges }
 
 -- the polygon of a link is on a side
-pub link_on_side : (county : County) → IsCounty county → AllKeysStandIn (polygons_along county.chains) (polygon_keys county)
+pub link_on_side : (county : County) → IsCounty county → AllKeysContained (polygons_along county.chains) (polygon_keys county)
     → (link : Fields8) → Among link county.links → Known key_cmp (polygons_along county.chains) (link_key link)
 link_on_side county is sides link there =
-    let known : IsTrue (stands_in key_cmp (link_key link) (polygon_keys county)) =
-    all_among (λ l. IsTrue (stands_in key_cmp (link_key l) (polygon_keys county))) link county.links is.closed.link_polygons there in
+    let known : IsTrue (contains key_cmp (link_key link) (polygon_keys county)) =
+    all_among (λ l. IsTrue (contains key_cmp (link_key l) (polygon_keys county))) link county.links is.closed.link_polygons there in
     ltb-true 0 (times key_cmp (link_key link) (polygons_along county.chains))
-    (known_all key_keys (λ k. IsTrue (stands_in key_cmp k (polygons_along county.chains))) (polygon_keys county) sides (link_key link)
+    (known_all key_keys (λ k. IsTrue (contains key_cmp k (polygons_along county.chains))) (polygon_keys county) sides (link_key link)
     (ltb-true 0 (times key_cmp (link_key link) (polygon_keys county)) known))
 
 module _ (county : County) (arrangement : Arrangement) (h : IsArrangementOf county arrangement) where

@@ -1,11 +1,11 @@
 -- A part of a county is a county, it's within the same limits, and all its polygons are on sides.
-use Rattle.tl_number.proofs.Common.{AllByRecursion, AllKeysStandIn, Bool, IsWithinLimits, by_type_within, length-in_order, stands_in-filter}
-use Rattle.tl_number.proofs.Common.{AllStandIn, Body5, IsKeyOrder, PolygonKey, all_filter, all_pieces, all_weaker, packed_five, packed_twos}
+use Rattle.tl_number.proofs.Common.{AllByRecursion, AllKeysContained, Bool, IsWithinLimits, by_type_within, length-in_order, contains-filter}
+use Rattle.tl_number.proofs.Common.{AllContained, Body5, IsKeyOrder, PolygonKey, all_filter, all_pieces, all_weaker, packed_five, packed_twos}
 use Rattle.tl_number.proofs.Common.{Body7, BodyP, Chain, IfSome, IsText, IsTrue, Option, filter, key_cmp, length, lt-ltb, nat_cmp, packed}
 use Rattle.tl_number.proofs.Common.{County, Fields8, all_map, is_some, link_key, ltb-true, nat_keys, or_right, p_polyid, packed_i, packed_p}
 use Rattle.tl_number.proofs.Common.{FitsChain, chain_polygons, filter-mapped, filter_passes, option_to_list, packed_by_type, polygons_along}
 use Rattle.tl_number.proofs.Common.{FitsLandmark, FitsNameBody, length-append, length-filter, packed_fours, packed_sevens, packed_within, ℕ}
-use Rattle.tl_number.proofs.Common.{FitsLink, IsCounty, IsNumber, ListsFit, Ordering, [], all_both, flat_map, key_keys, link_cmp, stands_in}
+use Rattle.tl_number.proofs.Common.{FitsLink, IsCounty, IsNumber, ListsFit, Ordering, [], all_both, flat_map, key_keys, link_cmp, contains}
 use Rattle.tl_number.proofs.Common.{FitsNumbers, FitsPolygon, HasAtMost, IsAscending, feats_along, packed_sixes, polygon_keys, strict-unmap}
 use Rattle.tl_number.proofs.Common.{IsInOrder, all_known, by_type_of, cond_both, filter_map, known_all, length-map, packed_one, strict-map}
 use Rattle.tl_number.proofs.Common.{IsStrictlySortedBy-filter, count_by-le-length, grouped_selected, landmark_body_cmp, recursion_from_All}
@@ -27,15 +27,15 @@ strict_part {K} {V} cmp test es h = strict-unmap cmp (λ (e : K × V). e.0) (fil
 -- The entries with used keys have each used key that some entry has.
 module _ {K V : Type 0} {cmp : K → K → Ordering} (o : IsKeyOrder cmp) (es : List (K × V)) where
   abbrev with_keys : List K → List (K × V)
-  with_keys used = filter (λ e. stands_in cmp e.0 used) es
+  with_keys used = filter (λ e. contains cmp e.0 used) es
 
   abbrev Has : List (K × V) → K → Type 0
-  Has entries k = IsTrue (stands_in cmp k (map (λ (e : K × V). e.0) entries))
+  Has entries k = IsTrue (contains cmp k (map (λ (e : K × V). e.0) entries))
 
-  used_stands : (used : List K) (k : K) → Has es k → IsTrue (stands_in cmp k used) → Has (with_keys used) k
-  used_stands used k there is_used =
-      ap (stands_in cmp k) (sym (filter-mapped (λ j. stands_in cmp j used) (λ (e : K × V). e.0) es))
-      ∙ stands_in-filter o (λ j. stands_in cmp j used) k (map (λ (e : K × V). e.0) es) (ltb-true 0 (times cmp k (map (λ (e : K × V). e.0) es)) there)
+  used_contained : (used : List K) (k : K) → Has es k → IsTrue (contains cmp k used) → Has (with_keys used) k
+  used_contained used k there is_used =
+      ap (contains cmp k) (sym (filter-mapped (λ j. contains cmp j used) (λ (e : K × V). e.0) es))
+      ∙ contains-filter o (λ j. contains cmp j used) k (map (λ (e : K × V). e.0) es) (ltb-true 0 (times cmp k (map (λ (e : K × V). e.0) es)) there)
       ∙ is_used
 
   -- the keys that are used along a list
@@ -44,7 +44,7 @@ module _ {K V : Type 0} {cmp : K → K → Ordering} (o : IsKeyOrder cmp) (es : 
   used_along keys xs all =
       let used = flat_map keys xs in
       all_pieces (Has (with_keys used)) keys xs (all_known o (Has (with_keys used)) used
-      (λ k h. used_stands used k (known_all o (Has es) used (all_joined (Has es) keys xs all) k h) (lt-ltb 0 (times cmp k used) h)))
+      (λ k h. used_contained used k (known_all o (Has es) used (all_joined (Has es) keys xs all) k h) (lt-ltb 0 (times cmp k used) h)))
 
 -- fewer elements have fewer pieces
 few_pieces : {X Y : Type 0} (f : X → List Y) (test : X → Bool) (xs : List X) → length (flat_map f (filter test xs)) ≤ length (flat_map f xs)
@@ -70,10 +70,10 @@ module _ (county : County) (keeps : ℕ × Chain → Bool) (with_landmarks : Boo
   kept = filter keeps county.chains
 
   abbrev used_name : ℕ × Body5 → Bool
-  used_name name = stands_in nat_cmp name.0 (feats_along kept)
+  used_name name = contains nat_cmp name.0 (feats_along kept)
 
   abbrev used_polygon : PolygonKey × Option BodyP → Bool
-  used_polygon polygon = stands_in key_cmp polygon.0 (polygons_along kept)
+  used_polygon polygon = contains key_cmp polygon.0 (polygons_along kept)
 
   -- what holds of landmarks or links, and of none
   all_or_none : {X : Type 0} (P : List X → Type 0) (xs : List X) → P xs → P [] → P (cond with_landmarks xs [])
@@ -98,27 +98,27 @@ module _ (county : County) (keeps : ℕ × Chain → Bool) (with_landmarks : Boo
     }
 
     abbrev IsAmong : List PolygonKey → Fields8 → Type 0
-    IsAmong keys link = IsTrue (stands_in key_cmp (link_key link) keys)
+    IsAmong keys link = IsTrue (contains key_cmp (link_key link) keys)
 
     -- a polygon of a landmark that is on a chain of the part is in the part
     linked : AllByRecursion (IsAmong (polygons_along kept)) county.links
         → AllByRecursion (IsAmong (map (λ (e : PolygonKey × Option BodyP). e.0) (filter used_polygon county.polygons))) county.links
     linked on_sides = all_weaker (λ link. IsAmong (polygon_keys county) link × IsAmong (polygons_along kept) link)
         (IsAmong (map (λ (e : PolygonKey × Option BodyP). e.0) (filter used_polygon county.polygons)))
-        (λ link both. used_stands key_keys county.polygons (polygons_along kept) (link_key link) both.0 both.1) county.links
+        (λ link both. used_contained key_keys county.polygons (polygons_along kept) (link_key link) both.0 both.1) county.links
         (all_both (IsAmong (polygon_keys county)) (IsAmong (polygons_along kept)) county.links is.closed.link_polygons on_sides)
 
     -- If the polygons of its landmarks are on its chains, a part is a county.
-    pub part_is : (with_landmarks ≡ true → AllByRecursion (λ link. IsTrue (stands_in key_cmp (link_key link) (polygons_along kept))) county.links)
+    pub part_is : (with_landmarks ≡ true → AllByRecursion (λ link. IsTrue (contains key_cmp (link_key link) (polygons_along kept))) county.links)
         → IsCounty part
     unfolding part_of
     part_is on_sides = record {
       ascending = ascending;
       closed = record {
         names = used_along nat_keys county.names (λ (entry : ℕ × Chain). entry.1.feats) kept
-            (all_filter (λ (entry : ℕ × Chain). AllStandIn (feats county) entry.1.feats) keeps county.chains is.closed.names);
+            (all_filter (λ (entry : ℕ × Chain). AllContained (feats county) entry.1.feats) keeps county.chains is.closed.names);
         sides = used_along key_keys county.polygons (λ (entry : ℕ × Chain). chain_polygons entry.1) kept
-            (all_filter (λ (entry : ℕ × Chain). AllKeysStandIn (polygon_keys county) (chain_polygons entry.1)) keeps county.chains is.closed.sides);
+            (all_filter (λ (entry : ℕ × Chain). AllKeysContained (polygon_keys county) (chain_polygons entry.1)) keeps county.chains is.closed.sides);
         link_lands = lands_there with_landmarks;
         link_polygons = cond_both with_landmarks county.links []
             (AllByRecursion (IsAmong (map (λ (e : PolygonKey × Option BodyP). e.0) (filter used_polygon county.polygons))))
@@ -132,15 +132,15 @@ module _ (county : County) (keeps : ℕ × Chain → Bool) (with_landmarks : Boo
       };
     }
       where
-        lands_there : (b : Bool) → AllByRecursion (λ (link : Fields8). IsTrue (stands_in nat_cmp link.land
+        lands_there : (b : Bool) → AllByRecursion (λ (link : Fields8). IsTrue (contains nat_cmp link.land
             (map (λ (entry : ℕ × List Body7). entry.0) (cond b county.landmarks [])))) (cond b county.links [])
         lands_there true = is.closed.link_lands
         lands_there false = tt
 
     -- All polygons of a part are on sides.
-    pub part_sides : AllKeysStandIn (polygons_along part.chains) (polygon_keys part)
+    pub part_sides : AllKeysContained (polygons_along part.chains) (polygon_keys part)
     unfolding part_of
-    part_sides = all_map (λ key. IsTrue (stands_in key_cmp key (polygons_along kept))) (λ (e : PolygonKey × Option BodyP). e.0)
+    part_sides = all_map (λ key. IsTrue (contains key_cmp key (polygons_along kept))) (λ (e : PolygonKey × Option BodyP). e.0)
         (filter used_polygon county.polygons) (all_pass used_polygon county.polygons)
 
   module _ (limit : ℕ) (within : IsWithinLimits limit county) where

@@ -4,7 +4,7 @@ use Rattle.tl_number.proofs.Common.{LeavesChoices, List, None, Option, OrderOfSh
 use Rattle.tl_number.proofs.Common.{among-pieces, among_known, among_left, ap, append-nil, arith, arrangement_of}
 use Rattle.tl_number.proofs.Common.{arrangement_of_number_apart, brings, directed_chain, false, first_seen, flat_map, group_at, group_of}
 use Rattle.tl_number.proofs.Common.{grouped, grouped_map, is_open, keys_along, known-left, known_all, known_is_among, map, most_records}
-use Rattle.tl_number.proofs.Common.{option_map, option_to_list, refl, renaming_of, renumbered, slice_get, slice_get-map, stands_in, subst}
+use Rattle.tl_number.proofs.Common.{option_map, option_to_list, refl, renaming_of, renumbered, slice_get, slice_get-map, contains, subst}
 use Rattle.tl_number.proofs.Common.{sym, to_first_seen, true, unwrap_or, ℕ, ◌++◌, ◌<◌, ◌∙◌, ◌∷◌, ◌≡◌}
 use Rattle.tl_number.proofs.{Ties.FixedKeys.fixed_before, Ties.OpenChains.closed_apart, Ties.TieNumbers.chosen_chains}
 
@@ -44,7 +44,7 @@ module _ (county : County) (shapes : OrderOfShapes) (known : LeavesChoices count
 
     -- a key that isn't among these has one number in all choices that have it
     abbrev pub Stay : List K → Type 0
-    Stay opened = (n m : ℕ) (k : K) → stands_in cmp k opened ≡ false → Known cmp (all_of n) k → Known cmp (all_of m) k
+    Stay opened = (n m : ℕ) (k : K) → contains cmp k opened ≡ false → Known cmp (all_of n) k → Known cmp (all_of m) k
         → new (new_of n) k ≡ new (new_of m) k
 
   -- If those that aren't open have one number in all choices:
@@ -73,7 +73,7 @@ module _ (county : County) (shapes : OrderOfShapes) (known : LeavesChoices count
         in_choice i k h = key_of_chain o county (chains_of i) keys place directed chain (fixed_there i place fixed ∙ there) of_directed k h
 
         same_new : (k : K) → Known cmp (keys chain) k → new (new_of n) k ≡ new (new_of m) k
-        same_new k h = go (stands_in cmp k opened) refl
+        same_new k h = go (contains cmp k opened) refl
           where
             -- choices that number the keys of the chain at a place alike do so for each key there
             at_first : (q : ℕ) → AgreeAt q → Known cmp (group_at along q) k → new (new_of n) k ≡ new (new_of m) k
@@ -93,7 +93,7 @@ module _ (county : County) (shapes : OrderOfShapes) (known : LeavesChoices count
                 at None e h = absurd (omega (arith, h))
                 at (Some d) e h = inside d e (directed_chain county d) refl h
 
-            go : (b : Bool) → stands_in cmp k opened ≡ b → new (new_of n) k ≡ new (new_of m) k
+            go : (b : Bool) → contains cmp k opened ≡ b → new (new_of n) k ≡ new (new_of m) k
             go true e =
                 let f = fixed_before o shapes.places along opened place nothing_new k e (subst (λ g. Known cmp g k)
                 (sym (group_of keys_of shapes.by_shape place directed there ∙ ap (λ c. flat_map keys (option_to_list c)) of_directed))

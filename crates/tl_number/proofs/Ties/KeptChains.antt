@@ -1,6 +1,6 @@
 -- Finding the chains by which the choices of a county are compared.
 use Rattle.tl_number.proofs.Common.{Bool, Chain, List, None, Some, brings, false, filter, length, lt-ltb, map, map-id, nat_lt, subst, times}
-use Rattle.tl_number.proofs.Common.{County, Ordering, among_any, any_among, at_places, flat_map, is_linked, link_keys, slice_get, stands_in}
+use Rattle.tl_number.proofs.Common.{County, Ordering, among_any, any_among, at_places, flat_map, is_linked, link_keys, slice_get, contains}
 use Rattle.tl_number.proofs.Common.{Fields8, Option, group_at, grouped, key_cmp, key_keys, link_key, links_at, list_any, ltb-true, permuted}
 use Rattle.tl_number.proofs.Common.{IsCounty, OpenPlace, first_open, first_seen, fixed_keys, keys_along, map-append, met_before, open_among}
 use Rattle.tl_number.proofs.Common.{IsKeyOrder, IsSearchAt, PolygonKey, append-nil, ap₂, cons_option, false≢true, pieces_next, times-append}
@@ -48,14 +48,14 @@ module _ {X : Type 0} (xs : List X) (test : ℕ → Bool) where
 
 module _ {K : Type 0} {cmp : K → K → Ordering} (o : IsKeyOrder cmp) where
   -- two lists have a key in common
-  common_key : (xs ys : List K) → list_any (λ x. stands_in cmp x ys) xs ≡ true → list_any (λ y. stands_in cmp y xs) ys ≡ true
+  common_key : (xs ys : List K) → list_any (λ x. contains cmp x ys) xs ≡ true → list_any (λ y. contains cmp y xs) ys ≡ true
   common_key xs ys e =
-      let found = any_among (λ x. stands_in cmp x ys) xs e in
-      among_any (λ y. stands_in cmp y xs) found.0 ys (known_is_among o found.0 ys (ltb-true 0 (times cmp found.0 ys) found.2))
+      let found = any_among (λ x. contains cmp x ys) xs e in
+      among_any (λ y. contains cmp y xs) found.0 ys (known_is_among o found.0 ys (ltb-true 0 (times cmp found.0 ys) found.2))
       (lt-ltb 0 (times cmp found.0 xs) (among_known o found.0 xs found.1))
 
-  pub in_common : (xs ys : List K) → list_any (λ x. stands_in cmp x ys) xs ≡ list_any (λ y. stands_in cmp y xs) ys
-  in_common xs ys = go (list_any (λ x. stands_in cmp x ys) xs) (list_any (λ y. stands_in cmp y xs) ys) (common_key xs ys) (common_key ys xs)
+  pub in_common : (xs ys : List K) → list_any (λ x. contains cmp x ys) xs ≡ list_any (λ y. contains cmp y xs) ys
+  in_common xs ys = go (list_any (λ x. contains cmp x ys) xs) (list_any (λ y. contains cmp y xs) ys) (common_key xs ys) (common_key ys xs)
     where
       go : (b c : Bool) → (b ≡ true → c ≡ true) → (c ≡ true → b ≡ true) → b ≡ c
       go true true f g = refl
@@ -65,10 +65,10 @@ module _ {K : Type 0} {cmp : K → K → Ordering} (o : IsKeyOrder cmp) where
 
   module _ (places : List OpenPlace) (keys : List K) (along : List (List K)) where
     -- a search begins with nothing met
-    pub search_starts : (seen wanted met : List K) → wanted ≡ first_seen cmp seen → ((k : K) → stands_in cmp k seen ≡ stands_in cmp k keys) → met ≡ []
+    pub search_starts : (seen wanted met : List K) → wanted ≡ first_seen cmp seen → ((k : K) → contains cmp k seen ≡ contains cmp k keys) → met ≡ []
         → IsSearchAt cmp places keys along 0 wanted met
     search_starts seen wanted met is same none =
-        record { same = λ k. ap (stands_in cmp k) is ∙ seen_known o seen k ∙ same k; before = none }
+        record { same = λ k. ap (contains cmp k) is ∙ seen_known o seen k ∙ same k; before = none }
 
     -- a search of the same places and keys
     module _ (place : ℕ) {wanted met : List K} (at : IsSearchAt cmp places keys along place wanted met) {places_too : List OpenPlace}
@@ -80,13 +80,13 @@ module _ {K : Type 0} {cmp : K → K → Ordering} (o : IsKeyOrder cmp) where
       -- finds a key where one is brought,
       pub search_finds : {found : Bool} → found ≡ brings cmp places_too wanted along_too place → found ≡ brings cmp places keys along place
       search_finds is = is ∙ (λ i. brings cmp (p i) wanted (a i) place)
-          ∙ (λ i. list_any (λ k. at.same k i && not (stands_in cmp k (fixed_keys places along place))) (group_at along place))
+          ∙ (λ i. list_any (λ k. at.same k i && not (contains cmp k (fixed_keys places along place))) (group_at along place))
 
       -- and goes on to the next place
       pub search_next : {wanted_too met_too : List K} → wanted_too ≡ wanted → met_too ≡ met_before cmp places_too wanted along_too (place + 1)
           → IsSearchAt cmp places keys along (place + 1) wanted_too met_too
       search_next w m = record {
-        same = λ k. ap (stands_in cmp k) w ∙ at.same k;
+        same = λ k. ap (contains cmp k) w ∙ at.same k;
         before = m ∙ (λ i. met_before cmp (p i) (sym w i) (a i) (place + 1));
       }
 
@@ -109,7 +109,7 @@ link_keys_there county is =
 
 -- so the same keys are wanted
 pub linked_alike : (county : County) (is : IsCounty county) (linked : Bool) (keys : List PolygonKey) (k : PolygonKey)
-    → stands_in key_cmp k (keys ++ cond linked (link_keys county) []) ≡ stands_in key_cmp k (keys ++ cond linked (map link_key county.links) [])
+    → contains key_cmp k (keys ++ cond linked (link_keys county) []) ≡ contains key_cmp k (keys ++ cond linked (map link_key county.links) [])
 linked_alike county is linked keys k = ap (nat_lt 0)
     (times-append key_keys k keys (cond linked (link_keys county) [])
     ∙ ap (λ n. times key_cmp k keys + n) (go linked)
@@ -126,14 +126,14 @@ any_mapped f test (x ∷ xs) = ap (λ b. test (f x) || b) (any_mapped f test xs)
 -- landmarks are compared if one of their polygons first appears at an open place
 pub linked_if_any : (county : County) (shapes : OrderOfShapes) (is : IsCounty county) (links opened : List PolygonKey)
     → links ≡ first_seen key_cmp (link_keys county) → opened ≡ first_open key_cmp shapes.places (keys_along chain_polygons county shapes.by_shape)
-    → list_any (λ k. stands_in key_cmp k links) opened ≡ is_linked county shapes
+    → list_any (λ k. contains key_cmp k links) opened ≡ is_linked county shapes
 linked_if_any county shapes is links opened seen first =
     let opens : List PolygonKey = first_open key_cmp shapes.places (keys_along chain_polygons county shapes.by_shape) in
-    (λ i. list_any (λ k. stands_in key_cmp k (seen i)) (first i))
+    (λ i. list_any (λ k. contains key_cmp k (seen i)) (first i))
     ∙ (λ i. list_any (λ k. seen_known key_keys (link_keys county) k i) opens)
     ∙ (λ i. list_any (λ k. linked_alike county is true [] k i) opens)
     ∙ in_common key_keys opens (map link_key county.links)
-    ∙ any_mapped link_key (λ k. stands_in key_cmp k opens) county.links
+    ∙ any_mapped link_key (λ k. contains key_cmp k opens) county.links
 
 -- the keys of the chains at open places
 pub keys_open : {K : Type 0} (keys : Chain → List K) (county : County) (shapes : OrderOfShapes)

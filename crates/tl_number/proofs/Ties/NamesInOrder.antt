@@ -1,10 +1,10 @@
 -- The names of chains in an arrangement, and their numbers.
 use Rattle.tl_number.proofs.Common.{AllByRecursion, DirectedChain, all_everywhere, arrangement_of, feats_along_arrangement, from_first_seen}
-use Rattle.tl_number.proofs.Common.{AllStandIn, all_weaker, ap, append-nil, chain_feats, entry_values, first_seen, grouped_map, renaming_of}
+use Rattle.tl_number.proofs.Common.{AllContained, all_weaker, ap, append-nil, chain_feats, entry_values, first_seen, grouped_map, renaming_of}
 use Rattle.tl_number.proofs.Common.{AreWhole, directed_chain, feats_in_order, flat_map_agree, image-numbered, names_renamed, option_to_list}
 use Rattle.tl_number.proofs.Common.{Bool, IfSome, IsTrue, Option, all_at, all_map, flat_map, grouped, ltb-true, nat_cmp, nat_keys, place_in}
 use Rattle.tl_number.proofs.Common.{Chain, Known, List, None, Some, false, feats, image, refl, subst, times, true, turned, ℕ, ◌+◌, ◌∙◌, ◌≡◌}
-use Rattle.tl_number.proofs.Common.{County, IsCounty, arranges, chain_at, feats_of, keys_along, known_all, option_map, stands_in, turned_if}
+use Rattle.tl_number.proofs.Common.{County, IsCounty, arranges, chain_at, feats_of, keys_along, known_all, option_map, contains, turned_if}
 use Rattle.tl_number.proofs.Ties.NewlySeen.{AreAlike, alike_itself}
 use Rattle.canonical_form.proofs.Common.{all_joined}
 
@@ -30,9 +30,9 @@ module _ (county : County) (is : IsCounty county) where
   chain_named directed = go directed.turned (chain_at county directed.place)
       (all_at (λ (chain : Chain). AllByRecursion (Known nat_cmp (feats county)) chain.feats) (entry_values county.chains)
       (all_map (λ (chain : Chain). AllByRecursion (Known nat_cmp (feats county)) chain.feats) (λ (entry : ℕ × Chain). entry.1) county.chains
-      (all_weaker (λ (entry : ℕ × Chain). AllStandIn (feats county) entry.1.feats)
+      (all_weaker (λ (entry : ℕ × Chain). AllContained (feats county) entry.1.feats)
       (λ entry. AllByRecursion (Known nat_cmp (feats county)) entry.1.feats)
-      (λ entry. all_weaker (λ k. IsTrue (stands_in nat_cmp k (feats county))) (Known nat_cmp (feats county))
+      (λ entry. all_weaker (λ k. IsTrue (contains nat_cmp k (feats county))) (Known nat_cmp (feats county))
       (λ k t. ltb-true 0 (times nat_cmp k (feats county)) t) entry.1.feats) county.chains is.closed.names)) directed.place)
     where
       go : (b : Bool) (chain : Option Chain) → IfSome chain (λ c. AllByRecursion (Known nat_cmp (feats county)) c.feats)

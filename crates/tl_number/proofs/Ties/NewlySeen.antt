@@ -1,7 +1,7 @@
 -- Keys that weren't seen before: which these are depends only on the members of the list of seen keys.
 use Rattle.tl_number.proofs.Common.{Bool, IsApart, IsKeyOrder, Known, List, Ordering, [], ap, append-nil, append_assoc, arith, cond, false}
 use Rattle.tl_number.proofs.Common.{first_seen_after, inl, inr, is_eq, known-append, known-left, known-right, ltb-false, ltb-true, min}
-use Rattle.tl_number.proofs.Common.{newly_seen, refl, same_or_not, stands_alike, stands_in, subst, suc, sym, times, times-append, times-no}
+use Rattle.tl_number.proofs.Common.{newly_seen, refl, same_or_not, contains_alike, contains, subst, suc, sym, times, times-append, times-no}
 use Rattle.tl_number.proofs.Common.{times-yes, true, zero, ℕ, ◌++◌, ◌+◌, ◌-◌, ◌∙◌, ◌∷◌, ◌≡◌, ◌≤◌, ◌⊎◌}
 
 -- two lists have the same members
@@ -25,7 +25,7 @@ module _ {K : Type 0} {cmp : K → K → Ordering} (o : IsKeyOrder cmp) where
   -- the keys seen are those seen before and the new ones
   pub seen_newly : (seen keys : List K) → first_seen_after cmp seen keys ≡ seen ++ newly_seen cmp seen keys
   seen_newly seen [] = sym (append-nil seen)
-  seen_newly seen (k ∷ keys) = go (stands_in cmp k seen) (seen_newly seen keys) (seen_newly (seen ++ (k ∷ [])) keys)
+  seen_newly seen (k ∷ keys) = go (contains cmp k seen) (seen_newly seen keys) (seen_newly (seen ++ (k ∷ [])) keys)
     where
       go : (b : Bool) → first_seen_after cmp seen keys ≡ seen ++ newly_seen cmp seen keys
           → first_seen_after cmp (seen ++ (k ∷ [])) keys ≡ (seen ++ (k ∷ [])) ++ newly_seen cmp (seen ++ (k ∷ [])) keys
@@ -37,14 +37,14 @@ module _ {K : Type 0} {cmp : K → K → Ordering} (o : IsKeyOrder cmp) where
   pub newly_alike : (xs ys keys : List K) → AreAlike cmp xs ys → newly_seen cmp xs keys ≡ newly_seen cmp ys keys
   newly_alike xs ys [] alike = refl
   newly_alike xs ys (k ∷ keys) alike =
-      λ i. cond (stands_alike o xs ys k (alike k).0 (alike k).1 i) (newly_alike xs ys keys alike i)
+      λ i. cond (contains_alike o xs ys k (alike k).0 (alike k).1 i) (newly_alike xs ys keys alike i)
       (k ∷ newly_alike (xs ++ (k ∷ [])) (ys ++ (k ∷ [])) keys (alike_append xs ys (k ∷ []) (k ∷ []) alike (alike_itself (k ∷ []))) i)
 
   -- keys seen one list after another
   pub newly_append : (seen xs ys : List K)
       → newly_seen cmp seen (xs ++ ys) ≡ newly_seen cmp seen xs ++ newly_seen cmp (seen ++ newly_seen cmp seen xs) ys
   newly_append seen [] ys = ap (λ l. newly_seen cmp l ys) (sym (append-nil seen))
-  newly_append seen (x ∷ xs) ys = go (stands_in cmp x seen) (newly_append seen xs ys) (newly_append (seen ++ (x ∷ [])) xs ys)
+  newly_append seen (x ∷ xs) ys = go (contains cmp x seen) (newly_append seen xs ys) (newly_append (seen ++ (x ∷ [])) xs ys)
     where
       more : List K
       more = newly_seen cmp (seen ++ (x ∷ [])) xs
@@ -67,7 +67,7 @@ module _ {K : Type 0} {cmp : K → K → Ordering} (o : IsKeyOrder cmp) where
       → times cmp k (newly_seen cmp seen keys) ≡ min (1 - times cmp k seen) (times cmp k keys)
   times_new seen [] k = omega arith
   times_new seen (x ∷ keys) k =
-      go (stands_in cmp x seen) refl (same_or_not o k x) (times_new seen keys k) (times_new (seen ++ (x ∷ [])) keys k)
+      go (contains cmp x seen) refl (same_or_not o k x) (times_new seen keys k) (times_new (seen ++ (x ∷ [])) keys k)
     where
       more : List K
       more = newly_seen cmp (seen ++ (x ∷ [])) keys
@@ -75,7 +75,7 @@ module _ {K : Type 0} {cmp : K → K → Ordering} (o : IsKeyOrder cmp) where
       grown : times cmp k (seen ++ (x ∷ [])) ≡ times cmp k seen + times cmp k (x ∷ [])
       grown = times-append o k seen (x ∷ [])
 
-      go : (b : Bool) → stands_in cmp x seen ≡ b → (k ≡ x) ⊎ (is_eq (cmp k x) ≡ false)
+      go : (b : Bool) → contains cmp x seen ≡ b → (k ≡ x) ⊎ (is_eq (cmp k x) ≡ false)
           → times cmp k (newly_seen cmp seen keys) ≡ min (1 - times cmp k seen) (times cmp k keys)
           → times cmp k more ≡ min (1 - times cmp k (seen ++ (x ∷ []))) (times cmp k keys)
           → times cmp k (cond b (newly_seen cmp seen keys) (x ∷ more)) ≡ min (1 - times cmp k seen) (times cmp k (x ∷ keys))

@@ -4,8 +4,8 @@ use Rattle.tl_number.proofs.Common.{Body7, Bool, Chain, List, Option, ap₂, ari
 use Rattle.tl_number.proofs.Common.{County, IsKeyOrder, PartTables, PolygonKey, append-nil, entry_keys, false≢true, filter_map, nodes_along}
 use Rattle.tl_number.proofs.Common.{DirectedChain, chain_feats, distinct_same, range_with_len, slice_get-map, slice_get_past, to_first_seen}
 use Rattle.tl_number.proofs.Common.{Fields8, distinct, flat_map, grouped, key_cmp, key_keys, links_at, list_any, map-map, nat_cmp, nat_keys}
-use Rattle.tl_number.proofs.Common.{IfSome, IsPicked, Ordering, at_places, bodies_at, part_with, slice_get, stands_in, turned_if, unwrap_or}
-use Rattle.tl_number.proofs.Common.{IsCounty, chain_nodes, cons_option, entry_values, feats_along, places_among, polygon_keys, stands_alike}
+use Rattle.tl_number.proofs.Common.{IfSome, IsPicked, Ordering, at_places, bodies_at, part_with, slice_get, contains, turned_if, unwrap_or}
+use Rattle.tl_number.proofs.Common.{IsCounty, chain_nodes, cons_option, entry_values, feats_along, places_among, polygon_keys, contains_alike}
 use Rattle.tl_number.proofs.Common.{None, Some, ap, cond, map, refl, suc, sym, true, zero, ℕ, ◌++◌, ◌+◌, ◌||◌, ◌∙◌, ◌∷◌, ◌≡◌}
 use Rattle.tl_number.proofs.Common.{[], chain_polygons, distinct-in_order, from_first_seen, in_order-strict, option_to_list, polygons_along}
 use Rattle.tl_number.specs.CountyParts.{part_of}
@@ -67,29 +67,29 @@ read_range {X} passes test read (x ∷ xs) start reads tests =
     go false true e others = absurd (false≢true e)
 
 -- entries with used keys, if the same keys are wanted
-module _ {K V : Type 0} (cmp : K → K → Ordering) (wanted used : List K) (same : (k : K) → stands_in cmp k wanted ≡ stands_in cmp k used)
+module _ {K V : Type 0} (cmp : K → K → Ordering) (wanted used : List K) (same : (k : K) → contains cmp k wanted ≡ contains cmp k used)
     (es : List (K × V)) where
-  tested : (o : Option (K × V)) → list_any (λ k. stands_in cmp k wanted) (option_to_list (option_map (λ (e : K × V). e.0) o))
-      ≡ list_any (λ (e : K × V). stands_in cmp e.0 used) (option_to_list o)
+  tested : (o : Option (K × V)) → list_any (λ k. contains cmp k wanted) (option_to_list (option_map (λ (e : K × V). e.0) o))
+      ≡ list_any (λ (e : K × V). contains cmp e.0 used) (option_to_list o)
   tested None = refl
   tested (Some e) = ap (λ b. b || false) (same e.0)
 
   -- are read at the places,
-  pub picked_read : AreReadAt es (places_among cmp wanted (entry_keys es)) (filter (λ e. stands_in cmp e.0 used) es)
+  pub picked_read : AreReadAt es (places_among cmp wanted (entry_keys es)) (filter (λ e. contains cmp e.0 used) es)
   picked_read =
-      let test : ℕ → Bool = λ place. list_any (λ k. stands_in cmp k wanted) (option_to_list (slice_get (entry_keys es) place)) in
+      let test : ℕ → Bool = λ place. list_any (λ k. contains cmp k wanted) (option_to_list (slice_get (entry_keys es) place)) in
       let zeroth : (i : ℕ) → 0 + i ≡ i = λ i. omega arith in
       ap (λ n. map (slice_get es) (filter test (range_with_len 0 n))) (length-map es (λ (e : K × V). e.0))
-      ∙ read_range (λ (e : K × V). stands_in cmp e.0 used) test (slice_get es) es 0 (λ i. ap (slice_get es) (zeroth i))
-      (λ i. ap test (zeroth i) ∙ ap (λ o. list_any (λ k. stands_in cmp k wanted) (option_to_list o)) (slice_get-map (λ (e : K × V). e.0) es i)
+      ∙ read_range (λ (e : K × V). contains cmp e.0 used) test (slice_get es) es 0 (λ i. ap (slice_get es) (zeroth i))
+      (λ i. ap test (zeroth i) ∙ ap (λ o. list_any (λ k. contains cmp k wanted) (option_to_list o)) (slice_get-map (λ (e : K × V). e.0) es i)
       ∙ tested (slice_get es i))
 
   -- and so are their keys
-  pub picked_keys : at_places (entry_keys es) (places_among cmp wanted (entry_keys es)) ≡ entry_keys (filter (λ e. stands_in cmp e.0 used) es)
+  pub picked_keys : at_places (entry_keys es) (places_among cmp wanted (entry_keys es)) ≡ entry_keys (filter (λ e. contains cmp e.0 used) es)
   picked_keys =
       let key : K × V → K = λ e. e.0 in
       let places : List ℕ = places_among cmp wanted (entry_keys es) in
-      let picked : List (K × V) = filter (λ e. stands_in cmp e.0 used) es in
+      let picked : List (K × V) = filter (λ e. contains cmp e.0 used) es in
       all_read (slice_get (entry_keys es)) places (entry_keys picked)
       ((λ i. map (λ p. slice_get-map key es p i) places)
       ∙ sym (map-map (option_map key) (slice_get es) places)
@@ -99,8 +99,8 @@ module _ {K V : Type 0} (cmp : K → K → Ordering) (wanted used : List K) (sam
 
 -- the keys that are seen are the keys of the list
 pub seen_known : {K : Type 0} {cmp : K → K → Ordering} (o : IsKeyOrder cmp) (keys : List K) (key : K)
-    → stands_in cmp key (first_seen cmp keys) ≡ stands_in cmp key keys
-seen_known {cmp = cmp} o keys key = stands_alike o (first_seen cmp keys) keys key (from_first_seen o keys key) (to_first_seen o keys key)
+    → contains cmp key (first_seen cmp keys) ≡ contains cmp key keys
+seen_known {cmp = cmp} o keys key = contains_alike o (first_seen cmp keys) keys key (from_first_seen o keys key) (to_first_seen o keys key)
 
 -- the keys of chains at places
 along_read : {K : Type 0} (keys : Chain → List K) (county : County) (places : List ℕ) (picked : List (ℕ × Chain)) → AreReadAt county.chains places picked
@@ -127,26 +127,26 @@ pub tables_hold : (county : County) (tables : PartTables) (chains : List Directe
 unfolding part_of
 tables_hold county tables chains picked there nodes names polygons =
     let used : List ℕ = tables.kept.tlids.items in
-    let kept : List (ℕ × Chain) = filter (λ entry. stands_in nat_cmp entry.0 used) county.chains in
+    let kept : List (ℕ × Chain) = filter (λ entry. contains nat_cmp entry.0 used) county.chains in
     let read : AreReadAt county.chains tables.chains.places.items kept =
     subst (λ places. AreReadAt county.chains places kept) (sym picked.places)
     (picked_read nat_cmp (first_seen nat_cmp used) used (seen_known nat_keys used) county.chains) in
     let along_nodes = ap (λ ds. grouped (keys_along chain_nodes county ds)) there ∙ along_read chain_nodes county tables.chains.places.items kept read in
     let along_feats = ap (λ ds. grouped (keys_along chain_feats county ds)) there ∙ along_read chain_feats county tables.chains.places.items kept read in
     let along_sides = ap (λ ds. grouped (keys_along chain_polygons county ds)) there ∙ along_read chain_polygons county tables.chains.places.items kept read in
-    let same_feats = λ (k : ℕ). seen_known nat_keys (grouped (keys_along chain_feats county chains)) k ∙ ap (stands_in nat_cmp k) along_feats in
-    let same_sides = λ (k : PolygonKey). seen_known key_keys (grouped (keys_along chain_polygons county chains)) k ∙ ap (stands_in key_cmp k) along_sides in
+    let same_feats = λ (k : ℕ). seen_known nat_keys (grouped (keys_along chain_feats county chains)) k ∙ ap (contains nat_cmp k) along_feats in
+    let same_sides = λ (k : PolygonKey). seen_known key_keys (grouped (keys_along chain_polygons county chains)) k ∙ ap (contains key_cmp k) along_sides in
     record {
       tlids = picked.keys ∙ picked_keys nat_cmp (first_seen nat_cmp used) used (seen_known nat_keys used) county.chains;
       chains = read;
       feats = names.keys ∙ picked_keys nat_cmp _ (feats_along kept) same_feats county.names;
-      names = subst (λ places. AreReadAt county.names places (filter (λ name. stands_in nat_cmp name.0 (feats_along kept)) county.names))
+      names = subst (λ places. AreReadAt county.names places (filter (λ name. contains nat_cmp name.0 (feats_along kept)) county.names))
           (sym names.places) (picked_read nat_cmp _ (feats_along kept) same_feats county.names);
       keys = polygons.keys ∙ picked_keys key_cmp _ (polygons_along kept) same_sides county.polygons;
-      polygons = subst (λ places. AreReadAt county.polygons places (filter (λ polygon. stands_in key_cmp polygon.0 (polygons_along kept)) county.polygons))
+      polygons = subst (λ places. AreReadAt county.polygons places (filter (λ polygon. contains key_cmp polygon.0 (polygons_along kept)) county.polygons))
           (sym polygons.places) (picked_read key_cmp _ (polygons_along kept) same_sides county.polygons);
       nodes = nodes ∙ distinct_same nat_keys (first_seen nat_cmp (grouped (keys_along chain_nodes county chains))) (nodes_along kept)
-          (λ k. seen_known nat_keys (grouped (keys_along chain_nodes county chains)) k ∙ ap (stands_in nat_cmp k) along_nodes);
+          (λ k. seen_known nat_keys (grouped (keys_along chain_nodes county chains)) k ∙ ap (contains nat_cmp k) along_nodes);
     }
 
 -- A part has all landmarks and links of the county, or none.

@@ -1,8 +1,8 @@
 -- Elements of a list that are picked by a test, or by a test of their places.
-use Rattle.tl_number.proofs.Common.{AllByRecursion, Ordering, at_all_places, map-at_places, range_with_len, slice_get-map, stands_in-filter}
+use Rattle.tl_number.proofs.Common.{AllByRecursion, Ordering, at_all_places, map-at_places, range_with_len, slice_get-map, contains-filter}
 use Rattle.tl_number.proofs.Common.{Bool, IsKeyOrder, all_filter, among_known, cond-false, cons_option, filter_map, option_map, same_somes}
 use Rattle.tl_number.proofs.Common.{IsApart, List, None, Some, [], ap, cond, filter, length, map, refl, sym, ℕ, ◌++◌, ◌∙◌, ◌∷◌, ◌≡◌}
-use Rattle.tl_number.proofs.Common.{Option, among-get, at_places, cond-true, cond_both, flat_map, place_in, same_Some, slice_get, stands_in}
+use Rattle.tl_number.proofs.Common.{Option, among-get, at_places, cond-true, cond_both, flat_map, place_in, same_Some, slice_get, contains}
 use Rattle.tl_number.proofs.Ties.KeyPlaces.{found_there}
 
 -- what is selected and passes, if a test of what it's selected from says the same
@@ -60,8 +60,8 @@ marked_alike {Y = Y} keep other test xs ys e marked place x there = go (slice_ge
 
 -- Keys that occur once are among those at some places if their places are.
 pub marked_keys : {K : Type 0} {cmp : K → K → Ordering} (o : IsKeyOrder cmp) (test : ℕ → Bool) (ks : List K) → IsApart cmp ks
-    → AreMarked (λ k. stands_in cmp k (at_places ks (filter test (range_with_len 0 (length ks))))) test ks
+    → AreMarked (λ k. contains cmp k (at_places ks (filter test (range_with_len 0 (length ks))))) test ks
 marked_keys {cmp = cmp} o test ks apart place k there =
-    ap (stands_in cmp k) (sym (filter_places (λ j. test (place_in cmp ks j)) test ks (λ q j e. ap test (found_there o ks apart q j e))))
-    ∙ stands_in-filter o (λ j. test (place_in cmp ks j)) k ks (among_known o k ks (among-get ks place k there))
+    ap (contains cmp k) (sym (filter_places (λ j. test (place_in cmp ks j)) test ks (λ q j e. ap test (found_there o ks apart q j e))))
+    ∙ contains-filter o (λ j. test (place_in cmp ks j)) k ks (among_known o k ks (among-get ks place k there))
     ∙ ap test (found_there o ks apart place k there)

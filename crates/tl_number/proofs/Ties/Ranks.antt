@@ -6,7 +6,7 @@ use Rattle.tl_number.proofs.Common.{filter-append, filter_all, first_seen, first
 use Rattle.tl_number.proofs.Common.{get_or-range_with_len, inl, inr, is_eq, known-here, known-later, known_is_among, length}
 use Rattle.tl_number.proofs.Common.{length-range_with_len, lt-ltb, ltb-true, map, map-append, nat_cmp, nat_cmp_is, nat_lt, nat_tests}
 use Rattle.tl_number.proofs.Common.{newly_seen, not, one_cmp, ordering_then, pieces_next, place_in, range_with_len, refl, same_or_not}
-use Rattle.tl_number.proofs.Common.{slice_cmp, slice_get-get_or, stands_in, subst, suc, sym, times, times-filter, times-yes, to_first_seen}
+use Rattle.tl_number.proofs.Common.{slice_cmp, slice_get-get_or, contains, subst, suc, sym, times, times-filter, times-yes, to_first_seen}
 use Rattle.tl_number.proofs.Common.{true, unknown_at_end, zero, ℕ, ◌++◌, ◌+◌, ◌<◌, ◌||◌, ◌∙◌, ◌∷◌, ◌≡◌, ◌⊎◌}
 use Rattle.tl_number.proofs.Ties.NewlySeen.{AreAlike, alike_append, alike_itself, newly_alike, newly_apart, newly_both, newly_known}
 use Rattle.tl_number.proofs.Ties.NewlySeen.{newly_unseen, seen_append, seen_newly}
@@ -264,7 +264,7 @@ module _ {K : Type 0} {cmp : K → K → Ordering} (o : IsKeyOrder cmp) where
       → filter test (first_seen_after cmp seen keys) ≡ first_seen_after cmp (filter test seen) (filter test keys)
   seen_filtered test seen [] = refl
   seen_filtered test seen (k ∷ keys) =
-      go (test k) refl (stands_in cmp k seen) refl (seen_filtered test seen keys) (seen_filtered test (seen ++ (k ∷ [])) keys)
+      go (test k) refl (contains cmp k seen) refl (seen_filtered test seen keys) (seen_filtered test (seen ++ (k ∷ [])) keys)
     where
       after : List K → List K
       after s = first_seen_after cmp s (filter test keys)
@@ -272,12 +272,12 @@ module _ {K : Type 0} {cmp : K → K → Ordering} (o : IsKeyOrder cmp) where
       grown : (b : Bool) → test k ≡ b → filter test (seen ++ (k ∷ [])) ≡ filter test seen ++ cond b (k ∷ []) []
       grown b e = filter-append test seen (k ∷ []) ∙ ap (λ a. filter test seen ++ cond a (k ∷ []) []) e
 
-      passed : (c : Bool) → test k ≡ true → stands_in cmp k seen ≡ c → first_seen_after cmp (filter test seen) (k ∷ filter test keys)
+      passed : (c : Bool) → test k ≡ true → contains cmp k seen ≡ c → first_seen_after cmp (filter test seen) (k ∷ filter test keys)
           ≡ cond c (after (filter test seen)) (after (filter test seen ++ (k ∷ [])))
       passed c e f = ap (λ b. cond b (after (filter test seen)) (after (filter test seen ++ (k ∷ []))))
           (ap (nat_lt 0) (times-filter o test k seen ∙ ap (λ b. cond b (times cmp k seen) 0) e) ∙ f)
 
-      go : (b : Bool) → test k ≡ b → (c : Bool) → stands_in cmp k seen ≡ c
+      go : (b : Bool) → test k ≡ b → (c : Bool) → contains cmp k seen ≡ c
           → filter test (first_seen_after cmp seen keys) ≡ after (filter test seen)
           → filter test (first_seen_after cmp (seen ++ (k ∷ [])) keys) ≡ after (filter test (seen ++ (k ∷ [])))
           → filter test (cond c (first_seen_after cmp seen keys) (first_seen_after cmp (seen ++ (k ∷ [])) keys))

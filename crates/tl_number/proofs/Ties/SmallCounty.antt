@@ -1,5 +1,5 @@
 -- The small county is a county within limits, and each of its choices has the chains that the county's choice has at kept places.
-use Rattle.tl_number.proofs.Common.{AllByRecursion, AllKeysStandIn, IsApart, IsWithinLimits, among-unpieces, arrangement_of, chain_polygons}
+use Rattle.tl_number.proofs.Common.{AllByRecursion, AllKeysContained, IsApart, IsWithinLimits, among-unpieces, arrangement_of, chain_polygons}
 use Rattle.tl_number.proofs.Common.{Among, Chain, Known, Option, arith, brings, chains, false, filter, length, lt-ltb, subst, times, tlids}
 use Rattle.tl_number.proofs.Common.{AreWhole, arrangement_apart, arrangement_known, arrangement_there, known-permutation, polygons-unturned}
 use Rattle.tl_number.proofs.Common.{Bool, among-get, among-map, ascending, at_places, each_from, is_linked, one_chain, one_entry, slice_get}
@@ -12,7 +12,7 @@ use Rattle.tl_number.proofs.Common.{Some, cond, inl, inr, map, refl, sym, true, 
 use Rattle.tl_number.proofs.Common.{among-unmap, among_known, is_kept, most_choices, most_records, polygon_keys, wanted_feats, wanted_nodes}
 use Rattle.tl_number.proofs.Common.{apart_from_sorted, arrangement_ascend, arrangement_of_number, numbered_arrangement, numbered_is_choice}
 use Rattle.tl_number.proofs.Common.{choices, contains-among, directed_chain, directed_shape, known_is_among, option_to_list, polygons_along}
-use Rattle.tl_number.proofs.Common.{flat_map, group_at, key_keys, link_key, nat_keys, one_here, stands_in, to_filter, turned_if, unwrap_or}
+use Rattle.tl_number.proofs.Common.{flat_map, group_at, key_keys, link_key, nat_keys, one_here, contains, to_filter, turned_if, unwrap_or}
 use Rattle.tl_number.proofs.Common.{numbered_choice, shapes_ascending, shapes_of_order, slice_get-get_or, turned_directed, wanted_polygons}
 use Rattle.tl_number.proofs.Ties.CountyParts.{all_pass, part_is, part_sides, part_within}
 use Rattle.tl_number.proofs.Ties.PickedPlaces.{AreMarked, marked_alike, marked_keys, pieces_places}
@@ -38,7 +38,7 @@ module _ (county : County) (shapes : OrderOfShapes) (known : LeavesChoices count
 
   -- whether a TLID is kept, and a chain in a direction
   abbrev pub keeps : ℕ → Bool
-  keeps tlid = stands_in nat_cmp tlid (kept_tlids county shapes)
+  keeps tlid = contains nat_cmp tlid (kept_tlids county shapes)
 
   abbrev keeps_directed : ℕ × Bool → Bool
   keeps_directed directed = keeps directed.0
@@ -63,7 +63,7 @@ module _ (county : County) (shapes : OrderOfShapes) (known : LeavesChoices count
   -- and their TLIDs are kept where their places are.
   tlids_marked : AreMarked (λ directed. keeps (tlid_of directed)) (is_kept county shapes) by_shape
   tlids_marked place directed there =
-      ap (stands_in nat_cmp (tlid_of directed)) (map-at_places tlid_of by_shape (kept_places county shapes)
+      ap (contains nat_cmp (tlid_of directed)) (map-at_places tlid_of by_shape (kept_places county shapes)
       ∙ ap (λ n. at_places (map tlid_of by_shape) (filter (is_kept county shapes) (range_with_len 0 n))) (sym (length-map by_shape tlid_of)))
       ∙ marked_keys nat_keys (is_kept county shapes) (map tlid_of by_shape)
       (subst (IsApart nat_cmp) (ascending_by_shape (λ d. d.0)) (arrangement_apart county (ascending county) is (shapes_arrange county is)))
@@ -82,12 +82,12 @@ module _ (county : County) (shapes : OrderOfShapes) (known : LeavesChoices count
           ∙ ap (open_places points_cmp is_either_way 0) (shapes_of_order county by_shape known.order.by_shape ∙ sym (shapes_ascending county is))
 
   -- The directed chain at a place, and its entry.
-  record IsAt (place : ℕ) (directed : DirectedChain) (entry : ℕ × Chain) : Type 0 where
+  record IsEntryAt (place : ℕ) (directed : DirectedChain) (entry : ℕ × Chain) : Type 0 where
     there : slice_get by_shape place ≡ Some directed
     found : slice_get county.chains directed.place ≡ Some entry
     tlid : tlid_of directed ≡ entry.0
 
-  entry_at : (place : ℕ) (directed : DirectedChain) → slice_get by_shape place ≡ Some directed → (entry : ℕ × Chain) × IsAt place directed entry
+  entry_at : (place : ℕ) (directed : DirectedChain) → slice_get by_shape place ≡ Some directed → (entry : ℕ × Chain) × IsEntryAt place directed entry
   entry_at place directed there =
       let here = one_here county is directed.place
       (all_among (λ d. d.place < length county.chains) directed by_shape chains_there (among-get by_shape place directed there)) in
@@ -95,7 +95,7 @@ module _ (county : County) (shapes : OrderOfShapes) (known : LeavesChoices count
 
   -- each chain has a place
   place_of : (entry : ℕ × Chain) → Among entry county.chains
-      → (place : ℕ) × (place < length by_shape) × ((directed : DirectedChain) × IsAt place directed entry)
+      → (place : ℕ) × (place < length by_shape) × ((directed : DirectedChain) × IsEntryAt place directed entry)
   place_of entry m =
       let tlid : Known nat_cmp (map (λ (d : ℕ × Bool). d.0) (ascending county)) entry.0 =
       known-permutation nat_keys entry.0 (map (λ (d : ℕ × Bool). d.0) (ascending county)) (tlids county) (shapes_arrange county is)
@@ -106,13 +106,13 @@ module _ (county : County) (shapes : OrderOfShapes) (known : LeavesChoices count
       let own = entry_at at.0 directed.0 (slice_get-get_or by_shape at.0 directed.0 at.1 ∙ ap Some at.2) in
       let same : own.0 ≡ entry = one_entry nat_keys county.chains (apart_from_sorted nat_keys (tlids county) is.ascending.chains) own.0 entry
       (among-get county.chains directed.0.place own.0 own.1.found) m (sym own.1.tlid ∙ sym directed.2) in
-      (at.0, at.1, (directed.0, subst (IsAt at.0 directed.0) same own.1))
+      (at.0, at.1, (directed.0, subst (IsEntryAt at.0 directed.0) same own.1))
 
   abbrev along : List (List PolygonKey)
   along = keys_along chain_polygons county by_shape
 
   -- its sides have the polygons of the place
-  sides_at : (place : ℕ) (directed : DirectedChain) (entry : ℕ × Chain) → IsAt place directed entry
+  sides_at : (place : ℕ) (directed : DirectedChain) (entry : ℕ × Chain) → IsEntryAt place directed entry
       → group_at along place ≡ chain_polygons (turned_if directed.turned entry.1)
   sides_at place directed entry at =
       let sides : DirectedChain → List PolygonKey = λ d. flat_map chain_polygons (option_to_list (directed_chain county d)) in
@@ -122,7 +122,7 @@ module _ (county : County) (shapes : OrderOfShapes) (known : LeavesChoices count
       ∙ append-nil (chain_polygons (turned_if directed.turned entry.1))
 
   -- If its place is kept, it's kept, with its polygons.
-  on_kept : (place : ℕ) (directed : DirectedChain) (entry : ℕ × Chain) → IsAt place directed entry → is_kept county shapes place ≡ true
+  on_kept : (place : ℕ) (directed : DirectedChain) (entry : ℕ × Chain) → IsEntryAt place directed entry → is_kept county shapes place ≡ true
       → (k : PolygonKey) → Among k (chain_polygons entry.1) → Known key_cmp (polygons_along kept_chains) k
   on_kept place directed entry at kept k m =
       among_known key_keys k (polygons_along kept_chains) (among-pieces (λ (e : ℕ × Chain). chain_polygons e.1) entry k kept_chains
@@ -140,14 +140,14 @@ module _ (county : County) (shapes : OrderOfShapes) (known : LeavesChoices count
   brings_name p = brings nat_cmp shapes.places (wanted_feats county shapes) (keys_along chain_feats county by_shape) p
 
   -- So a wanted polygon that is on a side is on a chain that is kept: at its own place, or at its first fixed one.
-  on_sides : (k : PolygonKey) → stands_in key_cmp k (wanted_polygons county shapes) ≡ true → Known key_cmp (polygons_along county.chains) k
+  on_sides : (k : PolygonKey) → contains key_cmp k (wanted_polygons county shapes) ≡ true → Known key_cmp (polygons_along county.chains) k
       → Known key_cmp (polygons_along kept_chains) k
   on_sides k is_wanted h =
       let entry = among-unpieces (λ (e : ℕ × Chain). chain_polygons e.1) k county.chains (known_is_among key_keys k (polygons_along county.chains) h) in
       let place = place_of entry.0 entry.1 in
       here place.0 place.1 place.2.0 entry.0 place.2.1 entry.2 (cases_Bool (is_kept county shapes place.0))
     where
-      here : (p : ℕ) → p < length by_shape → (directed : DirectedChain) (entry : ℕ × Chain) → IsAt p directed entry → Among k (chain_polygons entry.1)
+      here : (p : ℕ) → p < length by_shape → (directed : DirectedChain) (entry : ℕ × Chain) → IsEntryAt p directed entry → Among k (chain_polygons entry.1)
           → (is_kept county shapes p ≡ true) ⊎ (is_kept county shapes p ≡ false) → Known key_cmp (polygons_along kept_chains) k
       here p below directed entry at m (inl kept) = on_kept p directed entry at kept k m
       here p below directed entry at m (inr out) =
@@ -164,9 +164,9 @@ module _ (county : County) (shapes : OrderOfShapes) (known : LeavesChoices count
           (subst (Among k) (sides_at first.first other.0 own.0 own.1) (known_is_among key_keys k (group_at along first.first) first.here)))
 
   -- So all polygons of kept landmarks are on kept chains.
-  pub links_on_sides : is_linked county shapes ≡ true → AllByRecursion (λ link. IsTrue (stands_in key_cmp (link_key link)
+  pub links_on_sides : is_linked county shapes ≡ true → AllByRecursion (λ link. IsTrue (contains key_cmp (link_key link)
       (polygons_along (filter (λ entry. keeps entry.0) county.chains)))) county.links
-  links_on_sides e = each_from (λ link. IsTrue (stands_in key_cmp (link_key link) (polygons_along kept_chains))) county.links
+  links_on_sides e = each_from (λ link. IsTrue (contains key_cmp (link_key link) (polygons_along kept_chains))) county.links
       (λ link m. lt-ltb 0 (times key_cmp (link_key link) (polygons_along kept_chains)) (on_sides (link_key link)
       (lt-ltb 0 (times key_cmp (link_key link) (wanted_polygons county shapes)) (among_known key_keys (link_key link) (wanted_polygons county shapes)
       (subst (λ b. Among (link_key link) (keys_at_open chain_polygons county shapes ++ cond b (map link_key county.links) [])) (sym e)
@@ -179,7 +179,7 @@ module _ (county : County) (shapes : OrderOfShapes) (known : LeavesChoices count
   small_is = part_is county (λ entry. keeps entry.0) (is_linked county shapes) is links_on_sides
 
   -- all its polygons are on sides,
-  pub small_sides : AllKeysStandIn (polygons_along small.chains) (polygon_keys small)
+  pub small_sides : AllKeysContained (polygons_along small.chains) (polygon_keys small)
   unfolding small_county
   small_sides = part_sides county (λ entry. keeps entry.0) (is_linked county shapes) is
 

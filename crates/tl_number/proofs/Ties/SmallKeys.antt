@@ -2,7 +2,7 @@
 use Rattle.tl_number.proofs.Common.{AllByRecursion, Bool, Chain, County, DirectedChain, FieldsOf, Greater, IsKeyOrder, Known, Less, List}
 use Rattle.tl_number.proofs.Common.{None, Option, Ordering, RecordType, Renumbering, Some, [], ap, bodies_read, brings, directed_chain}
 use Rattle.tl_number.proofs.Common.{false, first_seen, grouped, is_open, keys_along, length, map, nat_cmp, nat_cmp_is, nat_cmp_total}
-use Rattle.tl_number.proofs.Common.{option_map, read_there, refl, renumbered, slice_get, stands_in, subst, suc, sym, tied_itself, true}
+use Rattle.tl_number.proofs.Common.{option_map, read_there, refl, renumbered, slice_get, contains, subst, suc, sym, tied_itself, true}
 use Rattle.tl_number.proofs.Common.{unwrap_or, ℕ, ◌<◌, ◌∙◌, ◌≡◌}
 use Rattle.tl_number.proofs.Ties.CriticalKeys.{Stay, alike_there, fixed_there, key_of_chain}
 use Rattle.tl_number.proofs.Ties.KeptParts.{all_are_there, chain_at_rank}
@@ -35,7 +35,7 @@ pub record AreWanted {K : Type 0} {cmp : K → K → Ordering} (kind : KeyKind c
   pub alike : (n k : ℕ) → AreNumberedAlike cmp wanted (kind.all whole.county) (kind.all small.county)
       (kind.number (new_in whole n)) (kind.number (new_in whole k)) (kind.number (new_in small n)) (kind.number (new_in small k))
   pub opened : (i place : ℕ) (c : Chain) → is_open whole.shapes.places place ≡ true → slice_get (chains_at whole i) place ≡ Some c → (k : K)
-      → Known cmp (kind.keys c) k → stands_in cmp k wanted ≡ true
+      → Known cmp (kind.keys c) k → contains cmp k wanted ≡ true
   pub kept : (place : ℕ) → brings cmp whole.shapes.places wanted (keys_along kind.keys whole.county whole.shapes.by_shape) place ≡ true
       → is_in place ≡ true
   pub left_out : (place : ℕ) → is_in place ≡ false
@@ -72,8 +72,8 @@ module _ {K : Type 0} {cmp : K → K → Ordering} (kind : KeyKind cmp) where
     AreKeysOf i j = IsKeyOf cmp kind.keys whole i j × IsKeyOf cmp kind.keys small i j
 
     -- Numbers of keys compare alike if both keys are wanted or missing: a missing key comes before each other one.
-    wanted_pair : (p q : Option K) → ((j : K) → p ≡ Some j → (stands_in cmp j are.wanted ≡ true) × AreKeysOf n j)
-        → ((j : K) → q ≡ Some j → (stands_in cmp j are.wanted ≡ true) × AreKeysOf k j) → CompareAlike p q
+    wanted_pair : (p q : Option K) → ((j : K) → p ≡ Some j → (contains cmp j are.wanted ≡ true) × AreKeysOf n j)
+        → ((j : K) → q ≡ Some j → (contains cmp j are.wanted ≡ true) × AreKeysOf k j) → CompareAlike p q
     wanted_pair None None h l = refl
     wanted_pair None (Some j) h l =
         let at = (l j refl).1 in
@@ -91,9 +91,9 @@ module _ {K : Type 0} {cmp : K → K → Ordering} (kind : KeyKind cmp) where
     -- They also do if both are one key.
     same_pair : (p : Option K) → ((j : K) → p ≡ Some j → AreKeysOf n j) → CompareAlike p p
     same_pair None h = refl
-    same_pair (Some j) h = go (stands_in cmp j are.wanted) refl (kind.in_all whole n j (h j refl).0) (kind.in_all small n j (h j refl).1)
+    same_pair (Some j) h = go (contains cmp j are.wanted) refl (kind.in_all whole n j (h j refl).0) (kind.in_all small n j (h j refl).1)
       where
-        go : (b : Bool) → stands_in cmp j are.wanted ≡ b → Known cmp (kind.all whole.county) j → Known cmp (kind.all small.county) j
+        go : (b : Bool) → contains cmp j are.wanted ≡ b → Known cmp (kind.all whole.county) j → Known cmp (kind.all small.county) j
             → CompareAlike (Some j) (Some j)
         go true e l m = (are.alike n k).wanted_alike j j e e m m
         go false e l m =

@@ -3,7 +3,7 @@ use Rattle.tl_number.proofs.Common.{Among, Body7, Bool, Eight, Equal, Fields8, L
 use Rattle.tl_number.proofs.Common.{bytes_cmp, carried_link, each_from, filter, filter-mapped, from_in_order, groups_cmp, image, in_order}
 use Rattle.tl_number.proofs.Common.{key_cmp, landmark_body_cmp, landmark_key, landmark_key_cmp, landmarks_in_order, lands_renamed, link_cmp}
 use Rattle.tl_number.proofs.Common.{link_key, link_part, link_part_cmp, links_arranged, links_of, map, map-map, nat_cmp, new_keys, numbered}
-use Rattle.tl_number.proofs.Common.{on, ordering_then, packed_sevens, polygons_renamed, refl, relinked, same_groups, slice_cmp, stands_in}
+use Rattle.tl_number.proofs.Common.{on, ordering_then, packed_sevens, polygons_renamed, refl, relinked, same_groups, slice_cmp, contains}
 use Rattle.tl_number.proofs.Common.{subst, sym, table_8, true, type_7_by_landmark, type_8_together, ℕ, ◌==◌, ◌∙◌, ◌∷◌, ◌≡◌}
 use Rattle.tl_number.proofs.Ties.ListsAlike.{among_filtered, images_alike, order_alike, order_mapped}
 use Rattle.tl_number.proofs.Ties.SmallRecords.{OrderedCounty, arranges_in, choice, choices_decide, eights_fit, images_in_order, new_in}
@@ -39,7 +39,7 @@ eights_tie c n k same = same_groups Eight (type_8_together (choice c n)) (type_8
 -- A small county with all landmarks and links. All polygons of links are wanted.
 module _ {whole small : OrderedCounty} {is_in : ℕ → Bool} (polygons : AreWanted polygon_kind whole small is_in)
     (landmarks : small.county.landmarks ≡ whole.county.landmarks) (links : small.county.links ≡ whole.county.links)
-    (wanted : (link : Fields8) → Among link whole.county.links → stands_in key_cmp (link_key link) polygons.wanted ≡ true) where
+    (wanted : (link : Fields8) → Among link whole.county.links → contains key_cmp (link_key link) polygons.wanted ≡ true) where
   -- the numbers of polygons of links compare alike
   numbers_alike : (n k : ℕ) (x y : Fields8) → Among x whole.county.links → Among y whole.county.links
       → nat_cmp (polygon_number (new_in whole n) (link_key x)) (polygon_number (new_in whole k) (link_key y))

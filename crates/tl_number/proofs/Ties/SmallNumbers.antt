@@ -4,7 +4,7 @@ use Rattle.tl_number.proofs.Common.{OrderOfShapes, Ordering, PolygonKey, Renumbe
 use Rattle.tl_number.proofs.Common.{chain_feats, chain_nodes, chain_polygons, cond, feats, first_seen, flat_map, from_first_seen, grouped}
 use Rattle.tl_number.proofs.Common.{image, is_linked, is_open, kept_tlids, key_cmp, key_keys, keys_along, keys_at_open, known-left}
 use Rattle.tl_number.proofs.Common.{link_key, map, most_records, name_under, nat_cmp, nat_keys, nodes_along, nodes_from_placed}
-use Rattle.tl_number.proofs.Common.{option_to_list, placed, polygons_along, polygons_from_placed, slice_get, stands_in, subst, sym, true}
+use Rattle.tl_number.proofs.Common.{option_to_list, placed, polygons_along, polygons_from_placed, slice_get, contains, subst, sym, true}
 use Rattle.tl_number.proofs.Common.{turned, wanted_feats, wanted_nodes, wanted_polygons, ℕ, ◌≡◌}
 use Rattle.tl_number.proofs.Ties.TopologyOrder.{all_nodes, all_polygons, new_node, new_polygon, turned_nodes, turned_polygons}
 use Rattle.tl_number.proofs.{Ties.Alike.AreNumberedAlike, Ties.CriticalKeys.chains_of, Ties.NamesInOrder.seen_name, Ties.NewlySeen.AreAlike}
@@ -40,7 +40,7 @@ module _ (county : County) (shapes : OrderOfShapes) (known : LeavesChoices count
   -- The keys of a chain at an open place of a choice are wanted, if all those at open places of the order of shapes are.
   abbrev AreWanted : {K : Type 0} → (K → K → Ordering) → (Chain → List K) → List K → Type 0
   AreWanted {K} cmp keys wanted_keys = (n place : ℕ) (c : Chain) → is_open shapes.places place ≡ true
-      → slice_get (chains_in county shapes known is within n) place ≡ Some c → (k : K) → Known cmp (keys c) k → stands_in cmp k wanted_keys ≡ true
+      → slice_get (chains_in county shapes known is within n) place ≡ Some c → (k : K) → Known cmp (keys c) k → contains cmp k wanted_keys ≡ true
 
   open_chain_wanted : {K : Type 0} {cmp : K → K → Ordering} (o : IsKeyOrder cmp) (keys : Chain → List K)
       (turned_keys : (chain : Chain) → AreAlike cmp (keys (turned chain)) (keys chain)) (wanted_keys : List K)
@@ -64,7 +64,7 @@ module _ (county : County) (shapes : OrderOfShapes) (known : LeavesChoices count
 small_content : (county : County) (shapes : OrderOfShapes) (k : ℕ) → Known nat_cmp (feats (small_county county shapes)) k
     → name_under (small_county county shapes) k ≡ name_under county k
 unfolding small_county
-small_content county shapes = part_contents county (λ entry. stands_in nat_cmp entry.0 (kept_tlids county shapes)) (is_linked county shapes)
+small_content county shapes = part_contents county (λ entry. contains nat_cmp entry.0 (kept_tlids county shapes)) (is_linked county shapes)
 
 -- A county and its small county, with an order of its own.
 module _ (county : County) (shapes : OrderOfShapes) (known : LeavesChoices county shapes) (is : IsCounty county)

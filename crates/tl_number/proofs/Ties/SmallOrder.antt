@@ -4,7 +4,7 @@ use Rattle.tl_number.proofs.Common.{LeavesChoices, List, OrderOfShapes, P, Polyg
 use Rattle.tl_number.proofs.Common.{arranged, chain_polygons, choices, choices_cmp, cond, false, first_open, groups_cmp, is_gt, is_kept}
 use Rattle.tl_number.proofs.Common.{is_linked, is_open, key_cmp, key_keys, keys_along, keys_at_open, known-right, link_key, lt-ltb, map}
 use Rattle.tl_number.proofs.Common.{most_records, nat_cmp, or_left, or_parts, or_right, ordering_then, packed, polygon_under}
-use Rattle.tl_number.proofs.Common.{polygons_along, refl, same_groups, slice_cmp, stands_in, subst, sym, text_of, texts_in_order, times}
+use Rattle.tl_number.proofs.Common.{polygons_along, refl, same_groups, slice_cmp, contains, subst, sym, text_of, texts_in_order, times}
 use Rattle.tl_number.proofs.Common.{true, type_2_by_chain, type_5_by_name, type_8_together, type_p_by_number, types_1_to_4_cmp}
 use Rattle.tl_number.proofs.Common.{types_5_to_7_cmp, types_8_to_p_cmp, wanted_feats, wanted_nodes, wanted_polygons, ℕ, ◌<◌, ◌∙◌, ◌≡◌}
 use Rattle.tl_number.proofs.Ties.SmallLinks.{eights_tie, linked_alike, sevens_tie}
@@ -58,7 +58,7 @@ contents_kept : (county : County) (shapes : OrderOfShapes) (key : PolygonKey) �
     → polygon_under (small_county county shapes) key ≡ polygon_under county key
 unfolding small_county part_of
 contents_kept county shapes key known =
-    value_filtered key_keys (λ k. stands_in key_cmp k (polygons_along (small_county county shapes).chains)) county.polygons key
+    value_filtered key_keys (λ k. contains key_cmp k (polygons_along (small_county county shapes).chains)) county.polygons key
     (lt-ltb 0 (times key_cmp key (polygons_along (small_county county shapes).chains)) known)
 
 -- A county and its small county, with an order of its own.
@@ -112,7 +112,7 @@ module _ (county : County) (shapes : OrderOfShapes) (known : LeavesChoices count
 
   -- Links compare alike. If the small county has landmarks, the polygons of all links are wanted.
   wanted_links : is_linked county shapes ≡ true → (link : Fields8) → Among link county.links
-      → stands_in key_cmp (link_key link) (wanted_polygons county shapes) ≡ true
+      → contains key_cmp (link_key link) (wanted_polygons county shapes) ≡ true
   wanted_links linked link there = lt-ltb 0 (times key_cmp (link_key link) (wanted_polygons county shapes))
       (known-right key_keys (link_key link) (keys_at_open chain_polygons county shapes) (cond (is_linked county shapes) (map link_key county.links) [])
       (subst (λ b. Known key_cmp (cond b (map link_key county.links) []) (link_key link)) (sym linked)
@@ -124,8 +124,8 @@ module _ (county : County) (shapes : OrderOfShapes) (known : LeavesChoices count
   closed_links unlinked n k link there =
       let opened : List PolygonKey = first_open key_cmp shapes.places (keys_along chain_polygons county shapes.by_shape) in
       polygons_stay county shapes known is within small.county order small_known small.is small.within part.chains n k (link_key link)
-      (all_among (λ l. stands_in key_cmp (link_key l) opened ≡ false) link county.links
-      (all_fail (λ (l : Fields8). stands_in key_cmp (link_key l) opened) county.links unlinked) there)
+      (all_among (λ l. contains key_cmp (link_key l) opened ≡ false) link county.links
+      (all_fail (λ (l : Fields8). contains key_cmp (link_key l) opened) county.links unlinked) there)
       (link_on_side county is known.sides link there)
 
   links_small : (n k : ℕ) → groups_cmp Eight (type_8_together (choice whole n)) (type_8_together (choice whole k))

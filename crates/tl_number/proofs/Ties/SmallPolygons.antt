@@ -5,7 +5,7 @@ use Rattle.tl_number.proofs.Common.{false, filter, filter_map, first_seen-apart,
 use Rattle.tl_number.proofs.Common.{is_some, key_cmp, key_keys, lefts-numbered, map, map-equal_all, map-map, nat_list_cmp_total, numbered}
 use Rattle.tl_number.proofs.Common.{numbered_choice, option_and_then, packed_body, packed_p, placed, polygon_lefts, polygon_under}
 use Rattle.tl_number.proofs.Common.{polygons_along, polygons_by_number, polygons_fit, polygons_in_order, polygons_renamed, records_cmp}
-use Rattle.tl_number.proofs.Common.{refl, slice_cmp, spelling_cmp, spelling_of, stands_in, subst, sym, table_p, tied_itself, true}
+use Rattle.tl_number.proofs.Common.{refl, slice_cmp, spelling_cmp, spelling_of, contains, subst, sym, table_p, tied_itself, true}
 use Rattle.tl_number.proofs.Common.{type_p_by_number, under_cenid, under_number, unwrap_or, ℕ, ◌∙◌, ◌∷◌, ◌≡◌}
 use Rattle.tl_number.proofs.Ties.Columns.{columns_alike, fields_cmp, lists_decide}
 use Rattle.tl_number.proofs.Ties.ListsAlike.{among_filtered, filters_alike, filters_swap}
@@ -113,7 +113,7 @@ module _ {whole small : OrderedCounty} {is_in : ℕ → Bool} (polygons : AreWan
     (contents : (key : PolygonKey) → Known key_cmp (polygons_along small.county.chains) key
     → polygon_under small.county key ≡ polygon_under whole.county key) where
   abbrev pub is_wanted : PolygonKey → Bool
-  is_wanted key = stands_in key_cmp key polygons.wanted
+  is_wanted key = contains key_cmp key polygons.wanted
 
   module _ (same : (i : ℕ) → filter is_wanted (seen_in whole i) ≡ filter is_wanted (seen_in small i)) where
     abbrev pub Masked : OrderedCounty → ℕ → ℕ → Type 0

@@ -5,7 +5,7 @@ use Rattle.tl_number.proofs.Common.{at_places, brings, chains, directed_chain, f
 use Rattle.tl_number.proofs.Common.{first_seen, flat_map, from_first_seen, group_at, group_of, grouped, grouped_map, is_kept, is_open}
 use Rattle.tl_number.proofs.Common.{keys_along, keys_at_open, known_is_among, length, length-map, lt-ltb, map, map-at_places, most_records}
 use Rattle.tl_number.proofs.Common.{nat_cmp, none_past, option_map, option_to_list, or_left, or_parts, other_way, place_in, places_within}
-use Rattle.tl_number.proofs.Common.{range_with_len, refl, slice_get, slice_get-map, stands_in, subst, sym, times, to_filter, to_first_seen}
+use Rattle.tl_number.proofs.Common.{range_with_len, refl, slice_get, slice_get-map, contains, subst, sym, times, to_filter, to_first_seen}
 use Rattle.tl_number.proofs.Common.{true, turned, unwrap_or, ℕ, ◌+◌, ◌∙◌, ◌≡◌}
 use Rattle.tl_number.proofs.Ties.Ranks.{AreReordered, IsBrought, in_filtered, in_range, masked_by, next_cmp, places_alike, reordered_all}
 use Rattle.tl_number.proofs.Ties.Ranks.{reordered_back, reordered_then, same_place, same_wanted, to_filtered}
@@ -18,13 +18,13 @@ use Rattle.tl_number.specs.SmallCounty.{kept_places}
 -- Numbers of keys in the choices of a county: their places in lists that differ in wanted keys alone, counted from 1.
 pub record AreNumbered {K : Type 0} (cmp : K → K → Ordering) (wanted_keys all : List K) (list : ℕ → List K) (number : ℕ → K → ℕ) : Type 0
   where
-    pub masked : (n m : ℕ) → masked_by (λ k. stands_in cmp k wanted_keys) (list n) ≡ masked_by (λ k. stands_in cmp k wanted_keys) (list m)
+    pub masked : (n m : ℕ) → masked_by (λ k. contains cmp k wanted_keys) (list n) ≡ masked_by (λ k. contains cmp k wanted_keys) (list m)
     pub listed : (n : ℕ) (k : K) → Known cmp all k → Known cmp (list n) k
     pub number_is : (n : ℕ) (k : K) → Known cmp (list n) k → number n k ≡ 1 + place_in cmp (list n) k
 
 module _ {K : Type 0} {cmp : K → K → Ordering} (o : IsKeyOrder cmp) (wanted_keys : List K) where
   abbrev is_wanted : K → Bool
-  is_wanted k = stands_in cmp k wanted_keys
+  is_wanted k = contains cmp k wanted_keys
 
   -- the numbers of wanted keys compare as their places among wanted keys do, and each other key has one number
   numbers_compare : (all : List K) (list : ℕ → List K) (number : ℕ → K → ℕ) → AreNumbered cmp wanted_keys all list number
@@ -139,7 +139,7 @@ module _ (county : County) (shapes : OrderOfShapes) (known : LeavesChoices count
         (among-pieces along there.0 k (filter keep places) (to_filter keep there.0 places place.0 (open_kept there.0 place.1)) there.2))))
 
   -- A key that doesn't first appear at an open place of the order of shapes has one place in all choices.
-  pub unopened_stays : (n m : ℕ) (k : K) → stands_in cmp k (first_open cmp shapes.places (keys_along keys county shapes.by_shape)) ≡ false
+  pub unopened_stays : (n m : ℕ) (k : K) → contains cmp k (first_open cmp shapes.places (keys_along keys county shapes.by_shape)) ≡ false
       → place_in cmp (all_of n) k ≡ place_in cmp (all_of m) k
   unopened_stays n m k e = same_place o opened (all_of n) (all_of m) (reordered_all o opened (all_of n) (all_of m)
       (rw (← read_all n, ← read_all m) (between opened (λ p. true) (λ p f. refl)
@@ -147,12 +147,12 @@ module _ (county : County) (shapes : OrderOfShapes) (known : LeavesChoices count
       (λ j h. lt-ltb 0 (times cmp j (first_open cmp shapes.places (keys_along keys county shapes.by_shape))) h)) n m))) k e
     where
       opened : K → Bool
-      opened j = stands_in cmp j (first_open cmp shapes.places (keys_along keys county shapes.by_shape))
+      opened j = contains cmp j (first_open cmp shapes.places (keys_along keys county shapes.by_shape))
 
   -- If all keys at open places are wanted:
   module _ (wanted_keys : List K) (opened_wanted : (k : K) → Known cmp (keys_at_open keys county shapes) k → Known cmp wanted_keys k) where
     abbrev wanted : K → Bool
-    wanted k = stands_in cmp k wanted_keys
+    wanted k = contains cmp k wanted_keys
 
     open_wanted : (k : K) → Known cmp (tested (is_open shapes.places) shapes.by_shape) k → wanted k ≡ true
     open_wanted k h = lt-ltb 0 (times cmp k wanted_keys) (opened_wanted k (subst (λ ks. Known cmp ks k) read_open h))

@@ -5,7 +5,7 @@ use Rattle.tl_number.proofs.Common.{apart-permutation_of, apart_from_sorted, ap�
 use Rattle.tl_number.proofs.Common.{feats_in_order, filter, filter-mapped, first_seen, image, in_order-filter, in_order-permutation}
 use Rattle.tl_number.proofs.Common.{is_open, known-permutation, length, length_permutation, ltb-true, most_records, name_body_cmp}
 use Rattle.tl_number.proofs.Common.{name_under, nat_cmp, nat_keys, option_cmp, or_right, ordering_then, place_in, rank_of, ranked_there}
-use Rattle.tl_number.proofs.Common.{refl, stands_in, subst, sym, times, true, wanted_feats, ℕ, ◌∙◌, ◌≡◌}
+use Rattle.tl_number.proofs.Common.{refl, contains, subst, sym, times, true, wanted_feats, ℕ, ◌∙◌, ◌≡◌}
 use Rattle.tl_number.proofs.Names.NamePlaces.{feat_cmp, feat_keys, feats_ordered, feats_permuted, name_stays}
 use Rattle.tl_number.proofs.Ties.NamesInOrder.{feat_numbered, feats_grouped, seen_name, turned_feats}
 use Rattle.tl_number.proofs.Ties.Ranks.{AreReordered, before_alike, in_filtered, masked_by, masked_from_stay, next_cmp, places_alike}
@@ -65,10 +65,10 @@ module _ (county : County) (shapes : OrderOfShapes) (known : LeavesChoices count
 
   -- their numbers are their places
   names_numbered : (wanted_keys : List ℕ)
-      → ((n m : ℕ) → AreReordered nat_keys (λ k. stands_in nat_cmp k wanted_keys) (seen_in n) (seen_in m))
+      → ((n m : ℕ) → AreReordered nat_keys (λ k. contains nat_cmp k wanted_keys) (seen_in n) (seen_in m))
       → AreNumbered nat_cmp wanted_keys (feats county) names_of (λ n. image nat_cmp (new_of county shapes known is within n).names)
   names_numbered wanted_keys are = record {
-    masked = λ n m. names_masked (λ k. stands_in nat_cmp k wanted_keys) n m (are n m);
+    masked = λ n m. names_masked (λ k. contains nat_cmp k wanted_keys) n m (are n m);
     listed = name_there;
     number_is = λ n k h. feat_numbered county (chosen n) is (whole_numbered county shapes known is within n) k h;
   }
@@ -81,7 +81,7 @@ module _ (county : County) (shapes : OrderOfShapes) (known : LeavesChoices count
     (same_content : (k : ℕ) → Known nat_cmp (feats small) k → name_under small k ≡ name_under county k) where
   -- the names that are wanted
   abbrev wanted : ℕ → Bool
-  wanted k = stands_in nat_cmp k (wanted_feats county shapes)
+  wanted k = contains nat_cmp k (wanted_feats county shapes)
 
   -- the same lists in both counties
   abbrev names_in : ℕ → List ℕ
@@ -165,6 +165,6 @@ pub part_contents : (county : County) (keeps : ℕ × Chain → Bool) (with_land
     → name_under (part_of county keeps with_landmarks) k ≡ name_under county k
 unfolding part_of
 part_contents county keeps with_landmarks k h =
-    let used : ℕ → Bool = λ feat. stands_in nat_cmp feat (feats_along (filter keeps county.chains)) in
+    let used : ℕ → Bool = λ feat. contains nat_cmp feat (feats_along (filter keeps county.chains)) in
     value_filtered nat_keys used county.names k (in_filtered nat_keys used (feats county) k
     (subst (λ ks. Known nat_cmp ks k) (sym (filter-mapped used (λ (name : ℕ × Body5). name.0) county.names)) h)).1

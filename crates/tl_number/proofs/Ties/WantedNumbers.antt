@@ -2,7 +2,7 @@
 use Rattle.tl_number.proofs.Common.{Arrangement, PolygonKey, chain_nodes, first_open, keys_at_open, most_records, nodes_along, wanted_nodes}
 use Rattle.tl_number.proofs.Common.{Bool, County, Known, List, ap, false, filter, nat_cmp, or_left, placed, subst, sym, ◌+◌, ◌∙◌, ◌≡◌}
 use Rattle.tl_number.proofs.Common.{IsCounty, arranges, is_open, key_cmp, key_keys, keys_along, known-left, nat_keys, or_right, place_in, ℕ}
-use Rattle.tl_number.proofs.Common.{IsWithinLimits, OrderOfShapes, arrangement_of, chain_polygons, polygons_along, stands_in, to_first_seen}
+use Rattle.tl_number.proofs.Common.{IsWithinLimits, OrderOfShapes, arrangement_of, chain_polygons, polygons_along, contains, to_first_seen}
 use Rattle.tl_number.proofs.Common.{LeavesChoices, nodes_to_placed, numbered_choice, polygons_in_order, polygons_to_placed, wanted_polygons}
 use Rattle.tl_number.proofs.Ties.TieNumbers.{choice_of, chosen_chains, whole_numbered}
 use Rattle.tl_number.proofs.Ties.TopologyOrder.{all_nodes, all_polygons, new_node, new_polygon, node_is, polygon_is, turned_nodes}
@@ -104,7 +104,7 @@ module _ (county : County) (shapes : OrderOfShapes) (known : LeavesChoices count
 
   -- a polygon that doesn't first appear at an open place has one number
   pub polygons_stay : (n m : ℕ) (k : PolygonKey)
-      → stands_in key_cmp k (first_open key_cmp shapes.places (keys_along chain_polygons county shapes.by_shape)) ≡ false
+      → contains key_cmp k (first_open key_cmp shapes.places (keys_along chain_polygons county shapes.by_shape)) ≡ false
       → Known key_cmp (polygons_along county.chains) k
       → (new_polygon (new_of county shapes known is within n) k).1 ≡ (new_polygon (new_of county shapes known is within m) k).1
   polygons_stay n m k e h =
@@ -113,7 +113,7 @@ module _ (county : County) (shapes : OrderOfShapes) (known : LeavesChoices count
       ∙ sym (number_is county shapes known is within m k (polygons_seen county shapes known is within m k h))
 
   abbrev is_wanted : PolygonKey → Bool
-  is_wanted k = stands_in key_cmp k (wanted_polygons county shapes)
+  is_wanted k = contains key_cmp k (wanted_polygons county shapes)
 
   -- The polygons in their orders differ in wanted ones alone, in the county
   pub polygons_hidden : (n m : ℕ) (test : PolygonKey → Bool)

@@ -1,4 +1,4 @@
-use Rattle.arranged_county.proofs.Common.{AllKeysStandIn, HasChainsOf, MatchTables, NamesEachOnce, arrangement_of, polygon_keys}
+use Rattle.arranged_county.proofs.Common.{AllKeysContained, HasChainsOf, MatchTables, NamesEachOnce, arrangement_of, polygon_keys}
 use Rattle.arranged_county.proofs.Common.{polygons_along, subst, sym}
 use Rattle.arranged_county.proofs.arranging.arrange_in_classes.Goals as goal
 
@@ -11,7 +11,7 @@ arrange_tables-requires g c =
       there = subst (λ k. HasChainsOf k c.deref.result.now) same (subst (HasChainsOf county) there c.requires.there);
       once = subst (λ k. NamesEachOnce k (arrangement_of k c.deref.result.now)) same
           (subst (λ chains. NamesEachOnce county (arrangement_of county chains)) there c.requires.once);
-      sides = subst (λ k. AllKeysStandIn (polygons_along k.chains) (polygon_keys k)) same c.requires.sides;
+      sides = subst (λ k. AllKeysContained (polygons_along k.chains) (polygon_keys k)) same c.requires.sides;
     }
 
 pub with_tables-requires : goal.with_tables-requires

@@ -1,4 +1,4 @@
-use Rattle.arranged_county.proofs.Common.{AllKeysStandIn, HasChainsOf, IfOk-weaker, MatchTables, NamesEachOnce, arrangement_of}
+use Rattle.arranged_county.proofs.Common.{AllKeysContained, HasChainsOf, IfOk-weaker, MatchTables, NamesEachOnce, arrangement_of}
 use Rattle.arranged_county.proofs.Common.{polygon_keys, polygons_along, subst, sym}
 use Rattle.arranged_county.proofs.arranging.tables_of.Goals as goal
 
@@ -8,7 +8,7 @@ arrange_tables-requires g c =
     record {
       there = subst (λ k. HasChainsOf k c.args.arrangement.now) same c.requires.there;
       once = subst (λ k. NamesEachOnce k (arrangement_of k c.args.arrangement.now)) same c.requires.once;
-      sides = subst (λ k. AllKeysStandIn (polygons_along k.chains) (polygon_keys k)) same c.requires.sides;
+      sides = subst (λ k. AllKeysContained (polygons_along k.chains) (polygon_keys k)) same c.requires.sides;
     }
 
 pub returns : goal.returns

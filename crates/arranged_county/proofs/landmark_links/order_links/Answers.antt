@@ -7,5 +7,5 @@ returns-then-are_in_order-clause-in_order c =
 
 pub returns-clause-permutation : goal.returns-clause-permutation
 returns-clause-permutation c =
-    IsPermutation-trans c.args.links.now.items c.bring_close_by_land.new.links.items c.put_in_order.new.items.items
-    c.bring_close_by_land.ensures c.put_in_order.ensures.permutation
+    IsPermutation-trans c.args.links.now.items c.bring_close_by_land.new.links.items c.sort_by_keys.new.items.items
+    c.bring_close_by_land.ensures c.sort_by_keys.ensures.permutation

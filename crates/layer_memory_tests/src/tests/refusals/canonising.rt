@@ -1,4 +1,4 @@
-//! Canonical counties and their records, with growths refused as requested.
+//! Canonised counties and their records, with growths refused as requested.
 
 use super::super::Host;
 use super::super::comparing::{same, same_items};
@@ -11,7 +11,7 @@ use test_support::writing::are_written;
 use tl_cert::Renaming;
 use tl_county::Chart;
 use tl_layout::Record;
-use tl_number::{CanonCounty, canonise_alone, under_mask};
+use tl_number::{CanonCounty, admitted_masked, canonise_alone};
 use tl_profile::Admitted;
 use tl_write::{CountedOut, write_to};
 
@@ -26,7 +26,7 @@ pub(crate) fn text_of_admitted<C: Chart + Drop>(rt: &impl Host, admitted: Admitt
 }
 
 /// A canonical county and the renaming onto it.
-type Canonical<C> = (CanonCounty<C>, Renaming);
+type Canonised<C> = (CanonCounty<C>, Renaming);
 
 /// Both calls that write the canonical county write this text.
 fn has_text<C: Chart>(rt: &impl Host, row: &str, text: &[u8], county: &CanonCounty<C>) {
@@ -40,7 +40,7 @@ fn canonised<C: Chart + Drop>(
     rt: &impl Host,
     row: &str,
     text: &[u8],
-    outcome: Result<Canonical<C>, AllocError>,
+    outcome: Result<Canonised<C>, AllocError>,
 ) -> Run {
     let refused = has_refused(rt.alloc());
     match outcome {
@@ -79,7 +79,7 @@ impl<R: Host> Call<R> for CanoniseIn {
 /// The text of the set under its mask.
 fn text_of(rt: &impl Host, set: &Set<'_>) -> Vec<u8> {
     let admitted = admitted_of(rt.alloc(), set.bytes).expect(rt, set.row);
-    let shown = under_mask(rt.alloc(), admitted, set.mask).expect(rt, set.row);
+    let shown = admitted_masked(rt.alloc(), admitted, set.mask).expect(rt, set.row);
     text_of_admitted(rt, shown)
 }
 

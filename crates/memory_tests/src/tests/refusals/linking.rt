@@ -92,8 +92,8 @@ impl<R: Host> Call<R> for LinkInOrder {
 }
 
 /// The chains of an order, in that order.
-pub(super) fn chains_by_shape(rt: &impl Host, order: &ShapeOrder) -> Vec<DirectedChain> {
-    Vec::from_slice(rt.alloc(), order.by_shape()).expect(rt, "there is memory")
+pub(super) fn chains_by_shape(rt: &impl Host, shape_order: &ShapeOrder) -> Vec<DirectedChain> {
+    Vec::from_slice(rt.alloc(), shape_order.by_shape()).expect(rt, "there is memory")
 }
 
 pub(super) struct OrderByShape;

@@ -1,4 +1,4 @@
-use Rattle.record_groups.proofs.Common.{AllByRecursion, IsApart, StandInOrder, arranged_by, before_apart, nothing_left, ones_of, subst, sym}
+use Rattle.record_groups.proofs.Common.{AllByRecursion, IsApart, ArePlacesInOrder, arranged_by, before_apart, nothing_left, ones_of, subst, sym}
 use Rattle.record_groups.proofs.Texts.TiedOnes.{all_tied, same_tied}
 use Rattle.record_groups.proofs.type_1_order.compare_ones.Goals as goal
 
@@ -16,7 +16,7 @@ compare_at_open-requires-clause-before g c =
     let at = c.in-Some.at.now in
     let behind = c.in-Some.behind.now in
     λ place before. c.loop-at.invariant.tied place (subst (AllByRecursion (IsApart place)) (sym cut)
-    (before_apart at behind (subst StandInOrder cut c.loop-at.invariant.in_order) place before))
+    (before_apart at behind (subst ArePlacesInOrder cut c.loop-at.invariant.in_order) place before))
 
 pub returns : goal.returns
 returns g c =

@@ -8,13 +8,13 @@ use Rattle.tl_county.proofs.linking.build_chains.Goals as goal
 pub chains_of_records-requires : goal.chains_of_records-requires
 chains_of_records-requires g c κs =
     let t = ordered_of c.args.tables.now in
-    let heads = subst (λ l. IsStrictlySortedBy nat_cmp (map one_tlid l)) (sym (c.deref-5.ensures.value ∙ c.in_ok-heads.ensures
+    let all_basics = subst (λ l. IsStrictlySortedBy nat_cmp (map one_tlid l)) (sym (c.deref-5.ensures.value ∙ c.in_ok-all_basics.ensures
     ∙ (λ i. at_places (c.deref.ensures.value i) (c.deref-2.ensures.value i))))
     (tlids-ascend t c.requires.tables c.requires.linked) in
     let shapes = twos_in_order t c.requires.tables c.deref-7.ensures.value in
     let names = fours_in_order t c.requires.tables c.deref-8.ensures.value in
     let ranges = sixes_in_order t c.requires.tables c.deref-9.ensures.value in
-    ((λ i. κs.1.1.0, tt), (heads, (shapes, (names, ranges))))
+    ((λ i. κs.1.1.0, tt), (all_basics, (shapes, (names, ranges))))
 
 pub new-requires-clause-ascending : goal.new-requires-clause-ascending
 new-requires-clause-ascending g c =
@@ -27,8 +27,8 @@ new-requires-clause-same_length g c =
     let chains : map g.C.StoredChain.chain c.in_ok-chains.chains.items ≡ chains_along t.of_type_2 t.of_type_4 t.of_type_6 t.of_type_1
     t.of_type_i =
     c.in_ok-chains.ensures ∙ (λ i. chains_along (c.deref-7.ensures.value i) (c.deref-8.ensures.value i) (c.deref-9.ensures.value i)
-    ((c.deref-5.ensures.value ∙ c.in_ok-heads.ensures ∙ (λ j. at_places (c.deref.ensures.value j) (c.deref-2.ensures.value j))) i)
-    ((c.deref-6.ensures.value ∙ c.in_ok-links.ensures ∙ (λ j. at_places (c.deref-3.ensures.value j) (c.deref-4.ensures.value j))) i)) in
+    ((c.deref-5.ensures.value ∙ c.in_ok-all_basics.ensures ∙ (λ j. at_places (c.deref.ensures.value j) (c.deref-2.ensures.value j))) i)
+    ((c.deref-6.ensures.value ∙ c.in_ok-topologies.ensures ∙ (λ j. at_places (c.deref-3.ensures.value j) (c.deref-4.ensures.value j))) i)) in
     ap length c.requires.tlids
     ∙ length-chains_along t.of_type_2 t.of_type_4 t.of_type_6 t.of_type_1 t.of_type_i (beside t c.requires.tables c.requires.linked)
     ∙ ap length (sym chains) ∙ length-map c.in_ok-chains.chains.items g.C.StoredChain.chain
@@ -39,8 +39,8 @@ returns g c =
     let chains : map g.C.StoredChain.chain c.in_ok-chains.chains.items ≡ chains_along t.of_type_2 t.of_type_4 t.of_type_6 t.of_type_1
     t.of_type_i =
     c.in_ok-chains.ensures ∙ (λ i. chains_along (c.deref-7.ensures.value i) (c.deref-8.ensures.value i) (c.deref-9.ensures.value i)
-    ((c.deref-5.ensures.value ∙ c.in_ok-heads.ensures ∙ (λ j. at_places (c.deref.ensures.value j) (c.deref-2.ensures.value j))) i)
-    ((c.deref-6.ensures.value ∙ c.in_ok-links.ensures ∙ (λ j. at_places (c.deref-3.ensures.value j) (c.deref-4.ensures.value j))) i)) in
+    ((c.deref-5.ensures.value ∙ c.in_ok-all_basics.ensures ∙ (λ j. at_places (c.deref.ensures.value j) (c.deref-2.ensures.value j))) i)
+    ((c.deref-6.ensures.value ∙ c.in_ok-topologies.ensures ∙ (λ j. at_places (c.deref-3.ensures.value j) (c.deref-4.ensures.value j))) i)) in
     let same_length = length-chains_along t.of_type_2 t.of_type_4 t.of_type_6 t.of_type_1 t.of_type_i
     (beside t c.requires.tables c.requires.linked) in
     let f = g.C.StoredChain.chain in

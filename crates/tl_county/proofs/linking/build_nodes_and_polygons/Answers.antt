@@ -1,4 +1,4 @@
-use Rattle.tl_county.proofs.Common.{ap, distinct, distinct_same, flat_map, from_permutation, link_nodes, nat_cmp, nat_keys, ordered_of}
+use Rattle.tl_county.proofs.Common.{ap, distinct, distinct_same, flat_map, from_permutation, topology_nodes, nat_cmp, nat_keys, ordered_of}
 use Rattle.tl_county.proofs.Common.{pieces_alike, ◌∙◌}
 use Rattle.tl_county.proofs.linking.build_nodes_and_polygons.Goals as goal
 
@@ -6,6 +6,6 @@ pub returns-clause-nodes : goal.returns-clause-nodes
 returns-clause-nodes c =
     let lying = c.args.tables.now.records.type_i.items in
     let ordered = (ordered_of c.args.tables.now).of_type_i in
-    c.in_ok-nodes.ensures ∙ ap (λ links. distinct nat_cmp (flat_map link_nodes links)) c.deref.ensures.value
-    ∙ distinct_same nat_keys (flat_map link_nodes lying) (flat_map link_nodes ordered)
-    (pieces_alike nat_keys link_nodes lying ordered (from_permutation lying ordered c.requires.links))
+    c.in_ok-nodes.ensures ∙ ap (λ topologies. distinct nat_cmp (flat_map topology_nodes topologies)) c.deref.ensures.value
+    ∙ distinct_same nat_keys (flat_map topology_nodes lying) (flat_map topology_nodes ordered)
+    (pieces_alike nat_keys topology_nodes lying ordered (from_permutation lying ordered c.requires.topologies))

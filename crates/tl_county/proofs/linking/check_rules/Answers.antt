@@ -28,13 +28,13 @@ pub returns-clause-linked : goal.returns-clause-linked
 returns-clause-linked c =
     all_linked _ (all_before c.in_ok-check_chains.ensures
     (λ records e. c.in_ok-check_sequences.ensures records (subst (AreLeastRepeated c.args.ordered.now.repeated) (sym e) c.requires.repeated))
-    c.in_ok-check_links.ensures c.in_ok-check_names.ensures) c.check_landmarks.result c.check_landmarks.ensures
+    c.in_ok-check_topologies.ensures c.in_ok-check_names.ensures) c.check_landmarks.result c.check_landmarks.ensures
 
 pub returns-clause-broken : goal.returns-clause-broken
 returns-clause-broken c =
     first_stated _ (all_before c.in_ok-check_chains.ensures
     (λ records e. c.in_ok-check_sequences.ensures records (subst (AreLeastRepeated c.args.ordered.now.repeated) (sym e) c.requires.repeated))
-    c.in_ok-check_links.ensures c.in_ok-check_names.ensures) c.check_landmarks.result c.check_landmarks.ensures
+    c.in_ok-check_topologies.ensures c.in_ok-check_names.ensures) c.check_landmarks.result c.check_landmarks.ensures
 
 pub returns-in_err-check_sequences-clause-broken : goal.returns-in_err-check_sequences-clause-broken
 returns-in_err-check_sequences-clause-broken c =
@@ -44,13 +44,13 @@ returns-in_err-check_sequences-clause-broken c =
     (c.in_err-check_sequences.ensures records
     (subst (AreLeastRepeated c.args.ordered.now.repeated) (sym e) c.requires.repeated))))
 
-pub returns-in_err-check_links-clause-broken : goal.returns-in_err-check_links-clause-broken
-returns-in_err-check_links-clause-broken c =
-    let p = err_from_is_err_and c.from_residual-in_err-check_links.result c.from_residual-in_err-check_links.ensures.1 in
-    rw (p.1, p.2) (λ records e. first_of_all records c.in_err-check_links.field-0.0
+pub returns-in_err-check_topologies-clause-broken : goal.returns-in_err-check_topologies-clause-broken
+returns-in_err-check_topologies-clause-broken c =
+    let p = err_from_is_err_and c.from_residual-in_err-check_topologies.result c.from_residual-in_err-check_topologies.ensures.1 in
+    rw (p.1, p.2) (λ records e. first_of_all records c.in_err-check_topologies.field-0.0
     (first-after records (omega arith) (rules-join records (c.in_ok-check_chains.ensures records e)
     (c.in_ok-check_sequences.ensures records (subst (AreLeastRepeated c.args.ordered.now.repeated) (sym e) c.requires.repeated)))
-    (c.in_err-check_links.ensures records e)))
+    (c.in_err-check_topologies.ensures records e)))
 
 pub returns-in_err-check_names-clause-broken : goal.returns-in_err-check_names-clause-broken
 returns-in_err-check_names-clause-broken c =
@@ -59,5 +59,5 @@ returns-in_err-check_names-clause-broken c =
     (first-after records (omega arith) (rules-join records (c.in_ok-check_chains.ensures records e)
     (rules-join records
     (c.in_ok-check_sequences.ensures records (subst (AreLeastRepeated c.args.ordered.now.repeated) (sym e) c.requires.repeated))
-    (c.in_ok-check_links.ensures records e)))
+    (c.in_ok-check_topologies.ensures records e)))
     (c.in_err-check_names.ensures records e)))

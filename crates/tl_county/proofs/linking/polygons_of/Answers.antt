@@ -1,6 +1,6 @@
 use Rattle.tl_county.proofs.Common.{FieldsI, IfOk-weaker, IsLeastPassing, List, PolygonKey, ap, distinct, distinct-more, distinct_same}
 use Rattle.tl_county.proofs.Common.{flat_map, from_permutation, is_unknown, key_cmp, key_keys, least-same, map, not, ordered_of, p_key}
-use Rattle.tl_county.proofs.Common.{pieces_alike, side_keys, stands_in, ◌&&◌, ◌++◌, ◌∙◌, ◌≡◌}
+use Rattle.tl_county.proofs.Common.{pieces_alike, side_keys, contains, ◌&&◌, ◌++◌, ◌∙◌, ◌≡◌}
 use Rattle.tl_county.proofs.linking.polygons_of.Goals as goal
 
 pub returns-clause-keys : goal.returns-clause-keys
@@ -8,7 +8,7 @@ returns-clause-keys c =
     let lying = c.args.tables.now.records.type_i.items in
     let ordered = (ordered_of c.args.tables.now).of_type_i in
     let points = map p_key c.args.tables.now.records.type_p.items in
-    let known : List FieldsI → List PolygonKey = λ links. flat_map side_keys links ++ points in
+    let known : List FieldsI → List PolygonKey = λ topologies. flat_map side_keys topologies ++ points in
     IfOk-weaker c.gather_polygons.result
     (λ polygons. polygons.keys.items ≡ distinct key_cmp (flat_map side_keys c.deref.result.now ++ map p_key c.deref-2.result.now))
     (λ polygons. polygons.keys.items ≡ distinct key_cmp (known ordered))
@@ -16,7 +16,7 @@ returns-clause-keys c =
     ∙ (λ i. distinct key_cmp (flat_map side_keys (c.deref.ensures.value i) ++ map p_key (c.deref-2.ensures.value i)))
     ∙ distinct-more key_keys (flat_map side_keys lying) (flat_map side_keys ordered) points
     (distinct_same key_keys (flat_map side_keys lying) (flat_map side_keys ordered)
-    (pieces_alike key_keys side_keys lying ordered (from_permutation lying ordered c.requires.links))))
+    (pieces_alike key_keys side_keys lying ordered (from_permutation lying ordered c.requires.topologies))))
     c.gather_polygons.ensures.keys
 
 pub returns-clause-without_side : goal.returns-clause-without_side
@@ -31,7 +31,7 @@ returns-clause-without_side c =
     (λ polygons. IsLeastPassing key_cmp other polygons.without_side)
     (λ polygons least. least-same key_cmp met other
     (λ k. (λ i. is_unknown key_cmp (map p_key (c.deref-2.ensures.value i)) (flat_map side_keys (c.deref.ensures.value i)) k)
-    ∙ ap (λ b. stands_in key_cmp k points && not b)
-    (pieces_alike key_keys side_keys lying ordered (from_permutation lying ordered c.requires.links) k))
+    ∙ ap (λ b. contains key_cmp k points && not b)
+    (pieces_alike key_keys side_keys lying ordered (from_permutation lying ordered c.requires.topologies) k))
     polygons.without_side least)
     c.gather_polygons.ensures.without_side

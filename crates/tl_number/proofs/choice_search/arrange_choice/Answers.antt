@@ -1,4 +1,4 @@
-use Rattle.tl_number.proofs.Common.{AllKeysStandIn, HasChainsOf, IfOk-weaker, NamesEachOnce, ap, arranged, arranged_county, arrangement_of}
+use Rattle.tl_number.proofs.Common.{AllKeysContained, HasChainsOf, IfOk-weaker, NamesEachOnce, ap, arranged, arranged_county, arrangement_of}
 use Rattle.tl_number.proofs.Common.{arrangement_of_number, arrangement_of_number_once, arrangement_of_number_there, numbered_arrangement}
 use Rattle.tl_number.proofs.Common.{numbered_choice, polygon_keys, polygons_along, subst, sym, ◌∙◌, ◌≡◌}
 use Rattle.tl_number.proofs.choice_search.arrange_choice.Given.{Over}
@@ -14,7 +14,7 @@ arrange_in_classes-requires-clause-classes g c = sym (shared_county g (goal.at.a
 
 pub arrange_in_classes-requires-clause-sides : goal.arrange_in_classes-requires-clause-sides
 arrange_in_classes-requires-clause-sides g c =
-    subst (λ county. AllKeysStandIn (polygons_along county.chains) (polygon_keys county))
+    subst (λ county. AllKeysContained (polygons_along county.chains) (polygon_keys county))
     (sym (shared_county g (goal.at.arrange_in_classes-requires-clause-sides g c).After-share)) c.requires.sides
 
 pub arrange_in_classes-requires-clause-there : goal.arrange_in_classes-requires-clause-there
@@ -22,18 +22,18 @@ arrange_in_classes-requires-clause-there g c =
     let chart = c.args.classes.now.chart.now in
     subst (λ county. HasChainsOf county c.in_ok-choice.choice.chains.items)
     (sym (shared_county g (goal.at.arrange_in_classes-requires-clause-there g c).After-share))
-    (arrangement_of_number_there (g.C.Chart.county chart) (g.met.C.Chart.is_county chart) c.args.order.now.by_shape
-    c.requires.order.by_shape c.args.order.now.places (c.requires.order.places c.requires.few) c.in_ok-choice.choice.chains.items c.args.number
-    (c.in_ok-choice.ensures.chosen ∙ ap (numbered_arrangement c.args.order.now) c.in_ok-choice.ensures.number))
+    (arrangement_of_number_there (g.C.Chart.county chart) (g.met.C.Chart.is_county chart) c.args.shape_order.now.by_shape
+    c.requires.order.by_shape c.args.shape_order.now.places (c.requires.order.places c.requires.few) c.in_ok-choice.choice.chains.items c.args.number
+    (c.in_ok-choice.ensures.chosen ∙ ap (numbered_arrangement c.args.shape_order.now) c.in_ok-choice.ensures.number))
 
 pub arrange_in_classes-requires-clause-once : goal.arrange_in_classes-requires-clause-once
 arrange_in_classes-requires-clause-once g c =
     let chart = c.args.classes.now.chart.now in
     subst (λ county. NamesEachOnce county (arrangement_of county c.in_ok-choice.choice.chains.items))
     (sym (shared_county g (goal.at.arrange_in_classes-requires-clause-once g c).After-share))
-    (arrangement_of_number_once (g.C.Chart.county chart) (g.met.C.Chart.is_county chart) c.args.order.now.by_shape
-    c.requires.order.by_shape c.args.order.now.places (c.requires.order.places c.requires.few) c.in_ok-choice.choice.chains.items c.args.number
-    (c.in_ok-choice.ensures.chosen ∙ ap (numbered_arrangement c.args.order.now) c.in_ok-choice.ensures.number))
+    (arrangement_of_number_once (g.C.Chart.county chart) (g.met.C.Chart.is_county chart) c.args.shape_order.now.by_shape
+    c.requires.order.by_shape c.args.shape_order.now.places (c.requires.order.places c.requires.few) c.in_ok-choice.choice.chains.items c.args.number
+    (c.in_ok-choice.ensures.chosen ∙ ap (numbered_arrangement c.args.shape_order.now) c.in_ok-choice.ensures.number))
 
 pub returns : goal.returns
 returns g c =
@@ -42,9 +42,9 @@ returns g c =
     let arrangement = c.in_ok-choice.choice.chains.items in
     let shared = g.C.Chart.county c.share.result in
     let same : shared ≡ county = shared_county g (goal.at.returns g c).After-share in
-    let stated = arrangement_of_number county (g.met.C.Chart.is_county chart) c.args.order.now.by_shape
-    c.requires.order.by_shape c.args.order.now.places (c.requires.order.places c.requires.few) arrangement c.args.number
-    (c.in_ok-choice.ensures.chosen ∙ ap (numbered_arrangement c.args.order.now) c.in_ok-choice.ensures.number) in
+    let stated = arrangement_of_number county (g.met.C.Chart.is_county chart) c.args.shape_order.now.by_shape
+    c.requires.order.by_shape c.args.shape_order.now.places (c.requires.order.places c.requires.few) arrangement c.args.number
+    (c.in_ok-choice.ensures.chosen ∙ ap (numbered_arrangement c.args.shape_order.now) c.in_ok-choice.ensures.number) in
     IfOk-weaker c.arrange_in_classes.result (λ view. arranged_county view ≡ arranged shared (arrangement_of shared arrangement))
     (λ view. arranged_county view ≡ arranged county (numbered_choice county c.args.number))
     (λ view e. e ∙ (λ j. arranged (same j) (arrangement_of (same j) arrangement)) ∙ ap (arranged county) stated)

@@ -41,11 +41,11 @@ loop-number-preserved g c =
     let same : lesser_choice county old next ≡ next = ap (λ b. cond b next old) gives_way in
     let number : next ≡ c.swap.new.x.number = sym (ap (λ choice. choice.number) c.swap.ensures.x_after) in
     record {
-      chosen = subst (IsChosen c.args.order.now) (sym c.swap.ensures.x_after) c.choose_again.ensures.chosen;
+      chosen = subst (IsChosen c.args.shape_order.now) (sym c.swap.ensures.x_after) c.choose_again.ensures.chosen;
       least = subst (IsLeastBelow county (c.loop-number.number + 1))
           (ap (lesser_choice county old) (sym c.choose_again.ensures.number) ∙ same ∙ number)
           (lesser_least county old c.loop-number.number c.loop-number.invariant.least);
-      other = subst (IsChosen c.args.order.now) (sym c.swap.ensures.y_after) c.loop-number.invariant.chosen;
+      other = subst (IsChosen c.args.shape_order.now) (sym c.swap.ensures.y_after) c.loop-number.invariant.chosen;
       arranged = subst (λ n. IfSome c.compare_choices.new.arranged (λ view. arranged_county view ≡ chosen_county county n)) (same ∙ number)
           c.in_ok-ordering.ensures.arranged;
     }

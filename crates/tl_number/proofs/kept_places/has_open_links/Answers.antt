@@ -6,6 +6,6 @@ pub returns : goal.returns
 returns g c =
     let county = g.C.Chart.county c.args.chart.now in
     c.has_any.ensures
-    ∙ linked_if_any county c.args.order.now (g.met.C.Chart.is_county c.args.chart.now) c.in_ok-links.links c.deref.result.now c.in_ok-links.ensures
+    ∙ linked_if_any county c.args.shape_order.now (g.met.C.Chart.is_county c.args.chart.now) c.in_ok-links.links c.deref.result.now c.in_ok-links.ensures
     (c.deref.ensures.value ∙ c.in_ok-opened.ensures.opened
     ∙ (λ i. first_open key_cmp (c.open_places.ensures i) (keys_along chain_polygons county (c.by_shape.ensures i))))

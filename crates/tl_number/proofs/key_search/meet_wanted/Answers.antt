@@ -1,4 +1,4 @@
-use Rattle.tl_number.proofs.Common.{◌+◌, ◌∷◌, [], ◌∙◌, ap, arith, drop, drop_all, filter, first_seen_after, refl, stands_in, sym}
+use Rattle.tl_number.proofs.Common.{◌+◌, ◌∷◌, [], ◌∙◌, ap, arith, drop, drop_all, filter, first_seen_after, refl, contains, sym}
 use Rattle.tl_number.proofs.Ties.SeenGroups.{chosen_more, one_dropped}
 use Rattle.tl_number.proofs.key_search.meet_wanted.Goals as goal
 
@@ -10,11 +10,11 @@ loop-key-preserved g c =
     let cmp = g.K.Ord.cmp in
     let keys = c.args.keys.now in
     let i = c.loop-key.key-index in
-    chosen_more cmp (λ key. stands_in cmp key c.args.wanted.now) (c.key-item.result ∷ []) (drop (i + 1) keys) (drop i keys)
+    chosen_more cmp (λ key. contains cmp key c.args.wanted.now) (c.key-item.result ∷ []) (drop (i + 1) keys) (drop i keys)
     c.loop-key.met c.meet_if_wanted.new.met _ (one_dropped keys i c.key-item.result c.loop-key-test.true c.key-item.is)
     c.in_ok-meet_if_wanted.ensures c.loop-key.invariant
 
 pub returns : goal.returns
 returns g c =
-    sym (ap (λ keys. first_seen_after g.K.Ord.cmp c.loop-key.met (filter (λ key. stands_in g.K.Ord.cmp key c.args.wanted.now) keys))
+    sym (ap (λ keys. first_seen_after g.K.Ord.cmp c.loop-key.met (filter (λ key. contains g.K.Ord.cmp key c.args.wanted.now) keys))
     (drop_all c.loop-key.key-index c.args.keys.now (omega (arith, c.loop-key-test.false)))) ∙ c.loop-key.invariant

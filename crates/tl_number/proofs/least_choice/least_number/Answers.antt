@@ -1,5 +1,5 @@
-use Rattle.tl_number.proofs.Common.{AllKeysStandIn, IfOk-weaker, IsCounty, IsLeastBelow, IsWithinLimits, ap, arith, choices, most_choices}
-use Rattle.tl_number.proofs.Common.{most_records, nat_cmp, part_of, part_with, polygon_keys, polygons_along, stands_in, subst, sym, ◌<◌}
+use Rattle.tl_number.proofs.Common.{AllKeysContained, IfOk-weaker, IsCounty, IsLeastBelow, IsWithinLimits, ap, arith, choices, most_choices}
+use Rattle.tl_number.proofs.Common.{most_records, nat_cmp, part_of, part_with, polygon_keys, polygons_along, contains, subst, sym, ◌<◌}
 use Rattle.tl_number.proofs.Common.{◌∙◌, ◌≡◌, ◌≤◌}
 use Rattle.tl_number.proofs.Ties.SmallCounty.{small_choices, small_is, small_sides, small_within}
 use Rattle.tl_number.proofs.{Choices.LeastNumbers.first_least, Ties.SmallOrder.small_least, least_choice.least_number.Given.Over}
@@ -19,42 +19,42 @@ part_tables-requires g c = c.requires.sides
 
 -- the part that the tables keep is the small county
 is_small : (g : Over) (c : In_ok-tables g) → part_with (g.C.Chart.county c.args.chart.now) c.in_ok-tables.tables
-    ≡ small_county (g.C.Chart.county c.args.chart.now) c.args.order.now
+    ≡ small_county (g.C.Chart.county c.args.chart.now) c.args.shape_order.now
 unfolding small_county
 is_small g c =
     let tlids = ap (λ kept. kept.tlids.items) c.in_ok-tables.ensures.kept ∙ c.in_ok-kept.ensures.tlids in
     let linked = ap (λ kept. kept.linked) c.in_ok-tables.ensures.kept ∙ c.in_ok-kept.ensures.linked in
-    λ i. part_of (g.C.Chart.county c.args.chart.now) (λ entry. stands_in nat_cmp entry.0 (tlids i)) (linked i)
+    λ i. part_of (g.C.Chart.county c.args.chart.now) (λ entry. contains nat_cmp entry.0 (tlids i)) (linked i)
 
 pub new-requires-clause-county : goal.new-requires-clause-county
 new-requires-clause-county g c =
     subst IsCounty (sym (is_small g (goal.at.new-requires-clause-county g c).In_ok-tables))
-    (small_is (g.C.Chart.county c.args.chart.now) c.args.order.now c.requires (g.met.C.Chart.is_county c.args.chart.now))
+    (small_is (g.C.Chart.county c.args.chart.now) c.args.shape_order.now c.requires (g.met.C.Chart.is_county c.args.chart.now))
 
 pub new-requires-clause-limits : goal.new-requires-clause-limits
 new-requires-clause-limits g c =
     subst (IsWithinLimits most_records) (sym (is_small g (goal.at.new-requires-clause-limits g c).In_ok-tables))
-    (small_within (g.C.Chart.county c.args.chart.now) c.args.order.now c.requires (g.met.C.Chart.is_county c.args.chart.now)
+    (small_within (g.C.Chart.county c.args.chart.now) c.args.shape_order.now c.requires (g.met.C.Chart.is_county c.args.chart.now)
     (g.met.C.Chart.within_limits c.args.chart.now))
 
 pub least_in_part-least-requires-clause-few : goal.least_in_part-least-requires-clause-few
 least_in_part-least-requires-clause-few g c =
     let county = g.C.Chart.county c.args.chart.now in
     subst (λ small. choices small ≤ most_choices) (sym (c.new.ensures ∙ is_small g (goal.at.least_in_part-least-requires-clause-few g c).In_ok-tables))
-    (subst (λ count. count ≤ most_choices) (sym (small_choices county c.args.order.now c.requires (g.met.C.Chart.is_county c.args.chart.now)))
+    (subst (λ count. count ≤ most_choices) (sym (small_choices county c.args.shape_order.now c.requires (g.met.C.Chart.is_county c.args.chart.now)))
     c.requires.few)
 
 pub least_in_part-least-requires-clause-sides : goal.least_in_part-least-requires-clause-sides
 least_in_part-least-requires-clause-sides g c =
-    subst (λ small. AllKeysStandIn (polygons_along small.chains) (polygon_keys small))
+    subst (λ small. AllKeysContained (polygons_along small.chains) (polygon_keys small))
     (sym (c.new.ensures ∙ is_small g (goal.at.least_in_part-least-requires-clause-sides g c).In_ok-tables))
-    (small_sides (g.C.Chart.county c.args.chart.now) c.args.order.now c.requires (g.met.C.Chart.is_county c.args.chart.now))
+    (small_sides (g.C.Chart.county c.args.chart.now) c.args.shape_order.now c.requires (g.met.C.Chart.is_county c.args.chart.now))
 
 pub returns : goal.returns
 returns g c =
     let county = g.C.Chart.county c.args.chart.now in
     IfOk-weaker c.least_in_part-least.result _ _
-    (λ number least. small_least county c.args.order.now c.requires (g.met.C.Chart.is_county c.args.chart.now)
+    (λ number least. small_least county c.args.shape_order.now c.requires (g.met.C.Chart.is_county c.args.chart.now)
     (g.met.C.Chart.within_limits c.args.chart.now) number
     (subst (λ small. IsLeastBelow small (choices small) number) (c.new.ensures ∙ is_small g (goal.at.returns g c).In_ok-tables) least))
     c.least_in_part-least.ensures

@@ -1,4 +1,4 @@
-use Rattle.tl_profile.proofs.Common.{AllByRecursion, HasHead, [], all_next, along_shape, ap, ap₂, arith, few_chains, map, map-append}
+use Rattle.tl_profile.proofs.Common.{AllByRecursion, HasFirstPoints, [], all_next, along_shape, ap, ap₂, arith, few_chains, map, map-append}
 use Rattle.tl_profile.proofs.Common.{map-range_with_len_more, placed_directed, subst, sym, ◌++◌, ◌∙◌, ◌∷◌}
 use Rattle.tl_profile.proofs.shapes.placed_shapes.Goals as goal
 
@@ -12,8 +12,8 @@ loop-place-preserved g c =
           ∙ map-append placed_directed c.loop-place.shapes.items (shape ∷ [])
           ∙ ap₂ (λ by_shape directed. by_shape ++ (directed ∷ [])) c.loop-place.invariant.by_shape c.placed_shape.ensures.directed
           ∙ sym (map-range_with_len_more (along_shape county) 0 c.loop-place.place c.loop-place.place (omega arith));
-      heads = subst (AllByRecursion (HasHead county)) (sym items)
-          (all_next (HasHead county) c.loop-place.shapes.items shape c.loop-place.invariant.heads c.placed_shape.ensures.head);
+      heads = subst (AllByRecursion (HasFirstPoints county)) (sym items)
+          (all_next (HasFirstPoints county) c.loop-place.shapes.items shape c.loop-place.invariant.heads c.placed_shape.ensures.head);
     }
 
 pub overflow_cast-place : goal.overflow_cast-place

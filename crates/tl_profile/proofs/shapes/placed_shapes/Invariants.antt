@@ -1,8 +1,8 @@
-use Rattle.tl_profile.proofs.Common.{◌≡◌, map, AllByRecursion, range_with_len, along_shape, HasHead, placed_directed}
+use Rattle.tl_profile.proofs.Common.{◌≡◌, map, AllByRecursion, range_with_len, along_shape, HasFirstPoints, placed_directed}
 use Rattle.tl_profile.proofs.shapes.placed_shapes.Given as goal
 
 abbrev pub invariant-loop-place : goal.invariant-loop-place
 invariant-loop-place g l = record {
   by_shape : map placed_directed l.shapes.items ≡ map (along_shape (g.C.Chart.county l.chart)) (range_with_len 0 l.place);
-  heads : AllByRecursion (HasHead (g.C.Chart.county l.chart)) l.shapes.items;
+  heads : AllByRecursion (HasFirstPoints (g.C.Chart.county l.chart)) l.shapes.items;
 }

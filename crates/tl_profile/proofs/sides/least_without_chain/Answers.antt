@@ -1,5 +1,5 @@
 use Rattle.tl_profile.proofs.Common.{IsInOrder, IsLeastPassing, at_lists, distinct-in_order, has_body, is_unknown, key_cmp, key_keys}
-use Rattle.tl_profile.proofs.Common.{least-same, map, not, polygons_along, stands_in, subst, sym, ◌&&◌, ◌∙◌}
+use Rattle.tl_profile.proofs.Common.{least-same, map, not, polygons_along, contains, subst, sym, ◌&&◌, ◌∙◌}
 use Rattle.tl_profile.proofs.SideKeys.{bodies_in_order, same_unknown}
 use Rattle.tl_profile.proofs.sides.least_without_chain.Goals as goal
 
@@ -20,7 +20,7 @@ returns g c =
     let bodies = c.in_ok-bodies.bodies.items in
     let sides = c.in_ok-sides.sides.items in
     least-same key_cmp (is_unknown key_cmp (map (λ k. k) bodies) (map (λ k. k) sides))
-    (λ key. has_body county key && not (stands_in key_cmp key (polygons_along county.chains)))
+    (λ key. has_body county key && not (contains key_cmp key (polygons_along county.chains)))
     (same_unknown county sides c.in_ok-sides.ensures bodies c.in_ok-bodies.ensures) c.least_unknown.result
     (at_lists (λ xs ys. IsLeastPassing key_cmp (is_unknown key_cmp (map (λ k. k) xs) (map (λ k. k) ys)) c.least_unknown.result)
     c.deref.ensures.value c.deref-2.ensures.value c.least_unknown.ensures)

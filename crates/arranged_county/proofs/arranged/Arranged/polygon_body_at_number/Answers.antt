@@ -10,7 +10,7 @@ returns g c =
     c.flatten.ensures ∙ ap option_flatten (c.polygon_body_at_key.ensures
     ∙ content_at_number (arranged_by county c.args.self.now.arrangement.items) c.args.self.now.whole.is_county.ascending.polygons c.args.place
     (under_number county (c.args.old, c.args.place + 1))
-    (sym (ap (λ ks. slice_get ks c.args.place) (c.deref.ensures.value ∙ stated.keys)) ∙ c.stands_at.ensures.0 c.if-not-stands_at.false)
+    (sym (ap (λ ks. slice_get ks c.args.place) (c.deref.ensures.value ∙ stated.keys)) ∙ c.is_at.ensures.0 c.if-not-is_at.false)
     (sym (ap (λ es. slice_get es c.args.place) stated.by_number) ∙ slice_get-map (under_number county) (numbered keys) c.args.place
     ∙ ap (option_map (under_number county)) (key_numbered keys c.args.place
     ∙ ap (option_map (λ (key : PolygonKey). (key, c.args.place + 1))) c.requires)))

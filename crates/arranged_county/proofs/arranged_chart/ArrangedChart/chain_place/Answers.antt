@@ -1,4 +1,4 @@
-use Rattle.arranged_county.proofs.Common.{◌≡◌, ℕ, List, Some, IfSome, slice_get, nat_cmp, sym, ap, ◌∙◌, subst, length, stands_in, up_to}
+use Rattle.arranged_county.proofs.Common.{◌≡◌, ℕ, List, Some, IfSome, slice_get, nat_cmp, sym, ap, ◌∙◌, subst, length, contains, up_to}
 use Rattle.canonical_form.proofs.Views.ViewChains.{tlids_arranged_by}
 use Rattle.arranged_county.proofs.arranged_chart.ArrangedChart.chain_place.Goals as goal
 
@@ -11,7 +11,7 @@ returns-clause-found g c =
 
 pub returns-clause-known : goal.returns-clause-known
 returns-clause-known g c =
-    c.place_of_number.ensures.known ∙ ap (stands_in nat_cmp c.args.tlid)
+    c.place_of_number.ensures.known ∙ ap (contains nat_cmp c.args.tlid)
     (ap up_to (ap length c.as_slice.ensures.value) ∙ sym (tlids_arranged_by
     (g.C.Chart.county c.args.self.now.chart) c.args.self.now.arrangement.items
     (g.met.C.Chart.is_county c.args.self.now.chart) c.args.self.now.whole))

@@ -1,4 +1,4 @@
-use Rattle.arranged_county.proofs.Common.{◌≡◌, ℕ, List, Some, IfSome, slice_get, nat_cmp, sym, ap, ◌∙◌, subst, stands_in, up_to}
+use Rattle.arranged_county.proofs.Common.{◌≡◌, ℕ, List, Some, IfSome, slice_get, nat_cmp, sym, ap, ◌∙◌, subst, contains, up_to}
 use Rattle.arranged_county.proofs.Views.ViewTables.{feats_arranged_by}
 use Rattle.arranged_county.proofs.arranged_chart.ArrangedChart.name_place.Goals as goal
 
@@ -11,6 +11,6 @@ returns-clause-found g c =
 
 pub returns-clause-known : goal.returns-clause-known
 returns-clause-known g c =
-    c.place_of_number.ensures.known ∙ ap (stands_in nat_cmp c.args.feat)
+    c.place_of_number.ensures.known ∙ ap (contains nat_cmp c.args.feat)
     (ap up_to (c.len.ensures.len) ∙ sym (feats_arranged_by (g.C.Chart.county c.args.self.now.chart) c.args.self.now.arrangement.items
     (g.met.C.Chart.is_county c.args.self.now.chart) c.args.self.now.whole c.args.self.now.names c.args.self.now.names_stated))

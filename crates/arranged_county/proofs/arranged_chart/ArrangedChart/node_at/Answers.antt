@@ -4,7 +4,7 @@ use Rattle.arranged_county.proofs.arranged_chart.ArrangedChart.node_at.Goals as 
 
 pub returns : goal.returns
 returns g c =
-    c.number_at.ensures ∙ ap (λ n. slice_get (up_to n) c.args.place) (c.len.ensures.len)
+    c.number_of_place.ensures ∙ ap (λ n. slice_get (up_to n) c.args.place) (c.len.ensures.len)
     ∙ ap (λ numbers. slice_get numbers c.args.place) (sym (nodes_arranged_by
     (g.C.Chart.county c.args.self.now.chart) c.args.self.now.arrangement.items
     (g.met.C.Chart.is_county c.args.self.now.chart) c.args.self.now.whole c.args.self.now.nodes.numbers c.args.self.now.nodes_stated.numbers))

@@ -1,4 +1,4 @@
-use Rattle.arranged_county.proofs.Common.{◌≡◌, ℕ, List, Some, IfSome, slice_get, nat_cmp, sym, ap, ◌∙◌, subst, stands_in, up_to}
+use Rattle.arranged_county.proofs.Common.{◌≡◌, ℕ, List, Some, IfSome, slice_get, nat_cmp, sym, ap, ◌∙◌, subst, contains, up_to}
 use Rattle.arranged_county.proofs.Views.ViewTables.{nodes_arranged_by}
 use Rattle.arranged_county.proofs.arranged_chart.ArrangedChart.node_place.Goals as goal
 
@@ -11,6 +11,6 @@ returns-clause-found g c =
 
 pub returns-clause-known : goal.returns-clause-known
 returns-clause-known g c =
-    c.place_of_number.ensures.known ∙ ap (stands_in nat_cmp c.args.node)
+    c.place_of_number.ensures.known ∙ ap (contains nat_cmp c.args.node)
     (ap up_to (c.len.ensures.len) ∙ sym (nodes_arranged_by (g.C.Chart.county c.args.self.now.chart) c.args.self.now.arrangement.items
     (g.met.C.Chart.is_county c.args.self.now.chart) c.args.self.now.whole c.args.self.now.nodes.numbers c.args.self.now.nodes_stated.numbers))

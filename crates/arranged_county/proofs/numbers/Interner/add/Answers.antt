@@ -1,5 +1,5 @@
 use Rattle.arranged_county.proofs.Common.{AreApart, ArePlaced, IsKeyOrder, Some, [], ap, arith, found_by_either, get_or, length}
-use Rattle.arranged_county.proofs.Common.{length-append, stands_in, subst, sym, ◌%◌, ◌++◌, ◌+◌, ◌<◌, ◌^◌, ◌∙◌, ◌∷◌, ◌≡◌}
+use Rattle.arranged_county.proofs.Common.{length-append, contains, subst, sym, ◌%◌, ◌++◌, ◌+◌, ◌<◌, ◌^◌, ◌∙◌, ◌∷◌, ◌≡◌}
 use Rattle.arranged_county.proofs.Numbering.PlacedKeys.{apart_more, nowhere, slot_marked, tabled_ahead, tabled_more}
 use Rattle.indexmap.specs.IndexMap.{get as found_by_hash}
 use Rattle.std.specs.BTreeMap.{get as found_in_order}
@@ -12,7 +12,7 @@ invariant_of-self-then-is_free g c =
     let marks = c.self.inside.marks.items in
     let key = c.args.key in
     let n = c.slot_of-slot.result in
-    let new = nowhere o keys key (ap (stands_in g.K.Ord.cmp key) c.self.view_is ∙ c.requires.new) in
+    let new = nowhere o keys key (ap (contains g.K.Ord.cmp key) c.self.view_is ∙ c.requires.new) in
     let more : c.push.new.self.items ≡ keys ++ key ∷ [] = c.in_ok-push.ensures.items in
     let count = length-append keys (key ∷ []) in
     let within : n < length marks = subst (λ l. n < length l) c.deref.ensures.value (c.is_free.ensures.within c.if-is_free.true) in
@@ -36,7 +36,7 @@ invariant_of-self-in-Continue-branch-2 g c =
     let keys = c.self.inside.keys.items in
     let marks = c.self.inside.marks.items in
     let key = c.args.key in
-    let new = nowhere o keys key (ap (stands_in g.K.Ord.cmp key) c.self.view_is ∙ c.requires.new) in
+    let new = nowhere o keys key (ap (contains g.K.Ord.cmp key) c.self.view_is ∙ c.requires.new) in
     let more : c.push_into_table.new.keys.items ≡ keys ++ key ∷ [] = c.in_ok-push_into_table.ensures.added in
     let count = length-append keys (key ∷ []) in
     let stated : c.len-place.result ≡ length keys = omega (arith, c.len-place.ensures, c.self.inside.keys.ok.0) in (
@@ -55,7 +55,7 @@ invariant_of-self-in_err-push_into_table g c =
     let keys = c.self.inside.keys.items in
     let marks = c.self.inside.marks.items in
     let key = c.args.key in
-    let new = nowhere o keys key (ap (stands_in g.K.Ord.cmp key) c.self.view_is ∙ c.requires.new) in
+    let new = nowhere o keys key (ap (contains g.K.Ord.cmp key) c.self.view_is ∙ c.requires.new) in
     let kept : c.push_into_table.new.keys.items ≡ keys = c.in_err-push_into_table.ensures.kept in (
       subst AreApart (sym kept) c.self.invariant.0,
       subst (λ l. ArePlaced (λ j. g.K.NumericKey.number_of j % length marks) (found_by_either (found_in_order g.K.Ord.cmp c.push_into_table.new.others.many) (found_by_hash g.K.PartialEq.eq c.push_into_table.new.others.few)) marks l) (sym kept)

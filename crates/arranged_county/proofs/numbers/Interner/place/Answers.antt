@@ -1,4 +1,4 @@
-use Rattle.arranged_county.proofs.Common.{IfSome_then, IsKeyOrder, ap, arith, is_eq, position, slice_get_within, stands_in, ◌∙◌}
+use Rattle.arranged_county.proofs.Common.{IfSome_then, IsKeyOrder, ap, arith, is_eq, position, slice_get_within, contains, ◌∙◌}
 use Rattle.arranged_county.proofs.Numbering.PlacedKeys.{stated_first}
 use Rattle.arranged_county.proofs.numbers.Interner.place.Goals as goal
 
@@ -6,7 +6,7 @@ pub returns-clause-known : goal.returns-clause-known
 returns-clause-known g c =
     let o : IsKeyOrder g.K.Ord.cmp = record { total = g.met.K.Ord.total; exact = g.met.K.Key.exact } in
     (stated_first o c.deref.result.now c.args.key c.place_of_key.result c.place_of_key.ensures.found c.place_of_key.ensures.stated).1
-    ∙ ap (stands_in g.K.Ord.cmp c.args.key) (c.deref.ensures.value ∙ c.self.view_is)
+    ∙ ap (contains g.K.Ord.cmp c.args.key) (c.deref.ensures.value ∙ c.self.view_is)
 
 pub returns-clause-first : goal.returns-clause-first
 returns-clause-first g c =

@@ -1,11 +1,11 @@
 use Rattle.tigercanon.proofs.Common.{err_from_is_err_and}
-use Rattle.tigercanon.proofs.Masking.{seen_acceptable}
+use Rattle.tigercanon.proofs.Masking.{viewed_acceptable}
 use Rattle.tigercanon.proofs.Refusing.{refused_of_read}
 use Rattle.tigercanon.proofs.library.linked.judge.Goals as goal
 
 pub returns-clause-accepted : goal.returns-clause-accepted
 returns-clause-accepted g c = λ parts says.
-    seen_acceptable parts _ (c.in_ok-admitted_county.ensures.seen parts (c.in_ok-linked.ensures.linked parts says))
+    viewed_acceptable parts _ (c.in_ok-admitted_county.ensures.view parts (c.in_ok-linked.ensures.linked parts says))
 
 pub returns-in_err-admitted_county-clause-refused : goal.returns-in_err-admitted_county-clause-refused
 returns-in_err-admitted_county-clause-refused g c parts says =

@@ -1,4 +1,4 @@
-use Rattle.tigercanon.proofs.Common.{bytes_of_parts, IsOnlyTextThrough, IsOneCanonicalTextThrough}
+use Rattle.tigercanon.proofs.Common.{bytes_of_parts, IsOnlyTextInView, IsOneCanonicalTextInView}
 use Rattle.tigercanon.proofs.CanonicalTexts.{if_ok_by}
 use Rattle.tigercanon.proofs.Masking.{as_it_is, under_none}
 use Rattle.tigercanon.proofs.Sets.{only_as_it_is}
@@ -8,10 +8,10 @@ pub returns-clause-only : goal.returns-clause-only
 returns-clause-only c =
     let parts = bytes_of_parts c.args.parts.now in
     if_ok_by c.normalise_masked.result
-    (λ text only. only_as_it_is parts text.items (as_it_is (λ seen. IsOnlyTextThrough seen parts text.items) only))
+    (λ text only. only_as_it_is parts text.items (as_it_is (λ view. IsOnlyTextInView view parts text.items) only))
     c.normalise_masked.ensures.only
 
 pub returns-clause-again_succeeds : goal.returns-clause-again_succeeds
 returns-clause-again_succeeds c = λ text one.
     c.normalise_masked.ensures.again_succeeds text
-    (under_none (λ seen. IsOneCanonicalTextThrough seen (bytes_of_parts c.args.parts.now) text) one)
+    (under_none (λ view. IsOneCanonicalTextInView view (bytes_of_parts c.args.parts.now) text) one)

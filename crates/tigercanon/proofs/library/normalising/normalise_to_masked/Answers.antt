@@ -1,5 +1,5 @@
 use Rattle.std.proofs.Common.{◌+◌, ◌∙◌, ap, cond, sym}
-use Rattle.tigercanon.proofs.Common.{◌≡◌, ◌<◌, length, subst, take, err_from_is_err_and, masked, masked_sight, Took}
+use Rattle.tigercanon.proofs.Common.{◌≡◌, ◌<◌, length, subst, take, err_from_is_err_and, masked, masked_view, Took}
 use Rattle.tigercanon.proofs.CanonicalTexts.{match_err, match_ok}
 use Rattle.tigercanon.proofs.Refusing.{not_stopped, read_refused}
 use Rattle.tigercanon.proofs.Sets.{only_text}
@@ -10,7 +10,7 @@ returns-clause-written g c =
     let l = c.in_ok-linked.ensures.linked in
     let w = c.in_ok-made.ensures.made l.0 l.2 in
     let out = match_ok _ _ c.in_ok-made.made _ c.in_ok-written.was w.out in
-    let only = only_text (masked c.args.mask) (masked_sight c.args.mask) l.0 w.text w.canonical in
+    let only = only_text (masked c.args.mask) (masked_view c.args.mask) l.0 w.text w.canonical in
     (w.text, record { parts = l.0; read = l.1; canonical = w.canonical; only = only }, out.0.0, out.0.1)
 
 pub returns-clause-failures : goal.returns-clause-failures
@@ -24,7 +24,7 @@ returns-in_err-written-clause-stopped g c =
     let l = c.in_ok-linked.ensures.linked in
     let w = c.in_ok-made.ensures.made l.0 l.2 in
     let out = match_err _ _ c.in_ok-made.made _ c.in_err-written.was w.out in
-    let only = only_text (masked c.args.mask) (masked_sight c.args.mask) l.0 w.text w.canonical in
+    let only = only_text (masked c.args.mask) (masked_view c.args.mask) l.0 w.text w.canonical in
     rw (p.1, p.2) (λ fault is.
     let e : c.in_err-written.field-0.0.written ≡ fault.written = cc in
     record {

@@ -1,4 +1,4 @@
-use Rattle.tigercanon.proofs.Common.{refl, err_from_is_err_and, masked, masked_sight}
+use Rattle.tigercanon.proofs.Common.{refl, err_from_is_err_and, masked, masked_view}
 use Rattle.tigercanon.proofs.CanonicalTexts.{ok_holds}
 use Rattle.tigercanon.proofs.Sets.{only_text}
 use Rattle.tigercanon.proofs.Reported.{accepted_wants_memory}
@@ -8,7 +8,7 @@ pub returns-clause-canonical : goal.returns-clause-canonical
 returns-clause-canonical c = (ok_holds _ _ _ c.in_ok-answer.was (c.in_ok-made.ensures.made _ refl)).0
 
 pub returns-clause-only : goal.returns-clause-only
-returns-clause-only c = only_text (masked c.args.mask) (masked_sight c.args.mask) _ _ (returns-clause-canonical c)
+returns-clause-only c = only_text (masked c.args.mask) (masked_view c.args.mask) _ _ (returns-clause-canonical c)
 
 pub returns-clause-carries : goal.returns-clause-carries
 returns-clause-carries c = (ok_holds _ _ _ c.in_ok-answer.was (c.in_ok-made.ensures.made _ refl)).1

@@ -3,7 +3,7 @@ use Rattle.tigercanon.proofs.Common.{err_from_is_err_and, MAX, most_records}
 use Rattle.tl_load.specs.declared.fault.LoadFault.TheVariants as faults
 use Rattle.tigercanon.proofs.CanonicalTexts.{if_ok_by, if_err_by}
 use Rattle.tigercanon.proofs.ReadParts.{all_read, but_once_at, nothing_more, none_more, one_failed, one_more_at, untouched_at, up_to_at}
-use Rattle.tigercanon.proofs.Standing.{counted_device, counted_none, none_standing, standing_fault}
+use Rattle.tigercanon.proofs.RecordedFaults.{counted_device, counted_none, none_recorded, recorded_fault}
 use Rattle.tigercanon.proofs.library.reading.load_sources.Goals as goal
 
 pub read_part_by-requires-clause-failures : goal.read_part_by-requires-clause-failures
@@ -31,7 +31,7 @@ returns-in_err-read_part_by-clause-faulty g c =
         [],
         nothing_more g.R.Source.remaining g.R.Source.given _ _ _
             (one_more_at g.R.Source.remaining g.R.Source.given _ _ r.0 i d x r.1 r.2 c.loop-source-test.true f.0 f.1 end),
-        standing_fault g.K.Collector.holds c.read_part_by.new.self fault _ _ c.in_err-read_part_by.ensures.reported fed lines,
+        recorded_fault g.K.Collector.holds c.read_part_by.new.self fault _ _ c.in_err-read_part_by.ensures.reported fed lines,
         (
           r.0,
           s.taken,
@@ -44,7 +44,7 @@ returns-in_err-read_part_by-clause-faulty g c =
         r.0,
         f.0,
         up_to_at g.R.Source.remaining g.R.Source.given _ _ r.0 i d x r.1 r.2 c.loop-source-test.true f.0 f.1,
-        standing_fault g.K.Collector.holds c.read_part_by.new.self fault _ _ c.in_err-read_part_by.ensures.reported fed lines,
+        recorded_fault g.K.Collector.holds c.read_part_by.new.self fault _ _ c.in_err-read_part_by.ensures.reported fed lines,
         (
           r.0,
           s.taken,
@@ -110,5 +110,5 @@ pub returns-clause-faulty : goal.returns-clause-faulty
 returns-clause-faulty g c =
     let r = c.loop-source.invariant.read in
     if_err_by c.finish.result (λ f at. λ lines.
-    absurd (none_standing g.K.Collector.holds c.loop-source.loader f r.0 c.loop-source.invariant.no_fault r.3 (at lines)))
+    absurd (none_recorded g.K.Collector.holds c.loop-source.loader f r.0 c.loop-source.invariant.no_fault r.3 (at lines)))
     (c.finish.ensures.fault most_records r.0 [] r.3)

@@ -3,6 +3,6 @@ use Rattle.tigercanon.proofs.program.ending.write_line.Goals as goal
 
 pub returns : goal.returns
 returns g c =
-    let w = c.write_text.ensures in
-    line_reported g.E.Sink.failed g.E.Sink.holds c.args.err.now c.write_text.new.out c.args.line.now c.write_text.result w.whole w.none_failed
+    let w = c.write_whole.ensures in
+    line_reported g.E.Sink.failed g.E.Sink.holds c.args.err.now c.write_whole.new.out c.args.line.now c.write_whole.result w.whole w.none_failed
     w.stopped w.failed

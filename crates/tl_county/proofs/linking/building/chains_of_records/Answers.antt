@@ -10,50 +10,50 @@ loop-place-preserved g c =
     let f = g.C.StoredChain.chain in
     let at = c.loop-place in
     let place = at.place in
-    let head = c.index-heads-place.result in
-    let link = c.record-link.result.now in
-    let in_heads : place < length c.args.heads.now = omega (
+    let basics = c.index-all_basics-place.result in
+    let topology = c.record-topology.result.now in
+    let in_heads : place < length c.args.all_basics.now = omega (
       arith,
       c.loop-place-test.true,
       c.min-place-end.ensures,
-      min-le_left (length c.args.heads.now) (length c.args.links.now),
+      min-le_left (length c.args.all_basics.now) (length c.args.topologies.now),
     ) in
-    let in_links : place < length c.args.links.now = omega (
+    let in_links : place < length c.args.topologies.now = omega (
       arith,
       c.loop-place-test.true,
       c.min-place-end.ensures,
-      min-le_right (length c.args.heads.now) (length c.args.links.now),
+      min-le_right (length c.args.all_basics.now) (length c.args.topologies.now),
     ) in
-    let heads : drop place c.args.heads.now ≡ head ∷ drop (place + 1) c.args.heads.now =
-    drop_more c.args.heads.now place head (omega (arith, in_heads)) ∙ ap (λ x. x ∷ drop (place + 1) c.args.heads.now) (sym c.index-heads-place.is) in
-    let links : drop place c.args.links.now ≡ link ∷ drop (place + 1) c.args.links.now =
-    drop_more c.args.links.now place c.index-links-place.result (omega (arith, in_links))
-    ∙ ap (λ x. x ∷ drop (place + 1) c.args.links.now) (sym (c.record-link.ensures ∙ c.index-links-place.is)) in
+    let all_basics : drop place c.args.all_basics.now ≡ basics ∷ drop (place + 1) c.args.all_basics.now =
+    drop_more c.args.all_basics.now place basics (omega (arith, in_heads)) ∙ ap (λ x. x ∷ drop (place + 1) c.args.all_basics.now) (sym c.index-all_basics-place.is) in
+    let topologies : drop place c.args.topologies.now ≡ topology ∷ drop (place + 1) c.args.topologies.now =
+    drop_more c.args.topologies.now place c.index-topologies-place.result (omega (arith, in_links))
+    ∙ ap (λ x. x ∷ drop (place + 1) c.args.topologies.now) (sym (c.record-topology.ensures ∙ c.index-topologies-place.is)) in
     let shapes = c.in_ok-push_chain.ensures.shapes in
     let names = c.in_ok-push_chain.ensures.names in
     let ranges = c.in_ok-push_chain.ensures.ranges in
     record {
-      heads = strict_tail nat_cmp head.tlid (map one_tlid (drop (place + 1) c.args.heads.now))
-          (subst (λ l. IsStrictlySortedBy nat_cmp (map one_tlid l)) heads at.invariant.heads);
+      all_basics = strict_tail nat_cmp basics.tlid (map one_tlid (drop (place + 1) c.args.all_basics.now))
+          (subst (λ l. IsStrictlySortedBy nat_cmp (map one_tlid l)) all_basics at.invariant.all_basics);
       shapes = subst (IsInOrder (on two_tlid nat_cmp)) (sym shapes)
-          (in_order-filter (on two_tlid nat_cmp) (λ x. is_gt (nat_cmp (two_tlid x) head.tlid)) at.details.shapes.now at.invariant.shapes);
+          (in_order-filter (on two_tlid nat_cmp) (λ x. is_gt (nat_cmp (two_tlid x) basics.tlid)) at.details.shapes.now at.invariant.shapes);
       names = subst (IsInOrder (on four_tlid nat_cmp)) (sym names)
-          (in_order-filter (on four_tlid nat_cmp) (λ x. is_gt (nat_cmp (four_tlid x) head.tlid)) at.details.names.now at.invariant.names);
+          (in_order-filter (on four_tlid nat_cmp) (λ x. is_gt (nat_cmp (four_tlid x) basics.tlid)) at.details.names.now at.invariant.names);
       ranges = subst (IsInOrder (on six_tlid nat_cmp)) (sym ranges)
-          (in_order-filter (on six_tlid nat_cmp) (λ x. is_gt (nat_cmp (six_tlid x) head.tlid)) at.details.ranges.now at.invariant.ranges);
+          (in_order-filter (on six_tlid nat_cmp) (λ x. is_gt (nat_cmp (six_tlid x) basics.tlid)) at.details.ranges.now at.invariant.ranges);
       done = (λ i. c.in_ok-push_chain.ensures.chains i ++
-          chains_along (shapes i) (names i) (ranges i) (drop (place + 1) c.args.heads.now) (drop (place + 1) c.args.links.now))
-          ∙ chains-step (map f at.chains.items) _ head (drop (place + 1) c.args.heads.now) (drop place c.args.heads.now) link
-          (drop (place + 1) c.args.links.now) (drop place c.args.links.now)
-          at.details.shapes.now at.details.names.now at.details.ranges.now heads links at.invariant.heads at.invariant.done;
+          chains_along (shapes i) (names i) (ranges i) (drop (place + 1) c.args.all_basics.now) (drop (place + 1) c.args.topologies.now))
+          ∙ chains-step (map f at.chains.items) _ basics (drop (place + 1) c.args.all_basics.now) (drop place c.args.all_basics.now) topology
+          (drop (place + 1) c.args.topologies.now) (drop place c.args.topologies.now)
+          at.details.shapes.now at.details.names.now at.details.ranges.now all_basics topologies at.invariant.all_basics at.invariant.done;
     }
 
 -- past the last head, or past the last link, no chain is left
-none_along : (twos : List Fields2) (fours : List Fields4) (sixes : List Fields6) (heads : List Fields1) (links : List FieldsI)
-    → (heads ≡ []) ⊎ (links ≡ []) → chains_along twos fours sixes heads links ≡ []
-none_along twos fours sixes heads links (inl e) = ap (λ hs. chains_along twos fours sixes hs links) e
-none_along twos fours sixes [] links (inr e) = refl
-none_along twos fours sixes (r ∷ rs) links (inr e) = ap (λ ls. chains_along twos fours sixes (r ∷ rs) ls) e
+none_along : (twos : List Fields2) (fours : List Fields4) (sixes : List Fields6) (all_basics : List Fields1) (topologies : List FieldsI)
+    → (all_basics ≡ []) ⊎ (topologies ≡ []) → chains_along twos fours sixes all_basics topologies ≡ []
+none_along twos fours sixes all_basics topologies (inl e) = ap (λ hs. chains_along twos fours sixes hs topologies) e
+none_along twos fours sixes [] topologies (inr e) = refl
+none_along twos fours sixes (r ∷ rs) topologies (inr e) = ap (λ ls. chains_along twos fours sixes (r ∷ rs) ls) e
 
 past : {A B : Type 0} (xs : List A) (ys : List B) (place : ℕ) → min (length xs) (length ys) ≤ place
     → (drop place xs ≡ []) ⊎ (drop place ys ≡ [])
@@ -70,6 +70,6 @@ returns g c =
     let done = map g.C.StoredChain.chain at.chains.items in
     sym (append-nil done)
     ∙ ap (λ l. done ++ l) (sym (none_along at.details.shapes.now at.details.names.now at.details.ranges.now
-    (drop at.place c.args.heads.now) (drop at.place c.args.links.now)
-    (past c.args.heads.now c.args.links.now at.place (subst (λ end. end ≤ at.place) c.min-place-end.ensures c.loop-place-test.false))))
+    (drop at.place c.args.all_basics.now) (drop at.place c.args.topologies.now)
+    (past c.args.all_basics.now c.args.topologies.now at.place (subst (λ end. end ≤ at.place) c.min-place-end.ensures c.loop-place-test.false))))
     ∙ at.invariant.done

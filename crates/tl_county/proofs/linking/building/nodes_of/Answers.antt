@@ -1,5 +1,5 @@
 use Rattle.tl_county.proofs.Common.{common_steps, distinct-two-more, nat_keys, rules}
 use Rattle.tl_county.proofs.linking.building.nodes_of.Goals as goal
 
-pub loop-link-preserved : goal.loop-link-preserved
-loop-link-preserved c = search (rules, common_steps, distinct-two-more, nat_keys)
+pub loop-topology-preserved : goal.loop-topology-preserved
+loop-topology-preserved c = search (rules, common_steps, distinct-two-more, nat_keys)

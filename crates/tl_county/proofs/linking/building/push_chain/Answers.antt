@@ -9,6 +9,6 @@ returns-clause-chains g c =
     ap (map f) c.in_ok-push.ensures.items ∙ map-append f before (c.in_ok-build_chain.field-0 ∷ [])
     ∙ ap (λ chain. map f before ++ (chain ∷ []))
     (c.in_ok-build_chain.ensures
-    ∙ chain-of_groups c.args.head.now c.args.link.now c.args.details.now.shapes.now c.split_group.result.0.now
+    ∙ chain-of_groups c.args.basics.now c.args.topology.now c.args.details.now.shapes.now c.split_group.result.0.now
     c.args.details.now.names.now c.split_group-2.result.0.now c.args.details.now.ranges.now c.split_group-3.result.0.now
     c.tlid-tlid.result c.tlid-tlid.ensures c.split_group.ensures.group c.split_group-2.ensures.group c.split_group-3.ensures.group)

@@ -1,6 +1,6 @@
 use Rattle.tl_county.proofs.Common.{IsInOrder, IsLeastPassing, List, PolygonKey, ap, distinct, distinct-in_order, distinct-more}
 use Rattle.tl_county.proofs.Common.{distinct_same, flat_map, is_unknown, key_cmp, key_keys, keys_themselves, least-same, map, p_key}
-use Rattle.tl_county.proofs.Common.{side_keys, stands_in-distinct, subst, sym, ◌++◌, ◌∙◌, ◌≡◌}
+use Rattle.tl_county.proofs.Common.{side_keys, contains-distinct, subst, sym, ◌++◌, ◌∙◌, ◌≡◌}
 use Rattle.tl_county.proofs.Rules.WithoutChain.{distinct-all_known, none_passes, unknown-distinct}
 use Rattle.tl_county.proofs.linking.gathering.gather_polygons.Goals as goal
 use Rattle.tl_county.proofs.linking.gathering.gather_polygons.Goals.{then-is_some+in_ok-push_points+in_ok-cenids-2+in_ok-keys-2, else-is_some}
@@ -22,7 +22,7 @@ returns-clause-keys c =
           ∙ ap (distinct key_cmp) (keys_themselves w.deref-then-is_some-2.result.now ∙ w.deref-then-is_some-2.ensures.value ∙
           w.in_ok-push_points.ensures ∙ ap (λ keys. keys ++ points) met)
           ∙ distinct-more key_keys (distinct key_cmp sides) sides points
-          (distinct_same key_keys (distinct key_cmp sides) sides (λ k. stands_in-distinct key_keys k sides))
+          (distinct_same key_keys (distinct key_cmp sides) sides (λ k. contains-distinct key_keys k sides))
       | else-is_some w ↦
           let least : IsLeastPassing key_cmp (is_unknown key_cmp points sides) c.least_absent-without_side.result =
           least-same key_cmp (is_unknown key_cmp points (map (λ k. k) c.deref.result.now)) (is_unknown key_cmp points sides)

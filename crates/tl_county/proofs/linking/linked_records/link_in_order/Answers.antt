@@ -13,7 +13,7 @@ invariant_of-result c =
       stated.feats,
       stated.polygons,
       stated.without_side,
-      stated.links_there,
+      stated.topologies_there,
     )
 
 pub returns-clause-linked : goal.returns-clause-linked

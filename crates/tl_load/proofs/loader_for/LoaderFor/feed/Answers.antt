@@ -1,16 +1,16 @@
 use Rattle.tl_load.proofs.Common.{List, None, Some, WasFedInto, rules, ℕ, ◌++◌, ◌≡◌}
-use Rattle.tl_load.proofs.Histories.{fed_piece, fed_standing, reported_at, stands_at, well_of_step, with_fault_reported}
+use Rattle.tl_load.proofs.Histories.{fed_piece, fed_unchanged, reported_at, unchanged_after_fault, well_of_step, with_fault_reported}
 use Rattle.tl_load.proofs.loader_for.LoaderFor.feed.Given as given
 use Rattle.tl_load.proofs.loader_for.LoaderFor.feed.Goals as goal
 
 pub returns-in-Some-clause-fed : goal.returns-in-Some-clause-fed
-returns-in-Some-clause-fed g c limit closed open_part w = search (rules, fed_standing)
+returns-in-Some-clause-fed g c limit closed open_part w = search (rules, fed_unchanged)
 
 pub returns-in-Some-clause-fault : goal.returns-in-Some-clause-fault
 returns-in-Some-clause-fault g c limit closed open_part w =
     let stands : c.args.self.now.fault ≡ Some c.in-Some.fault = rw (← c.self.view_is) c.in-Some.is in
-    stands_at g.K.Collector.holds limit c.args.self.now closed (open_part ++ c.args.piece.now) c.in-Some.fault stands
-    (fed_standing g.K.Collector.holds limit c.args.self.now c.args.piece.now c.in-Some.fault closed open_part stands w)
+    unchanged_after_fault g.K.Collector.holds limit c.args.self.now closed (open_part ++ c.args.piece.now) c.in-Some.fault stands
+    (fed_unchanged g.K.Collector.holds limit c.args.self.now c.args.piece.now c.in-Some.fault closed open_part stands w)
 
 goes_on : (g : given.Over) (c : goal.After-latch g) (limit : ℕ) (closed : List (List ℕ)) (open_part : List ℕ)
     → WasFedInto g.K.Collector.holds limit c.args.self.now closed open_part

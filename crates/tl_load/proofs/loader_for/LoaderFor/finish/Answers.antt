@@ -1,6 +1,6 @@
 use Rattle.tl_load.proofs.Common.{FaultAt, IsOfLines, List, LoadedInto, None, Record, WasFedInto, all_parts, err_from_is_err_and, rules}
 use Rattle.tl_load.proofs.Common.{subst, sym, tiger, ℕ, ◌≡◌}
-use Rattle.tl_load.proofs.Histories.{finished, finished_fault, finished_standing}
+use Rattle.tl_load.proofs.Histories.{finished, finished_fault, finished_unchanged}
 use Rattle.tl_load.proofs.{Reading.accepted_no_fault, Reading.accepted_once, RecordLines.tiger_is_sound}
 use Rattle.tl_load.proofs.loader_for.LoaderFor.finish.Given as given
 use Rattle.tl_load.proofs.loader_for.LoaderFor.finish.Goals as goal
@@ -8,7 +8,7 @@ use Rattle.tl_load.proofs.loader_for.LoaderFor.finish.Goals as goal
 stood : (g : given.Over) (c : goal.After-drop-self-inside g) (limit : ℕ) (closed : List (List ℕ)) (open_part : List ℕ)
     → WasFedInto g.K.Collector.holds limit c.args.self closed open_part → IsOfLines c.in-Some.fault
     → FaultAt tiger limit (all_parts closed open_part) c.in-Some.fault
-stood g c limit closed open_part w = search (rules, finished_standing)
+stood g c limit closed open_part w = search (rules, finished_unchanged)
 
 pub returns-in-Some-clause-fault : goal.returns-in-Some-clause-fault
 returns-in-Some-clause-fault g c = stood g c

@@ -1,4 +1,4 @@
-use Rattle.tl_number.proofs.Common.{[], ◌∙◌, ap, cond, lands, nat_cmp, stands_in, sym}
+use Rattle.tl_number.proofs.Common.{[], ◌∙◌, ap, cond, lands, nat_cmp, contains, sym}
 use Rattle.tl_number.proofs.Ties.PartTables.{found_too, part_lands}
 use Rattle.tl_number.proofs.county_part.CountyPartChart.landmark_place.Goals as goal
 
@@ -11,11 +11,11 @@ returns-then-self-clause-found g c =
 pub returns-then-self-clause-known : goal.returns-then-self-clause-known
 returns-then-self-clause-known g c =
     let county = g.C.Chart.county c.args.self.now.chart.now in
-    c.landmark_place.ensures.known ∙ ap (stands_in nat_cmp c.args.land)
+    c.landmark_place.ensures.known ∙ ap (contains nat_cmp c.args.land)
     (sym (part_lands county c.args.self.now.tables.now ∙ ap (λ b. cond b (lands county) []) c.if-self.true))
 
 pub returns-else-self-clause-known : goal.returns-else-self-clause-known
 returns-else-self-clause-known g c =
     let county = g.C.Chart.county c.args.self.now.chart.now in
-    ap (stands_in nat_cmp c.args.land)
+    ap (contains nat_cmp c.args.land)
     (sym (part_lands county c.args.self.now.tables.now ∙ ap (λ b. cond b (lands county) []) c.if-self.false))

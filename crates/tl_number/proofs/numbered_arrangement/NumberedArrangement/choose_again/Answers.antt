@@ -3,8 +3,8 @@ use Rattle.tl_number.proofs.numbered_arrangement.NumberedArrangement.choose_agai
 
 pub put_back-requires : goal.put_back-requires
 put_back-requires c =
-    let by_shape = c.args.order.now.by_shape in
-    let places = c.args.order.now.places in
+    let by_shape = c.args.shape_order.now.by_shape in
+    let places = c.args.shape_order.now.places in
     let number = c.args.self.now.number in
     let stated = c.as_mut_slice-chains.ensures.value ∙ c.requires.chosen in
     let count = ap length stated ∙ moved_count other_way places by_shape number c.requires.within in
@@ -20,4 +20,4 @@ put_back-requires c =
 pub choose-requires : goal.choose-requires
 choose-requires c =
     subst (λ n. AreWithin n c.open_places-places.result.now) (sym (ap length (c.put_back.ensures ∙ c.by_shape.ensures)))
-    (subst (AreWithin (length c.args.order.now.by_shape)) (sym c.open_places-places.ensures) c.requires.within)
+    (subst (AreWithin (length c.args.shape_order.now.by_shape)) (sym c.open_places-places.ensures) c.requires.within)

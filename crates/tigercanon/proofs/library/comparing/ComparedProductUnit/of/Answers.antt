@@ -1,8 +1,8 @@
-use Rattle.tigercanon.proofs.Common.{masked, masked_sight}
+use Rattle.tigercanon.proofs.Common.{masked, masked_view}
 use Rattle.tigercanon.proofs.Verdicts.{found_of_sets}
 use Rattle.tigercanon.proofs.library.comparing.ComparedProductUnit.of.Goals as goal
 
 pub returns : goal.returns
 returns g c = λ b second a first.
-    found_of_sets (masked c.args._mask) (masked_sight c.args._mask) a b _ _ _ _ first second
+    found_of_sets (masked c.args._mask) (masked_view c.args._mask) a b _ _ _ _ first second
     (g.V.Comparison.finding c.of.result) c.of.ensures

@@ -1,4 +1,4 @@
-use Rattle.tigercanon.proofs.Common.{refl, masked, masked_sight}
+use Rattle.tigercanon.proofs.Common.{refl, masked, masked_view}
 use Rattle.tigercanon.proofs.CanonicalTexts.{goes_out, text_of_set}
 use Rattle.tigercanon.proofs.library.products.WrittenProduct.of.Goals as goal
 
@@ -8,6 +8,6 @@ returns g c = λ parts set.
     let w = c.write_to.ensures in
     record {
       text = _;
-      canonical = text_of_set (masked mask) (masked_sight mask) _ _ _ set _ refl;
+      canonical = text_of_set (masked mask) (masked_view mask) _ _ _ set _ refl;
       out = goes_out g.W.Sink.failed g.W.Sink.holds _ _ _ c.write_to.result w.length w.short w.failures w.bytes;
     }
