@@ -20,7 +20,7 @@ abbrev pub rank_of : List ℕ → Option ℕ → ℕ
 rank_of seen None = 0
 rank_of seen (Some feat) = from_one (position (λ other. is_eq (nat_cmp feat other)) seen)
 
--- what orders names: the class, the rank, the place; this is that of a place after its class
+-- what orders names: the class, the rank, the place; made from the class and the place of a name
 abbrev pub name_key_at : County → List ℕ → ℕ × ℕ → ℕ × (ℕ × ℕ)
 name_key_at county seen classed = (classed.0, (rank_of seen (slice_get (feats county) classed.1), classed.1))
 

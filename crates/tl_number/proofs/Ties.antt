@@ -7,12 +7,12 @@ pub mod OpenLinks
 pub mod WantedMoves
 pub mod TieNumbers
 pub mod FixedKeys
-pub mod CriticalKeys
+pub mod FixedNumbers
 pub mod TopologyOrder
 pub mod WantedKeys
 pub mod WantedNumbers
 pub mod SeenGroups
-pub mod CriticalNumbers
+pub mod SearchSteps
 pub mod NamesInOrder
 pub mod WantedNames
 pub mod Alike

@@ -5,7 +5,7 @@ use Rattle.ordered_lists.specs.Orders.{contains}
 use Rattle.county_chart.specs.{ChartWords.links_at, County.link_key, CountyRules.chain_nodes, PolygonKeys.PolygonKey, PolygonKeys.key_cmp}
 use Rattle.county_chart.specs.{County.County, CountyRules.chain_polygons, ShapeOrder.OrderOfShapes, declared.open_place.OpenPlace.OpenPlace}
 use Rattle.tl_number.specs.SmallCounty.{wanted_feats, wanted_nodes, wanted_polygons}
-use Rattle.tl_number.specs.{CriticalKeys.met_before, OpenKeys.keys_along, OpenNames.chain_feats, declared.kept_places.Searches.Searches}
+use Rattle.tl_number.specs.{BroughtKeys.met_before, KeysAlong.keys_along, NamesAlong.chain_feats, declared.kept_places.Searches.Searches}
 
 -- the polygons of the landmark at a place
 abbrev pub link_keys_at : County → ℕ → List PolygonKey

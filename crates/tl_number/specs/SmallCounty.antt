@@ -1,20 +1,24 @@
 -- The part of a county by which its choices are compared: the chains at open places, the first fixed chain of each key that they have, and
 -- the landmarks if one of these has a polygon that first appears at an open place.
 use Rattle.std.specs.Prelude.{Bool, List, [], cond, filter, length, map, ℕ, ◌++◌, ◌||◌}
-use Rattle.std.specs.{List.range_with_len, Ordering.nat_cmp}
+use Rattle.std.specs.{List.list_any, List.range_with_len, Ordering.nat_cmp}
 use Rattle.ordered_lists.specs.{Orders.contains, Places.at_places}
 use Rattle.tl_shape.specs.Chain.{Chain}
 use Rattle.county_chart.specs.{County.County, County.link_key, CountyRules.chain_nodes, CountyRules.chain_polygons, PolygonKeys.PolygonKey}
 use Rattle.county_chart.specs.{PolygonKeys.key_cmp, ShapeOrder.OrderOfShapes}
 use Rattle.canonical_form.specs.DirectedChains.{tlid_at}
 use Rattle.record_groups.specs.Groups.{group_at, grouped}
-use Rattle.tl_number.specs.OpenKeys.{first_open, is_open, keys_along, open_among}
-use Rattle.tl_number.specs.{CountyParts.part_of, CriticalKeys.brings, CriticalPlaces.has_open_link, OpenNames.chain_feats}
+use Rattle.tl_number.specs.KeysAlong.{first_open, is_open, keys_along, open_among}
+use Rattle.tl_number.specs.{CountyParts.part_of, BroughtKeys.brings, NamesAlong.chain_feats}
 
 -- the keys of the chains at open places
 abbrev pub keys_at_open : {K : Type 0} → (Chain → List K) → County → OrderOfShapes → List K
 keys_at_open keys county shapes =
     grouped (map (group_at (keys_along keys county shapes.by_shape)) (open_among shapes.places (length shapes.by_shape)))
+
+-- whether some landmark has one of these polygons
+abbrev pub has_open_link : County → List PolygonKey → Bool
+has_open_link county opened = list_any (λ link. contains key_cmp (link_key link) opened) county.links
 
 -- whether some landmark has a polygon that first appears at an open place
 abbrev pub is_linked : County → OrderOfShapes → Bool

@@ -10,8 +10,8 @@ ghost use Rattle.canonical_form.specs.{DirectedChains.HasChainsOf, Growth.first_
 ghost use Rattle.county_chart.specs.{CountyRules.chain_polygons, PolygonKeys.key_cmp};
 ghost use Rattle.ordered_lists.specs.{Orders.contains, Places.at_places};
 ghost use Rattle.record_groups.specs.Groups.{grouped};
-ghost use Rattle.tl_number.specs.{ChoiceSearch.LeavesChoices, KeptPlaces.AreSearched, KeptPlaces.link_keys, OpenKeys.keys_along};
-ghost use Rattle.tl_number.specs.{OpenKeys.open_among, SmallCounty.is_kept, SmallCounty.is_linked, SmallCounty.kept_tlids};
+ghost use Rattle.tl_number.specs.{ChoiceSearch.LeavesChoices, KeptPlaces.AreSearched, KeptPlaces.link_keys, KeysAlong.keys_along};
+ghost use Rattle.tl_number.specs.{KeysAlong.open_among, SmallCounty.is_kept, SmallCounty.is_linked, SmallCounty.kept_tlids};
 
 use crate::key_groups::{FeatKeys, NodeKeys, PolygonKeys};
 use crate::key_search::{KeySearch, search_place};

@@ -58,7 +58,7 @@ pub(crate) struct NodeKeys<'a, C: Chart>(pub(crate) &'a C, pub(crate) &'a [Direc
 #[tactic(auto, using(crate::proofs::Ties::ReadKeys::nodes_read))]
 impl<C: Chart> KeyGroups for NodeKeys<'_, C> {
     ghost use Rattle.county_chart.specs.CountyRules.{chain_nodes};
-    ghost use Rattle.tl_number.specs.OpenKeys.{keys_along};
+    ghost use Rattle.tl_number.specs.KeysAlong.{keys_along};
 
     type Item = u64;
 
@@ -83,7 +83,7 @@ pub(crate) struct PolygonKeys<'a, C: Chart>(pub(crate) &'a C, pub(crate) &'a [Di
 #[tactic(auto, using(crate::proofs::Ties::ReadKeys::polygons_read))]
 impl<C: Chart> KeyGroups for PolygonKeys<'_, C> {
     ghost use Rattle.county_chart.specs.CountyRules.{chain_polygons};
-    ghost use Rattle.tl_number.specs.OpenKeys.{keys_along};
+    ghost use Rattle.tl_number.specs.KeysAlong.{keys_along};
 
     type Item = PolygonKey;
 
@@ -106,7 +106,7 @@ impl<C: Chart> KeyGroups for PolygonKeys<'_, C> {
 pub(crate) struct FeatKeys<'a, C: Chart>(pub(crate) &'a C, pub(crate) &'a [DirectedChain]);
 
 impl<C: Chart> KeyGroups for FeatKeys<'_, C> {
-    ghost use Rattle.tl_number.specs.{OpenKeys.keys_along, OpenNames.chain_feats};
+    ghost use Rattle.tl_number.specs.{KeysAlong.keys_along, NamesAlong.chain_feats};
 
     type Item = u32;
 

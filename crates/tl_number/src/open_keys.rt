@@ -4,7 +4,7 @@ ghost use Rattle.std.specs.Prelude.{◌≡◌, ◌++◌, ◌∷◌, [], IfOk, On
 ghost use Rattle.ordered_lists.specs.Orders.{contains};
 ghost use Rattle.record_groups.specs.Groups.{grouped};
 ghost use Rattle.canonical_form.specs.Growth.{first_seen, first_seen_after};
-ghost use Rattle.tl_number.specs.OpenKeys.{first_open, is_open, newly_seen};
+ghost use Rattle.tl_number.specs.KeysAlong.{first_open, is_open, newly_seen};
 
 use crate::key_groups::KeyGroups;
 use arranged_county::{Interner, NumericKey, if_done, marks_for};

@@ -9,7 +9,7 @@ ghost use Rattle.county_chart.specs.PolygonKeys.{key_cmp};
 ghost use Rattle.ordered_lists.specs.{Orders.distinct, Orders.contains, Places.at_places};
 ghost use Rattle.record_groups.specs.Groups.{grouped};
 ghost use Rattle.tl_number.specs.CountyParts.{HoldsPart, IsPicked, places_among};
-ghost use Rattle.tl_number.specs.{OpenKeys.keys_along, OpenNames.chain_feats};
+ghost use Rattle.tl_number.specs.{KeysAlong.keys_along, NamesAlong.chain_feats};
 
 use crate::kept_places::KeptChains;
 use crate::key_groups::{FeatKeys, KeyGroups, NodeKeys, PolygonKeys};

@@ -1,8 +1,8 @@
 -- Arrangements of a county within its limits, and the numbers of its polygons.
-use Rattle.tl_number.proofs.Common.{AllKeysContained, IsWithinLimits, PolygonKey, most_records, numbered_choice, polygon_keys, polygons_along}
+use Rattle.tl_number.proofs.Common.{AllKeysContained, arrangement_carries, numbered_is_choice, polygons_from_placed, polygons_in_order, ◌≡◌}
 use Rattle.tl_number.proofs.Common.{Among, County, Fields8, IsTrue, Known, image, key_cmp, key_keys, link_key, ltb-true, placed, times, ℕ}
-use Rattle.tl_number.proofs.Common.{Arrangement, Arranges, IsCounty, all_among, among_known, image-keeps, known_all, renaming_of, contains}
-use Rattle.tl_number.proofs.Common.{arrangement_carries, from_first_seen, numbered_is_choice, polygons_from_placed, polygons_in_order, ◌≡◌}
+use Rattle.tl_number.proofs.Common.{Arrangement, Arranges, IsCounty, PolygonKey, among_known, contains, image-keeps, known_all, renaming_of}
+use Rattle.tl_number.proofs.Common.{IsWithinLimits, all_among, from_first_seen, most_records, numbered_choice, polygon_keys, polygons_along}
 
 -- an arrangement of a county within its limits that has all polygons on its sides
 pub record IsArrangementOf (county : County) (arrangement : Arrangement) : Type 0 where

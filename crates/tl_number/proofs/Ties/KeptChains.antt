@@ -92,7 +92,7 @@ module _ {K : Type 0} {cmp : K → K → Ordering} (o : IsKeyOrder cmp) where
 
 -- ---- landmarks
 
--- the polygons of landmarks are those of the links
+-- landmark by landmark, the links give the polygons of all links
 link_keys_mapped : (f : ℕ → List Fields8) (places : List ℕ)
     → map link_key (flat_map (λ place. map (λ (link : Fields8). link) (f place)) places) ≡ flat_map (λ place. map link_key (f place)) places
 link_keys_mapped f [] = refl

@@ -1,12 +1,12 @@
 -- The names of chains in an arrangement, and their numbers.
-use Rattle.tl_number.proofs.Common.{AllByRecursion, DirectedChain, all_everywhere, arrangement_of, feats_along_arrangement, from_first_seen}
-use Rattle.tl_number.proofs.Common.{AllContained, all_weaker, ap, append-nil, chain_feats, entry_values, first_seen, grouped_map, renaming_of}
-use Rattle.tl_number.proofs.Common.{AreWhole, directed_chain, feats_in_order, flat_map_agree, image-numbered, names_renamed, option_to_list}
-use Rattle.tl_number.proofs.Common.{Bool, IfSome, IsTrue, Option, all_at, all_map, flat_map, grouped, ltb-true, nat_cmp, nat_keys, place_in}
-use Rattle.tl_number.proofs.Common.{Chain, Known, List, None, Some, false, feats, image, refl, subst, times, true, turned, ℕ, ◌+◌, ◌∙◌, ◌≡◌}
-use Rattle.tl_number.proofs.Common.{County, IsCounty, arranges, chain_at, feats_of, keys_along, known_all, option_map, contains, turned_if}
+use Rattle.tl_number.proofs.Common.{AllByRecursion, AllContained, AreWhole, Bool, Chain, County, DirectedChain, IfSome, IsCounty, IsTrue}
+use Rattle.tl_number.proofs.Common.{Known, List, None, Option, Some, all_at, all_everywhere, all_joined, all_map, all_weaker, ap}
+use Rattle.tl_number.proofs.Common.{append-nil, arrangement_of, arranges, chain_at, chain_feats, contains, directed_chain, entry_values}
+use Rattle.tl_number.proofs.Common.{false, feats, feats_along_arrangement, feats_in_order, feats_of, first_seen, flat_map, flat_map_agree}
+use Rattle.tl_number.proofs.Common.{from_first_seen, grouped, grouped_map, image, image-numbered, keys_along, known_all, ltb-true}
+use Rattle.tl_number.proofs.Common.{names_renamed, nat_cmp, nat_keys, option_map, option_to_list, place_in, refl, renaming_of, subst, times}
+use Rattle.tl_number.proofs.Common.{true, turned, turned_if, ℕ, ◌+◌, ◌∙◌, ◌≡◌}
 use Rattle.tl_number.proofs.Ties.NewlySeen.{AreAlike, alike_itself}
-use Rattle.canonical_form.proofs.Common.{all_joined}
 
 -- a turned chain has the same names
 pub turned_feats : (chain : Chain) → AreAlike nat_cmp (chain_feats (turned chain)) (chain_feats chain)

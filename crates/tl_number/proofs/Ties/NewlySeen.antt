@@ -105,7 +105,7 @@ module _ {K : Type 0} {cmp : K → K → Ordering} (o : IsKeyOrder cmp) where
       go zero e = inr (omega (arith, e, times_new seen keys k))
       go (suc n) e = inl (omega (arith, e))
 
-  -- lists with the same members have the same new keys, each of which occurs once
+  -- lists with the same members have the same new keys, each once
   pub newly_both : (seen xs ys : List K) → AreAlike cmp xs ys → AreAlike cmp (newly_seen cmp seen xs) (newly_seen cmp seen ys)
   newly_both seen xs ys alike k =
       let one = times_new seen xs k in

@@ -1,13 +1,13 @@
 -- The tables of a part of a county hold its keys, and the places of its entries in the county.
 use Rattle.tl_number.proofs.Common.{AreReadAt, HoldsPart, IsInOrder, first_seen, keys_along, length-map, links_with, option_map, true≢false}
-use Rattle.tl_number.proofs.Common.{Body7, Bool, Chain, List, Option, ap₂, arith, false, feats, filter, get_or, lands, length, subst, tlids}
-use Rattle.tl_number.proofs.Common.{County, IsKeyOrder, PartTables, PolygonKey, append-nil, entry_keys, false≢true, filter_map, nodes_along}
-use Rattle.tl_number.proofs.Common.{DirectedChain, chain_feats, distinct_same, range_with_len, slice_get-map, slice_get_past, to_first_seen}
-use Rattle.tl_number.proofs.Common.{Fields8, distinct, flat_map, grouped, key_cmp, key_keys, links_at, list_any, map-map, nat_cmp, nat_keys}
-use Rattle.tl_number.proofs.Common.{IfSome, IsPicked, Ordering, at_places, bodies_at, part_with, slice_get, contains, turned_if, unwrap_or}
-use Rattle.tl_number.proofs.Common.{IsCounty, chain_nodes, cons_option, entry_values, feats_along, places_among, polygon_keys, contains_alike}
-use Rattle.tl_number.proofs.Common.{None, Some, ap, cond, map, refl, suc, sym, true, zero, ℕ, ◌++◌, ◌+◌, ◌||◌, ◌∙◌, ◌∷◌, ◌≡◌}
-use Rattle.tl_number.proofs.Common.{[], chain_polygons, distinct-in_order, from_first_seen, in_order-strict, option_to_list, polygons_along}
+use Rattle.tl_number.proofs.Common.{Body7, PartTables, PolygonKey, append-nil, entry_keys, false≢true, feats_along, filter_map, nodes_along}
+use Rattle.tl_number.proofs.Common.{Bool, Chain, IfSome, List, Option, ap, arith, false, feats, filter, get_or, lands, length, subst, tlids}
+use Rattle.tl_number.proofs.Common.{County, contains, distinct, flat_map, key_cmp, key_keys, links_at, list_any, map-map, nat_cmp, nat_keys}
+use Rattle.tl_number.proofs.Common.{DirectedChain, IsKeyOrder, distinct_same, polygons_along, range_with_len, slice_get-map, slice_get_past}
+use Rattle.tl_number.proofs.Common.{Fields8, chain_feats, chain_nodes, cons_option, entry_values, places_among, polygon_keys, to_first_seen}
+use Rattle.tl_number.proofs.Common.{IsCounty, IsPicked, Ordering, at_places, bodies_at, grouped, part_with, slice_get, turned_if, unwrap_or}
+use Rattle.tl_number.proofs.Common.{None, Some, ap₂, cond, map, refl, suc, sym, true, zero, ℕ, ◌++◌, ◌+◌, ◌||◌, ◌∙◌, ◌∷◌, ◌≡◌}
+use Rattle.tl_number.proofs.Common.{[], chain_polygons, contains_alike, distinct-in_order, from_first_seen, in_order-strict, option_to_list}
 use Rattle.tl_number.specs.CountyParts.{part_of}
 
 -- what is read at places is read at one of them
@@ -116,7 +116,7 @@ along_read keys county (p ∷ ps) (entry ∷ picked) e =
     ∙ ap (option_map (λ (e : ℕ × Chain). e.1)) here) ∙ append-nil (keys entry.1))
     (along_read keys county ps picked rest)
 
--- Tables of the wanted chains, and of what these name, are those of a part.
+-- The tables of some chains, their nodes, names and polygons hold a part of the county.
 pub tables_hold : (county : County) (tables : PartTables) (chains : List DirectedChain)
     → IsPicked nat_cmp (first_seen nat_cmp tables.kept.tlids.items) (tlids county) tables.chains
     → chains ≡ map (λ place. record { place = place; turned = false }) tables.chains.places.items

@@ -4,8 +4,8 @@ use Rattle.tl_number.proofs.Common.{OrderOfShapes, PolygonKey, Some, ap, arith, 
 use Rattle.tl_number.proofs.Common.{chain_polygons, chains, chains_arranged, directed_chain, false, is_open, kept_entry, key_cmp, key_keys}
 use Rattle.tl_number.proofs.Common.{length, map, most_records, numbered_from, option_map, read_length, read_there, refl, same_Some}
 use Rattle.tl_number.proofs.Common.{slice_get, slice_get-map, slice_get_within, some_at, sym, ℕ, ◌∙◌, ◌≡◌}
-use Rattle.tl_number.proofs.Ties.{CriticalKeys.chains_of, CriticalKeys.key_of_chain, TieNumbers.length_numbered, TieNumbers.whole_numbered}
-use Rattle.tl_number.proofs.Ties.{CriticalKeys.fixed_there, CriticalKeys.new_of, TopologyOrder.new_polygon, TopologyOrder.polygon_is}
+use Rattle.tl_number.proofs.Ties.{FixedNumbers.chains_of, FixedNumbers.key_of_chain, TieNumbers.length_numbered, TieNumbers.whole_numbered}
+use Rattle.tl_number.proofs.Ties.{FixedNumbers.fixed_there, FixedNumbers.new_of, TopologyOrder.new_polygon, TopologyOrder.polygon_is}
 
 module _ (county : County) (shapes : OrderOfShapes) (known : LeavesChoices county shapes) (is : IsCounty county)
     (within : IsWithinLimits most_records county) where

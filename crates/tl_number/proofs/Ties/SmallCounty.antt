@@ -1,19 +1,19 @@
 -- The small county is a county within limits, and each of its choices has the chains that the county's choice has at kept places.
-use Rattle.tl_number.proofs.Common.{AllByRecursion, AllKeysContained, IsApart, IsWithinLimits, among-unpieces, arrangement_of, chain_polygons}
+use Rattle.tl_number.proofs.Common.{AllByRecursion, County, IsWithinLimits, among-unpieces, arrangement_of, chain_polygons, wanted_polygons}
+use Rattle.tl_number.proofs.Common.{AllKeysContained, numbered_choice, shapes_ascending, shapes_of_order, slice_get-get_or, turned_directed}
 use Rattle.tl_number.proofs.Common.{Among, Chain, Known, Option, arith, brings, chains, false, filter, length, lt-ltb, subst, times, tlids}
 use Rattle.tl_number.proofs.Common.{AreWhole, arrangement_apart, arrangement_known, arrangement_there, known-permutation, polygons-unturned}
 use Rattle.tl_number.proofs.Common.{Bool, among-get, among-map, ascending, at_places, each_from, is_linked, one_chain, one_entry, slice_get}
-use Rattle.tl_number.proofs.Common.{County, IsTrue, List, is_open, key_cmp, map-map, nat_cmp, or_left, or_parts, or_right, some_at, tlid_at}
 use Rattle.tl_number.proofs.Common.{DirectedChain, HasChainsOf, LeavesChoices, OrderOfShapes, is_either_way, range_with_len, shapes_arrange}
+use Rattle.tl_number.proofs.Common.{IsApart, contains-among, directed_chain, directed_shape, known_is_among, option_to_list, polygons_along}
 use Rattle.tl_number.proofs.Common.{IsCounty, all_among, cases_Bool, entries_of, kept_tlids, keys_along, length-map, option_map, points_cmp}
 use Rattle.tl_number.proofs.Common.{IsShapeOrder, [], among-pieces, among-turned, keys_at_open, map-at_places, places_within, slice_get-map}
+use Rattle.tl_number.proofs.Common.{IsTrue, inl, is_kept, is_open, key_cmp, map-map, nat_cmp, or_left, or_parts, or_right, some_at, tlid_at}
+use Rattle.tl_number.proofs.Common.{List, Some, cond, inr, map, refl, sym, true, ℕ, ◌++◌, ◌+◌, ◌<◌, ◌||◌, ◌∙◌, ◌∷◌, ◌≡◌, ◌≤◌, ◌⊎◌}
 use Rattle.tl_number.proofs.Common.{PolygonKey, all_weaker, among_right, ap, append-nil, chain_feats, chain_nodes, open_places, points_keys}
-use Rattle.tl_number.proofs.Common.{Some, cond, inl, inr, map, refl, sym, true, ℕ, ◌++◌, ◌+◌, ◌<◌, ◌||◌, ◌∙◌, ◌∷◌, ◌≡◌, ◌≤◌, ◌⊎◌}
-use Rattle.tl_number.proofs.Common.{among-unmap, among_known, is_kept, most_choices, most_records, polygon_keys, wanted_feats, wanted_nodes}
+use Rattle.tl_number.proofs.Common.{among-unmap, among_known, choices, most_choices, most_records, polygon_keys, wanted_feats, wanted_nodes}
 use Rattle.tl_number.proofs.Common.{apart_from_sorted, arrangement_ascend, arrangement_of_number, numbered_arrangement, numbered_is_choice}
-use Rattle.tl_number.proofs.Common.{choices, contains-among, directed_chain, directed_shape, known_is_among, option_to_list, polygons_along}
-use Rattle.tl_number.proofs.Common.{flat_map, group_at, key_keys, link_key, nat_keys, one_here, contains, to_filter, turned_if, unwrap_or}
-use Rattle.tl_number.proofs.Common.{numbered_choice, shapes_ascending, shapes_of_order, slice_get-get_or, turned_directed, wanted_polygons}
+use Rattle.tl_number.proofs.Common.{contains, flat_map, group_at, key_keys, link_key, nat_keys, one_here, to_filter, turned_if, unwrap_or}
 use Rattle.tl_number.proofs.Ties.CountyParts.{all_pass, part_is, part_sides, part_within}
 use Rattle.tl_number.proofs.Ties.PickedPlaces.{AreMarked, marked_alike, marked_keys, pieces_places}
 use Rattle.tl_number.proofs.Ties.SmallChoices.{ascending_ordered, choice_flags, choice_part, choices_part, entries_part}

@@ -4,7 +4,7 @@ use Rattle.tl_number.proofs.Common.{None, Option, Ordering, RecordType, Renumber
 use Rattle.tl_number.proofs.Common.{false, first_seen, grouped, is_open, keys_along, length, map, nat_cmp, nat_cmp_is, nat_cmp_total}
 use Rattle.tl_number.proofs.Common.{option_map, read_there, refl, renumbered, slice_get, contains, subst, suc, sym, tied_itself, true}
 use Rattle.tl_number.proofs.Common.{unwrap_or, ℕ, ◌<◌, ◌∙◌, ◌≡◌}
-use Rattle.tl_number.proofs.Ties.CriticalKeys.{Stay, alike_there, fixed_there, key_of_chain}
+use Rattle.tl_number.proofs.Ties.FixedNumbers.{Stay, alike_there, fixed_there, key_of_chain}
 use Rattle.tl_number.proofs.Ties.KeptParts.{all_are_there, chain_at_rank}
 use Rattle.tl_number.proofs.Ties.SmallRecords.{AreTiedBefore, IsKeptPart, Making, OrderedCounty, chains_at, directed_in, fit_at, length_at}
 use Rattle.tl_number.proofs.Ties.SmallRecords.{made_at, made_in, new_in, places_in, same_at, tied_same, whole_in}

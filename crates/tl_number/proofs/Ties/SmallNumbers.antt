@@ -7,8 +7,8 @@ use Rattle.tl_number.proofs.Common.{link_key, map, most_records, name_under, nat
 use Rattle.tl_number.proofs.Common.{option_to_list, placed, polygons_along, polygons_from_placed, slice_get, contains, subst, sym, true}
 use Rattle.tl_number.proofs.Common.{turned, wanted_feats, wanted_nodes, wanted_polygons, ℕ, ◌≡◌}
 use Rattle.tl_number.proofs.Ties.TopologyOrder.{all_nodes, all_polygons, new_node, new_polygon, turned_nodes, turned_polygons}
-use Rattle.tl_number.proofs.{Ties.Alike.AreNumberedAlike, Ties.CriticalKeys.chains_of, Ties.NamesInOrder.seen_name, Ties.NewlySeen.AreAlike}
-use Rattle.tl_number.proofs.{Ties.CriticalKeys.new_of, Ties.SmallChains.chains_in, Ties.SmallCounty.small_is, Ties.WantedKeys.opened_in}
+use Rattle.tl_number.proofs.{Ties.Alike.AreNumberedAlike, Ties.FixedNumbers.chains_of, Ties.NamesInOrder.seen_name, Ties.NewlySeen.AreAlike}
+use Rattle.tl_number.proofs.{Ties.FixedNumbers.new_of, Ties.SmallChains.chains_in, Ties.SmallCounty.small_is, Ties.WantedKeys.opened_in}
 use Rattle.tl_number.proofs.{Ties.NamesInOrder.turned_feats, Ties.TieNumbers.whole_numbered, Ties.WantedNumbers.polygons_alike}
 use Rattle.tl_number.proofs.{Ties.SmallChains.directed_at, Ties.SmallCounty.small_within, Ties.WantedNames.names_alike}
 use Rattle.tl_number.proofs.{Ties.SmallCounty.small_chains, Ties.WantedNames.part_contents, Ties.WantedNumbers.nodes_alike}

@@ -15,7 +15,7 @@ use Rattle.tl_number.proofs.Ties.Columns.{AreColumnsAlike, columns_alike, column
 use Rattle.tl_number.proofs.Ties.KeptParts.{IsKept, IsThere, Kept, all_are_there, all_kept, at_place, at_rank, kept_order, kept_parts}
 use Rattle.tl_number.proofs.Ties.KeptParts.{lists_alike, place_groups, rank_groups}
 use Rattle.tl_number.proofs.Ties.SmallChains.{chains_in, chains_numbered, choice_county, length_chains, same_chain}
-use Rattle.tl_number.proofs.{Ties.ArrangedChoices.IsArrangementOf, Ties.CriticalKeys.chains_of, Ties.CriticalKeys.new_of}
+use Rattle.tl_number.proofs.{Ties.ArrangedChoices.IsArrangementOf, Ties.FixedNumbers.chains_of, Ties.FixedNumbers.new_of}
 use Rattle.tl_number.proofs.{Ties.TieNumbers.choice_of, Ties.TieNumbers.whole_numbered}
 use Rattle.record_groups.proofs.Texts.OpenPlaces.{groups_from, those_decide, those_from, those_groups}
 
@@ -296,7 +296,7 @@ module _ {t : RecordType} {Y : Type 0} (m : Making t Y) where
           ∙ ap (λ o. ordering_then o (fields_cmp t (in_small n v) (in_small k w))) (ap₂ nat_cmp tlid tlid_too ∙ order
           ∙ sym (ap₂ nat_cmp (m.has_tlid (new_in small n) (suc v.rank) v.part v.piece) (m.has_tlid (new_in small k) (suc w.rank) w.part w.piece)))
 
-      -- and so do all records, if the order of columns is that of TLIDs first.
+      -- and so do all records, if the columns order records by TLID first.
       pub records_small : ((c : OrderedCounty)
           → slice_cmp (fields_cmp t) (records_in c n) (records_in c k) ≡ slice_cmp by_tlid (records_in c n) (records_in c k))
           → groups_cmp (record_of t) (map m.pack (choice whole n).chains) (map m.pack (choice whole k).chains)
@@ -380,13 +380,13 @@ sixes = record {
 }
 
 module _ {whole small : OrderedCounty} {is_in : ℕ → Bool} (part : IsKeptPart whole small is_in) (n k : ℕ) where
-  -- The records of type 1 are in one order in both counties,
+  -- The records of type 1 of two choices compare alike in both counties,
   pub ones_small : groups_cmp One (type_1_by_chain (choice whole n)) (type_1_by_chain (choice whole k))
       ≡ groups_cmp One (type_1_by_chain (choice small n)) (type_1_by_chain (choice small k))
   ones_small = records_small ones part n k (λ place chain out before e. refl) 1 (λ v w p q order same. (order, λ tie. refl))
       (tlid_first ones (λ r s. first_twice (nat_cmp r.tlid s.tlid) (rows_cmp (drop 1 table_1) r s)) n k)
 
-  -- and so are those of type 6.
+  -- and so do the records of type 6.
   pub sixes_small : groups_cmp Six (type_6_by_chain (choice whole n)) (type_6_by_chain (choice whole k))
       ≡ groups_cmp Six (type_6_by_chain (choice small n)) (type_6_by_chain (choice small k))
   sixes_small = records_small sixes part n k (λ place chain out before e. refl) 1 (λ v w p q order same. (order, λ tie. refl))

@@ -1,13 +1,11 @@
 -- The arrangements of a county's choices, and the keys of their chains.
-use Rattle.tl_number.proofs.Common.{AgreeButOpen, AreWhole, Bool, Chain, County, DirectedChain, HasChainsOf, IsCounty, IsKeyOrder}
-use Rattle.tl_number.proofs.Common.{IsWithinLimits, LeavesChoices, List, None, Option, OrderOfShapes, Ordering, Some, [], ap, append-nil}
-use Rattle.tl_number.proofs.Common.{arith, arrangement_of, arrangement_of_number, arrangement_of_number_count, arrangement_there, at_places}
-use Rattle.tl_number.proofs.Common.{chain_at, cons_option, directed_chain, false, fill_by_all, flat_map, group_at, grouped, length}
-use Rattle.tl_number.proofs.Common.{length_whole, map, most_records, not, numbered_arrangement, numbered_choice, option_map, option_to_list}
-use Rattle.tl_number.proofs.Common.{other_way, range_with_len, refl, slice_get, subst, sym, times-append, true, turned, turned_if}
-use Rattle.tl_number.proofs.Common.{unwrap_or, unwrap_or-slice_get, ℕ, ◌++◌, ◌<◌, ◌^◌, ◌∙◌, ◌∷◌, ◌≡◌}
-use Rattle.tl_number.proofs.Choices.LeastOnes.{agree_of_numbers, whole_of_number}
-use Rattle.tl_number.proofs.Ties.NewlySeen.{AreAlike, alike_itself}
+use Rattle.tl_number.proofs.Common.{AreWhole, arrangement_of_number, arrangement_of_number_count, numbered_arrangement, unwrap_or-slice_get}
+use Rattle.tl_number.proofs.Common.{Bool, Chain, List, None, Some, [], ap, arith, false, not, refl, subst, sym, true, ◌++◌, ◌∙◌, ◌∷◌, ◌≡◌}
+use Rattle.tl_number.proofs.Common.{County, Option, Ordering, chain_at, flat_map, group_at, grouped, length, turned, turned_if, unwrap_or}
+use Rattle.tl_number.proofs.Common.{DirectedChain, HasChainsOf, LeavesChoices, OrderOfShapes, most_records, range_with_len, times-append, ℕ}
+use Rattle.tl_number.proofs.Common.{IsCounty, IsKeyOrder, append-nil, at_places, cons_option, fill_by_all, option_map, other_way, slice_get}
+use Rattle.tl_number.proofs.Common.{IsWithinLimits, arrangement_of, arrangement_there, directed_chain, map, numbered_choice, option_to_list}
+use Rattle.tl_number.proofs.{Choices.LeastOnes.whole_of_number, Ties.NewlySeen.AreAlike, Ties.NewlySeen.alike_itself}
 
 -- groups, read one by one
 pub groups_listed : {X : Type 0} (groups : List (List X)) → map (group_at groups) (range_with_len 0 (length groups)) ≡ groups
@@ -42,20 +40,12 @@ module _ (county : County) (shapes : OrderOfShapes) (known : LeavesChoices count
   whole_numbered n = whole_of_number county is within known.sides shapes.by_shape known.order.by_shape shapes.places (known.order.places known.few)
       (chosen_chains n) n refl
 
-  pub agree_of_both : (n m : ℕ) → AgreeButOpen county shapes.places (chosen_chains n) (chosen_chains m)
-  agree_of_both n m = agree_of_numbers county is within known.sides shapes.by_shape known.order.by_shape shapes.places
-      (known.order.places known.few) (chosen_chains n) (chosen_chains m) n m refl refl shapes.places refl
-
   pub choice_of : (n : ℕ) → arrangement_of county (chosen_chains n) ≡ numbered_choice county n
   choice_of n = arrangement_of_number county is shapes.by_shape known.order.by_shape shapes.places (known.order.places known.few)
       (chosen_chains n) n refl
 
   pub there_by_shape : HasChainsOf county shapes.by_shape
   there_by_shape = arrangement_there county shapes.by_shape known.order.by_shape shapes.by_shape refl
-
-  pub few_by_shape : length shapes.by_shape < 2 ^ 32
-  few_by_shape = let whole = whole_numbered 0 in let few = whole.few in let as_many = length_numbered 0 in
-      let all = length_whole county (chosen_chains 0) is whole in omega (arith, few, as_many, all)
 
   -- Keys of one kind.
   module _ {K : Type 0} {cmp : K → K → Ordering} (o : IsKeyOrder cmp) (keys : Chain → List K)

@@ -5,7 +5,7 @@ use Rattle.tl_number.proofs.Common.{County, IsCounty, PolygonKey, append-nil, ch
 use Rattle.tl_number.proofs.Common.{IsWithinLimits, Renumbering, arrangement_of, image-under_cenid, polygons_in_order, rights-numbered_from}
 use Rattle.tl_number.proofs.Common.{LeavesChoices, OrderOfShapes, bodies_read, flat_map-map, map, most_records, nodes_paired, numbered_from}
 use Rattle.tl_number.proofs.Common.{Option, chains, flat_map, grouped, key_cmp, key_keys, key_on, map-map, nat_cmp, nat_keys, place_in, sym}
-use Rattle.tl_number.proofs.{Ties.CriticalKeys.chains_of, Ties.CriticalKeys.new_of, Ties.NewlySeen.AreAlike, Ties.TieNumbers.swapped_alike}
+use Rattle.tl_number.proofs.{Ties.FixedNumbers.chains_of, Ties.FixedNumbers.new_of, Ties.NewlySeen.AreAlike, Ties.TieNumbers.swapped_alike}
 use Rattle.tl_number.proofs.Ties.TieNumbers.{whole_numbered}
 
 -- what is read from each directed chain is read from the chains in their new order
@@ -64,7 +64,7 @@ module _ (county : County) (shapes : OrderOfShapes) (known : LeavesChoices count
   pub node_is : (k : ℕ) → Known nat_cmp nodes_seen k → new_node (new_of county shapes known is within n) k ≡ 1 + place_in nat_cmp nodes_seen k
   node_is k h = ap (λ pairs. image nat_cmp pairs k) (sym (nodes_paired county in_choice is whole nodes_seen all_nodes)) ∙ image-numbered nodes_seen k h
 
-  -- and so is that of a polygon, which keeps its CENID.
+  -- and a polygon gets its place too, and keeps its CENID.
   pub polygon_is : (k : PolygonKey) → Known key_cmp polygons_seen k
       → new_polygon (new_of county shapes known is within n) k ≡ (k.0, 1 + place_in key_cmp polygons_seen k)
   polygon_is k h = ap (λ pairs. image key_cmp pairs k) (sym (keys_paired county in_choice is whole polygons_seen all_polygons))

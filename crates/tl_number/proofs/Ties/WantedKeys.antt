@@ -1,4 +1,4 @@
--- Two choices have the same keys by first appearance but for wanted ones, in a county and in its small county.
+-- In two choices keys first appear in the same order, except for wanted ones; in a county and in its small county.
 use Rattle.tl_number.proofs.Common.{Bool, Chain, County, DirectedChain, IsCounty, IsKeyOrder, IsWithinLimits, Known, LeavesChoices, List}
 use Rattle.tl_number.proofs.Common.{Option, OrderOfShapes, Ordering, Some, [], among-pieces, among-unpieces, among_known, ap, ap₂, arith}
 use Rattle.tl_number.proofs.Common.{at_places, brings, chains, directed_chain, false, false_from_ne_true, false≢true, filter, first_open}
@@ -11,7 +11,7 @@ use Rattle.tl_number.proofs.Ties.Ranks.{AreReordered, IsBrought, in_filtered, in
 use Rattle.tl_number.proofs.Ties.Ranks.{reordered_back, reordered_then, same_place, same_wanted, to_filtered}
 use Rattle.tl_number.proofs.Ties.TieNumbers.{chosen_chains, groups_at, groups_listed, length_numbered, turned_alike, whole_numbered}
 use Rattle.tl_number.proofs.Ties.WantedMoves.{AreMet, all_kept, all_moved, first_met, kept_keys, kept_there, wanted_met}
-use Rattle.tl_number.proofs.Ties.{Alike.AreNumberedAlike, CriticalKeys.fixed_there, FixedKeys.FirstFixed, FixedKeys.fixed_before}
+use Rattle.tl_number.proofs.Ties.{Alike.AreNumberedAlike, FixedNumbers.fixed_there, FixedKeys.FirstFixed, FixedKeys.fixed_before}
 use Rattle.tl_number.proofs.Ties.{ListsAlike.among_filtered, NewlySeen.AreAlike, OpenChains.covered_among, TopologyOrder.read_along}
 use Rattle.tl_number.specs.SmallCounty.{kept_places}
 
@@ -67,7 +67,7 @@ module _ {K : Type 0} {cmp : K → K → Ordering} (o : IsKeyOrder cmp) (wanted_
     pub opened_seen : (n : ℕ) (k : K) → Known cmp opened k → Known cmp (seen n) k
     pub opened_small : (n : ℕ) (k : K) → Known cmp opened k → Known cmp (small_seen n) k
 
--- the chains of a small county in a choice are those of the county at kept places
+-- a choice of the small county has the chains that the county has at kept places
 abbrev pub HasKeptChains : (county : County) (shapes : OrderOfShapes) → LeavesChoices county shapes → IsCounty county
     → IsWithinLimits most_records county → (small : County) (order : OrderOfShapes) → LeavesChoices small order → IsCounty small
     → IsWithinLimits most_records small → Type 0

@@ -11,7 +11,7 @@ use Rattle.tl_number.proofs.Ties.NamesInOrder.{feat_numbered, feats_grouped, see
 use Rattle.tl_number.proofs.Ties.Ranks.{AreReordered, before_alike, in_filtered, masked_by, masked_from_stay, next_cmp, places_alike}
 use Rattle.tl_number.proofs.Ties.Ranks.{to_filtered}
 use Rattle.tl_number.proofs.Ties.WantedKeys.{AreNumbered, AreSeenAlike, HasKeptChains, all_of, places_numbered, seen_alike}
-use Rattle.tl_number.proofs.{Lists.OrderPlaces.in_order-among, Ties.Alike.AreNumberedAlike, Ties.CriticalKeys.new_of}
+use Rattle.tl_number.proofs.{Lists.OrderPlaces.in_order-among, Ties.Alike.AreNumberedAlike, Ties.FixedNumbers.new_of}
 use Rattle.tl_number.proofs.{Ties.ListsAlike.value_filtered, Ties.TieNumbers.chosen_chains, Ties.TieNumbers.whole_numbered}
 use Rattle.tl_number.specs.CountyParts.{part_of}
 

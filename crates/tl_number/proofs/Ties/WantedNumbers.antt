@@ -8,7 +8,7 @@ use Rattle.tl_number.proofs.Ties.TieNumbers.{choice_of, chosen_chains, whole_num
 use Rattle.tl_number.proofs.Ties.TopologyOrder.{all_nodes, all_polygons, new_node, new_polygon, node_is, polygon_is, turned_nodes}
 use Rattle.tl_number.proofs.Ties.TopologyOrder.{turned_polygons}
 use Rattle.tl_number.proofs.Ties.WantedKeys.{AreSeenAlike, HasKeptChains, all_of, places_numbered, seen_alike, unopened_stays}
-use Rattle.tl_number.proofs.{Ties.Alike.AreNumberedAlike, Ties.CriticalKeys.new_of, Ties.Ranks.masked_by, Ties.Ranks.reordered_all}
+use Rattle.tl_number.proofs.{Ties.Alike.AreNumberedAlike, Ties.FixedNumbers.new_of, Ties.Ranks.masked_by, Ties.Ranks.reordered_all}
 
 -- the nodes and polygons of a county's chains appear in each choice
 module _ (county : County) (shapes : OrderOfShapes) (known : LeavesChoices county shapes) (is : IsCounty county)

@@ -1,5 +1,4 @@
-use Rattle.tl_number.proofs.Common.{IfOk, IsLeastBelow, choices, subst, sym}
-use Rattle.tl_number.specs.ChoiceSearch.{LeavesChoices}
+use Rattle.tl_number.proofs.Common.{IfOk, IsLeastBelow, LeavesChoices, choices, subst, sym}
 use Rattle.tl_number.proofs.choice_search.least_among_choices.Goals as goal
 
 pub search_least-least-requires-clause-known : goal.search_least-least-requires-clause-known

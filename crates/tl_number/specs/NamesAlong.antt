@@ -1,4 +1,4 @@
--- The further names of chains.
+-- The further names of chains, and the order of names in an arrangement.
 use Rattle.std.specs.Prelude.{List, ℕ}
 use Rattle.ordered_lists.specs.Entries.{entry_keys}
 use Rattle.tl_shape.specs.Chain.{Chain}

@@ -1,4 +1,4 @@
--- Keys that first appear at open places: nodes or polygons whose numbers differ from choice to choice.
+-- The keys along directed chains, and those of them that first appear at open places.
 use Rattle.std.specs.Prelude.{Bool, List, [], cond, filter, flat_map, nat_le, nat_lt, option_to_list, ℕ, ◌&&◌, ◌++◌, ◌+◌, ◌∷◌}
 use Rattle.std.specs.{List.list_any, List.position_or_len, List.range_with_len, Ordering.is_eq, declared.cmp.Ordering.Ordering}
 use Rattle.ordered_lists.specs.Orders.{contains}

@@ -1,9 +1,8 @@
--- Finding the places that bring keys, and the links of open polygons, one by one.
-use Rattle.tl_number.proofs.Common.{AllByRecursion, Bool, IsKeyOrder, List, OpenPlace, Option, Ordering, Some, [], ap, arith, brings, cond}
-use Rattle.tl_number.proofs.Common.{false, filter, filter-append, first_seen, first_seen_after, fixed_keys, from_first_seen, group_at}
-use Rattle.tl_number.proofs.Common.{has_new, is_open, list_any, nat_lt, not, option_to_list, or_parts, refl, seen_append, slice_get}
-use Rattle.tl_number.proofs.Common.{contains_alike, contains, subst, suc, sym, take, times, times-filter, to_first_seen, true, unwrap_or}
-use Rattle.tl_number.proofs.Common.{zero, ℕ, ◌&&◌, ◌++◌, ◌+◌, ◌∙◌, ◌∷◌, ◌≡◌}
+-- Finding the places that bring keys, one by one.
+use Rattle.tl_number.proofs.Common.{Bool, IsKeyOrder, List, OpenPlace, Option, Ordering, Some, [], ap, brings, cond, contains}
+use Rattle.tl_number.proofs.Common.{contains_alike, false, filter, filter-append, first_seen, first_seen_after, fixed_keys, from_first_seen}
+use Rattle.tl_number.proofs.Common.{group_at, has_new, is_open, list_any, nat_lt, not, refl, seen_append, slice_get, sym, times}
+use Rattle.tl_number.proofs.Common.{times-filter, to_first_seen, true, unwrap_or, ℕ, ◌&&◌, ◌++◌, ◌+◌, ◌∙◌, ◌∷◌, ◌≡◌}
 use Rattle.tl_number.proofs.Ties.FixedKeys.{fixed_more}
 
 module _ {K : Type 0} {cmp : K → K → Ordering} (o : IsKeyOrder cmp) where
@@ -43,14 +42,3 @@ module _ {K : Type 0} {cmp : K → K → Ordering} (o : IsKeyOrder cmp) where
         go : (b : Bool) → cond b [] (of_opened keys) ≡ of_opened (cond (not b) (group_at along place) [])
         go true = refl
         go false = ap of_opened (sym (ap (λ (g : Option (List K)). unwrap_or g []) there))
-
--- one more element that fails a test
-pub fails_more : {X : Type 0} (test : X → Bool) (xs : List X) (i : ℕ) → AllByRecursion (λ x. test x ≡ false) (take i xs)
-    → list_any test (option_to_list (slice_get xs i)) ≡ false → AllByRecursion (λ x. test x ≡ false) (take (i + 1) xs)
-fails_more {X} test xs i all none = subst (λ n. AllByRecursion (λ x. test x ≡ false) (take n xs)) (let t : suc i ≡ i + 1 = omega arith in t) (go xs i all none)
-  where
-    go : (ys : List X) (j : ℕ) → AllByRecursion (λ x. test x ≡ false) (take j ys) → list_any test (option_to_list (slice_get ys j)) ≡ false
-        → AllByRecursion (λ x. test x ≡ false) (take (suc j) ys)
-    go [] j h e = tt
-    go (y ∷ ys) zero h e = ((or_parts (test y) false e).0, tt)
-    go (y ∷ ys) (suc j) h e = (h.0, go ys j h.1 e)

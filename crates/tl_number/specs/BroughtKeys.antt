@@ -5,7 +5,7 @@ use Rattle.ordered_lists.specs.Orders.{contains}
 use Rattle.county_chart.specs.declared.open_place.OpenPlace.{OpenPlace}
 use Rattle.canonical_form.specs.Growth.{first_seen}
 use Rattle.record_groups.specs.Groups.{group_at, grouped}
-use Rattle.tl_number.specs.OpenKeys.{is_open}
+use Rattle.tl_number.specs.KeysAlong.{is_open}
 
 -- the keys at the fixed ones of the first places
 abbrev pub fixed_keys : {K : Type 0} → List OpenPlace → List (List K) → ℕ → List K
