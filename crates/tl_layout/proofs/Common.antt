@@ -26,4 +26,3 @@ pub use Rattle.tl_layout.specs.{Laws.TurnedFits.body_turned_fits, declared.recor
 pub use Rattle.tl_layout.specs.{Laws.Type1Laws.type_1_reading_is_short, Tables.AddsRecord, declared.coordinate.Coordinate.TheVariants.Value}
 pub use Rattle.tl_layout.specs.{RecordText.FitsRecord, Type1Columns.body_1_of, Type1Groups.body_1_texts, Type1Groups.point_texts}
 pub use lib.Lanes.{chunk}
-pub use lib.Lanes.{chunk}

@@ -4,10 +4,7 @@ ghost use Rattle.std.specs.Prelude.{refl, ◌≡◌};
 ghost use Rattle.tl_layout.specs.{Laws.MaskLaws.masked_twice_1, Laws.MaskLaws.masked_twice_7, Laws.MaskLaws.masked_twice_i, Masked.no_mask};
 ghost use Rattle.tl_layout.specs.{Masked.masked_body_1, Masked.masked_body_7, Masked.masked_body_i, declared.mask.Mask.Mask};
 
-use crate::mask::Mask;
-use crate::type_i::BodyI;
-use crate::type1::body::Body1;
-use crate::type7::Body7;
+use crate::{Body1, Body7, BodyI, Mask};
 
 /// A content with fields that a mask can leave out.
 pub trait Blank {

@@ -6,10 +6,8 @@ ghost use Rattle.tl_layout.specs.FieldReading.{number_at, number_or_none_at, poi
 ghost use Rattle.tl_layout.specs.{FieldFaults.bad_point, FieldFaults.gap, Numbers.IsNumber, Numbers.IsNumberOrNone};
 
 use crate::coordinate::{Coordinate, read_latitude, read_longitude};
-use crate::fault::{FieldFault, FieldKind};
 use crate::number::{number, put_number};
-use crate::point::Point;
-use crate::text::Text;
+use crate::{FieldFault, FieldKind, Point, Text};
 
 /// Returns the bytes in these columns as they are.
 #[inline(always)]

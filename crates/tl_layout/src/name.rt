@@ -70,7 +70,6 @@ impl FeatureName {
         write_text(out, first + 36, first + 37, &self.fedirs);
     }
 
-    /// Proves that each field fits its columns, which its type guarantees. Does nothing at run time.
     pub(crate) fn show_fit(&self)
         ensures { FitsName self.now }
     {

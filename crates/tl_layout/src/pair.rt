@@ -52,7 +52,6 @@ impl<const N: usize> LeftRight<N> {
         write_text(out, first + N, first + 2 * N - 1, &self.right);
     }
 
-    /// Proves that each field fits its columns, which its type guarantees. Does nothing at run time.
     pub(crate) fn show_fit(&self)
         ensures { FitsPair N self.now }
     {

@@ -6,10 +6,9 @@ ghost use Rattle.std.specs.Prelude.{◌≡◌, ◌≤◌};
 ghost use Rattle.tl_layout.specs.FieldTexts.{number_place_text, places_text, point_place_text};
 ghost use Rattle.tl_layout.specs.{Bytes.longest_line, Coordinates.IsOnMap, FieldReading.Gives, FieldReading.places_reading};
 
-use crate::fault::FieldFault;
 use crate::field::{gap, read_number_or_none, read_point_or_none};
-use crate::point::Point;
 use crate::writing::{ZEROS, write_number, write_point, write_zeros};
+use crate::{FieldFault, Point};
 use arrayvec::ArrayVec;
 
 /// A list whose items are in places side by side in a line, from column 19 on.

@@ -5,9 +5,8 @@ ghost use Rattle.tl_layout.specs.{AddressRanges.FitsRanges, AddressRanges.ranges
 ghost use Rattle.tl_layout.specs.{Bytes.IsText, Bytes.longest_line, Columns.joined};
 
 use crate::field::text_at;
-use crate::pair::LeftRight;
-use crate::text::Text;
 use crate::writing::write_text;
+use crate::{LeftRight, Text};
 
 /// Address ranges and ZIP codes: 58 bytes (record type 1, columns 59-116; record type 6, columns 19-76).
 #[derive(Clone, Copy, Debug, PartialEq, Eq)]
@@ -199,7 +198,6 @@ impl Ranges {
         self.zip.put(out, first + 48);
     }
 
-    /// Proves that each field fits its columns, which its type guarantees. Does nothing at run time.
     pub(crate) fn show_fit(&self)
         ensures { FitsRanges self.now }
     {

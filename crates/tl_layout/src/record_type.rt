@@ -3,16 +3,7 @@
 ghost use Rattle.std.specs.Prelude.{length, ◌<◌, ◌≡◌, ◌≤◌};
 ghost use Rattle.tl_layout.specs.{Bytes.longest_line, RecordText.FitsRecord, RecordText.len_of, RecordText.spelling_of, RecordText.type_of};
 
-use crate::layout::Layout;
-use crate::type_i::RecI;
-use crate::type_p::RecP;
-use crate::type1::Rec1;
-use crate::type2::Rec2;
-use crate::type4::Rec4;
-use crate::type5::Rec5;
-use crate::type6::Rec6;
-use crate::type7::Rec7;
-use crate::type8::Rec8;
+use crate::{Layout, Rec1, Rec2, Rec4, Rec5, Rec6, Rec7, Rec8, RecI, RecP};
 
 /// The greatest number of records of one type in a set.
 pub const MOST_RECORDS: u64 = 10_000_000;

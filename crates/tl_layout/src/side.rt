@@ -3,8 +3,7 @@
 ghost use Rattle.std.specs.Prelude.{◌≡◌};
 ghost use Rattle.tl_layout.specs.{Bytes.AreAllowed, Bytes.IsText, Numbers.IsNumberOrNone, PolygonSide.PolygonSide};
 
-use crate::number_or_none::NumberOrNone;
-use crate::text::Text;
+use crate::{NumberOrNone, Text};
 use std::marker::Model;
 
 /// The polygon on one side of a chain (record type I, CENIDL with POLYIDL, CENIDR with POLYIDR): the CENID, which is

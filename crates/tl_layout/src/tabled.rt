@@ -6,18 +6,7 @@ ghost use Rattle.tl_layout.specs.{Laws.RecordTypeLaws.spelling_of_record, Laws.R
 ghost use Rattle.tl_layout.specs.{RecordText.type_of, Tables.AddsRecord, Tables.AreSameTables, declared.record_type.Record.Record};
 
 use crate::growing::push_reserving;
-use crate::layout::Layout;
-use crate::record_type::Record;
-use crate::tables::Tables;
-use crate::type_i::RecI;
-use crate::type_p::RecP;
-use crate::type1::Rec1;
-use crate::type2::Rec2;
-use crate::type4::Rec4;
-use crate::type5::Rec5;
-use crate::type6::Rec6;
-use crate::type7::Rec7;
-use crate::type8::Rec8;
+use crate::{Layout, Rec1, Rec2, Rec4, Rec5, Rec6, Rec7, Rec8, RecI, RecP, Record, Tables};
 use std::alloc::AllocError;
 
 /// One of the nine record types: it converts its records to records of any type, and adds them to the

@@ -3,17 +3,7 @@
 ghost use Rattle.std.specs.Prelude.{All, IfOk, OnErr, OnOk, []};
 ghost use Rattle.tl_layout.specs.{RecordText.FitsRecord, Tables.AddsRecord, Tables.AreSameTables, Tables.HoldsByType};
 
-use crate::record_type::Record;
-use crate::tabled::Tabled;
-use crate::type_i::RecI;
-use crate::type_p::RecP;
-use crate::type1::Rec1;
-use crate::type2::Rec2;
-use crate::type4::Rec4;
-use crate::type5::Rec5;
-use crate::type6::Rec6;
-use crate::type7::Rec7;
-use crate::type8::Rec8;
+use crate::{Rec1, Rec2, Rec4, Rec5, Rec6, Rec7, Rec8, RecI, RecP, Record, Tabled};
 use std::alloc::{AllocError, Global};
 
 /// The records of a set, by type: a vector for each record type, with its records in their order in the set.

@@ -5,11 +5,8 @@ ghost use Rattle.tl_layout.specs.Turned.{body_towards, exchanged, turned_body, t
 ghost use Rattle.tl_layout.specs.Type1Groups.{body_1_texts, entities_texts};
 ghost use Rattle.tl_layout.specs.{AddressRanges.ranges_texts, Bytes.longest_line, Columns.joined, Pairs.pair_texts};
 
-use crate::pair::LeftRight;
-use crate::ranges::Ranges;
-use crate::type1::body::Body1;
-use crate::type1::fields::GeographicEntities;
 use crate::writing::write_text;
+use crate::{Body1, GeographicEntities, LeftRight, Ranges};
 use std::mem::swap;
 
 /// A value that can be seen from the other end of its chain.

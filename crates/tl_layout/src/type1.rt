@@ -9,12 +9,9 @@ ghost use Rattle.tl_layout.specs.{Laws.TypeLaws.layout_laws, Numbers.IsNumber, T
 pub(crate) mod body;
 pub(crate) mod fields;
 
-use crate::fault::FieldFault;
 use crate::field::{read_number, read_point};
-use crate::layout::Layout;
-use crate::point::Point;
-use crate::type1::body::Body1;
 use crate::writing::{write_head, write_number, write_point};
+use crate::{Body1, FieldFault, Layout, Point};
 use std::marker::Model;
 
 /// A chain with its two end points (record type 1, 228 bytes).
@@ -81,7 +78,6 @@ impl Rec1 {
         self.end
     }
 
-    /// Proves that each field fits its columns, which its type guarantees. Does nothing at run time.
     #[tactic(auto, using(crate::specs::Laws::Type1Laws::type_1_fits))]
     pub(crate) fn show_fit(&self)
         ensures { FitsFields Type1 self.now }

@@ -5,12 +5,10 @@ ghost use Rattle.std.specs.Prelude.{length, ◌≡◌, ◌≤◌};
 ghost use Rattle.tl_layout.specs.RecordTypes.{FitsFields, SpellsFields, Type2, byte_of, fields_spelling, line_length, reading_of, table_of};
 ghost use Rattle.tl_layout.specs.{FieldFaults.IsLeftmostFault, Laws.TypeLaws.layout_laws, Numbers.IsNumber};
 
-use crate::fault::FieldFault;
 use crate::field::read_number;
-use crate::layout::Layout;
 use crate::place::{read_places, show_points_fit, write_places};
-use crate::point::Point;
 use crate::writing::{write_head, write_number};
+use crate::{FieldFault, Layout, Point};
 use arrayvec::ArrayVec;
 use std::marker::Model;
 
@@ -67,7 +65,6 @@ impl Rec2 {
         self.points.as_slice()
     }
 
-    /// Proves that each field fits its columns, which its type guarantees. Does nothing at run time.
     #[tactic(auto, unfolding(crate::specs::RecordTypes::FitsFields))]
     pub(crate) fn show_fit(&self)
         ensures { FitsFields Type2 self.now }

@@ -6,11 +6,10 @@ ghost use Rattle.std.specs.Prelude.{length, ◌≡◌, ◌≤◌};
 ghost use Rattle.tl_layout.specs.RecordTypes.{FitsFields, SpellsFields, Type4, byte_of, fields_spelling, line_length, reading_of, table_of};
 ghost use Rattle.tl_layout.specs.{FieldFaults.IsLeftmostFault, Laws.TypeLaws.layout_laws, Numbers.IsNumber};
 
-use crate::fault::FieldFault;
 use crate::field::read_number;
-use crate::layout::Layout;
 use crate::place::{read_places, write_places};
 use crate::writing::{write_head, write_number};
+use crate::{FieldFault, Layout};
 use arrayvec::ArrayVec;
 use std::marker::Model;
 
@@ -70,7 +69,6 @@ impl Rec4 {
         self.feats.as_slice()
     }
 
-    /// Proves that each field fits its columns, which its type guarantees. Does nothing at run time.
     #[tactic(auto, unfolding(crate::specs::RecordTypes::FitsFields))]
     pub(crate) fn show_fit(&self)
         ensures { FitsFields Type4 self.now }

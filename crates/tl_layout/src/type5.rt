@@ -5,12 +5,9 @@ ghost use Rattle.std.specs.Prelude.{◌≡◌};
 ghost use Rattle.tl_layout.specs.RecordTypes.{FitsFields, SpellsFields, Type5, byte_of, fields_spelling, line_length, reading_of, table_of};
 ghost use Rattle.tl_layout.specs.{Bytes.AreAllowed, Bytes.IsText, FieldFaults.IsLeftmostFault, Laws.TypeLaws.layout_laws, Numbers.IsNumber};
 
-use crate::fault::FieldFault;
 use crate::field::{read_number, text_at};
-use crate::layout::Layout;
-use crate::name::FeatureName;
-use crate::text::Text;
 use crate::writing::{write_head, write_number, write_text};
+use crate::{FeatureName, FieldFault, Layout, Text};
 use std::marker::Model;
 
 /// The content of a record of type 5: all except its FEAT, 43 bytes.
@@ -132,7 +129,6 @@ impl Rec5 {
         &self.body
     }
 
-    /// Proves that each field fits its columns, which its type guarantees. Does nothing at run time.
     #[tactic(auto, unfolding(crate::specs::RecordTypes::FitsFields))]
     pub(crate) fn show_fit(&self)
         ensures { FitsFields Type5 self.now }

@@ -5,11 +5,9 @@ ghost use Rattle.std.specs.Prelude.{◌≡◌};
 ghost use Rattle.tl_layout.specs.RecordTypes.{FitsFields, SpellsFields, Type6, byte_of, fields_spelling, line_length, reading_of, table_of};
 ghost use Rattle.tl_layout.specs.{FieldFaults.IsLeftmostFault, Laws.TypeLaws.layout_laws, Numbers.IsNumber};
 
-use crate::fault::FieldFault;
 use crate::field::read_number;
-use crate::layout::Layout;
-use crate::ranges::Ranges;
 use crate::writing::{write_head, write_number};
+use crate::{FieldFault, Layout, Ranges};
 use std::marker::Model;
 
 /// Further address ranges and ZIP codes of a chain (record type 6, 76 bytes).
@@ -66,7 +64,6 @@ impl Rec6 {
         &self.ranges
     }
 
-    /// Proves that each field fits its columns, which its type guarantees. Does nothing at run time.
     #[tactic(auto, unfolding(crate::specs::RecordTypes::FitsFields))]
     pub(crate) fn show_fit(&self)
         ensures { FitsFields Type6 self.now }

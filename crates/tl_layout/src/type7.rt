@@ -5,12 +5,10 @@ ghost use Rattle.std.specs.Prelude.{◌≡◌};
 ghost use Rattle.tl_layout.specs.RecordTypes.{FitsFields, SpellsFields, Type7, byte_of, fields_spelling, line_length, reading_of, table_of};
 ghost use Rattle.tl_layout.specs.{Bytes.AreAllowed, Bytes.IsText, FieldFaults.IsLeftmostFault, Laws.TypeLaws.layout_laws, Numbers.IsNumber};
 
-use crate::fault::FieldFault;
 use crate::field::{read_number, read_point_or_none, text_at};
-use crate::layout::Layout;
 use crate::point::{Point, show_point_fits};
-use crate::text::Text;
 use crate::writing::{write_blanks, write_head, write_number, write_point_or_blanks, write_text};
+use crate::{FieldFault, Layout, Text};
 use std::marker::Model;
 
 /// The content of a record of type 7: all except its LAND.
@@ -137,7 +135,6 @@ impl Rec7 {
         &self.body
     }
 
-    /// Proves that each field fits its columns, which its type guarantees. Does nothing at run time.
     #[tactic(auto, unfolding(crate::specs::RecordTypes::FitsFields))]
     pub(crate) fn show_fit(&self)
         ensures { FitsFields Type7 self.now }

@@ -5,11 +5,9 @@ ghost use Rattle.std.specs.Prelude.{◌≡◌};
 ghost use Rattle.tl_layout.specs.RecordTypes.{FitsFields, SpellsFields, Type8, byte_of, fields_spelling, line_length, reading_of, table_of};
 ghost use Rattle.tl_layout.specs.{Bytes.AreAllowed, Bytes.IsText, FieldFaults.IsLeftmostFault, Laws.TypeLaws.layout_laws, Numbers.IsNumber};
 
-use crate::fault::FieldFault;
 use crate::field::{read_number, text_at};
-use crate::layout::Layout;
-use crate::text::Text;
 use crate::writing::{write_blanks, write_head, write_number, write_text};
+use crate::{FieldFault, Layout, Text};
 use std::marker::Model;
 
 /// A polygon that belongs to a landmark (record type 8, 36 bytes).
@@ -83,7 +81,6 @@ impl Rec8 {
         self.land
     }
 
-    /// Proves that each field fits its columns, which its type guarantees. Does nothing at run time.
     #[tactic(auto, unfolding(crate::specs::RecordTypes::FitsFields))]
     pub(crate) fn show_fit(&self)
         ensures { FitsFields Type8 self.now }

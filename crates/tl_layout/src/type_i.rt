@@ -6,13 +6,9 @@ ghost use Rattle.tl_layout.specs.RecordTypes.{FitsFields, SpellsFields, TypeI, b
 ghost use Rattle.tl_layout.specs.{Bytes.AreAllowed, Bytes.IsText, FieldFaults.IsLeftmostFault, Laws.TypeLaws.layout_laws, Numbers.IsNumber};
 ghost use Rattle.tl_layout.specs.{Numbers.IsNumberOrNone, TypeI.body_i_at, TypeI.type_i_spelling};
 
-use crate::fault::FieldFault;
 use crate::field::{read_number, read_number_or_none, text_at};
-use crate::layout::Layout;
-use crate::number_or_none::NumberOrNone;
-use crate::side::Side;
-use crate::text::Text;
 use crate::writing::{write_head, write_number, write_text};
+use crate::{FieldFault, Layout, NumberOrNone, Side, Text};
 use std::marker::Model;
 
 /// The content of a record of type I: all except its TLID, its nodes and its sides.
@@ -262,7 +258,6 @@ impl RecI {
         write_text(out, 118, 127, &body.rs_i3);
     }
 
-    /// Proves that each field fits its columns, which its type guarantees. Does nothing at run time.
     #[tactic(auto, unfolding(crate::specs::RecordTypes::FitsFields))]
     pub(crate) fn show_fit(&self)
         ensures { FitsFields TypeI self.now }

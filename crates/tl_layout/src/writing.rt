@@ -5,10 +5,8 @@ ghost use Rattle.tl_layout.specs.FieldTexts.{coordinate_text, lat_text, long_tex
 ghost use Rattle.tl_layout.specs.{Columns.joined, Coordinates.IsOnMap};
 
 use crate::coordinate::put_coordinate;
-use crate::layout::Layout;
 use crate::number::put_number;
-use crate::point::Point;
-use crate::text::Text;
+use crate::{Layout, Point, Text};
 
 /// Writes the record type and the version, 2006.
 #[inline(always)]

@@ -4,12 +4,8 @@ ghost use Rattle.std.specs.Prelude.{length, take, ◌≡◌, ◌≤◌};
 ghost use Rattle.tl_layout.specs.{Bytes.AreAllowed, Bytes.IsText, Columns.joined};
 
 use crate::field::text_at;
-use crate::name::FeatureName;
-use crate::pair::LeftRight;
-use crate::ranges::Ranges;
-use crate::text::Text;
-use crate::type1::fields::{Body1Fields, GeographicEntities, NativeAreas};
 use crate::writing::write_text;
+use crate::{Body1Fields, FeatureName, GeographicEntities, LeftRight, NativeAreas, Ranges, Text};
 use std::fmt;
 use std::marker::Model;
 
@@ -115,7 +111,6 @@ impl Body1 {
         write_text(out, 16, 190, &self.columns);
     }
 
-    /// Proves that each field fits its columns, which its type guarantees. Does nothing at run time.
     #[tactic(auto, using(crate::specs::Laws::Type1ColumnLaws::content_fits))]
     pub(crate) fn show_fit(&self)
         ensures { FitsBody1 self.now }

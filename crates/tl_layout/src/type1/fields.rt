@@ -5,11 +5,8 @@ ghost use Rattle.tl_layout.specs.Type1Groups.{FitsBody1, FitsEntities, body_1_at
 ghost use Rattle.tl_layout.specs.{Bytes.AreAllowed, Columns.joined};
 
 use crate::field::text_at;
-use crate::name::FeatureName;
-use crate::pair::LeftRight;
-use crate::ranges::Ranges;
-use crate::text::Text;
 use crate::writing::write_text;
+use crate::{FeatureName, LeftRight, Ranges, Text};
 
 /// The American Indian, Alaska Native and Hawaiian Home Land areas beside a chain (columns 117-128).
 #[derive(Clone, Copy, Debug, PartialEq, Eq)]
@@ -112,7 +109,6 @@ impl GeographicEntities {
         self.block.put(out, 183);
     }
 
-    /// Proves that each field fits its columns, which its type guarantees. Does nothing at run time.
     fn show_fit(&self)
         ensures { FitsEntities self.now }
     {
@@ -166,7 +162,6 @@ impl Body1Fields {
         self.entities.put(out);
     }
 
-    /// Proves that each field fits its columns, which its type guarantees. Does nothing at run time.
     pub(crate) fn show_fit(&self)
         ensures { FitsBody1 self.now }
     {
