@@ -6,5 +6,4 @@ pub mod TidyLists
 pub mod OneChoice
 pub mod SameShapes
 pub mod StrictLists
-pub mod OnSamples
 pub mod CanonLists

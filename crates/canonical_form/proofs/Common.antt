@@ -47,7 +47,7 @@ pub use Rattle.county_chart.proofs.Lists.OfNumber.{groups-permutation, of_number
 pub use Rattle.county_chart.proofs.Packing.Pieces.{all_in_pieces, all_numbered_from, lefts-numbered_from, length-numbered_from}
 pub use Rattle.county_chart.proofs.Packing.Pieces.{rights-numbered_from}
 pub use Rattle.county_chart.proofs.Profile.ProfileFaults.{one_first_clause, profile_has_none, profile_or_first}
-pub use Rattle.county_chart.proofs.Rules.LinkFaults.{linked_computed, linked_has_none, linked_or_first, one_first_rule}
+pub use Rattle.county_chart.proofs.Rules.LinkFaults.{linked_has_none, linked_or_first, one_first_rule}
 pub use Rattle.county_chart.proofs.Rules.LinkedCounty.{apart_chains, county-is_county, keys-county, needed, the_link}
 pub use Rattle.county_chart.proofs.Sameness.Carried.{among-swapped, among-turned, among-unpieces, chain_nodes-renumbered}
 pub use Rattle.county_chart.proofs.Sameness.Carried.{chain_polygons-renumbered}

@@ -2,7 +2,6 @@ pub mod Lists
 pub mod ByKey
 pub mod Sameness
 pub mod Rules
-pub mod Samples
 pub mod Packing
 pub mod Limits
 pub mod Masks

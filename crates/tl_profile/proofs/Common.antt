@@ -7,7 +7,7 @@ pub use Rattle.county_chart.proofs.Common.{[], ap, ap₂, cond, map, not, refl, 
 pub use Rattle.county_chart.proofs.Common.{along_shapes, append_assoc, is_either_way, key_cmp, length-append, ordering_then, range_with_len}
 pub use Rattle.county_chart.proofs.Profile.CountedChoices.{IsCounted, alike-next, alike_few, counted_next, more_choices-append}
 pub use Rattle.county_chart.proofs.Profile.Places.{ChainIsAt, all_next, along_from, chain_is_at, some-same, two_along}
-pub use Rattle.county_chart.proofs.Profile.ProfileFaults.{first_clause_computed, profile_computed, profile_has_none, profile_or_first}
+pub use Rattle.county_chart.proofs.Profile.ProfileFaults.{profile_has_none, profile_or_first}
 pub use Rattle.county_chart.proofs.{ByKey.KeySets.contains-distinct, Limits.FewChains.few_chains, Profile.SameChoices.choices_stated}
 pub use Rattle.county_chart.specs.{Choices.counted_choices, ShapeOrder.directed_cmp}
 pub use Rattle.ordered_lists.proofs.{ByKey.KeyedLists.at_lists, ByKey.KeyedLists.in_order-filter, ByKey.KeyedLists.least-same, Common.IfOk}

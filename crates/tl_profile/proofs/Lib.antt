@@ -1,5 +1,4 @@
 pub mod Common
-pub mod OnSamples
 pub mod PointRanks
 pub mod PlacedOrder
 pub mod SideKeys
