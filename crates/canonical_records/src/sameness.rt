@@ -3,7 +3,7 @@
 ghost use Rattle.std.specs.Bool.{Decides};
 ghost use Rattle.std.specs.Prelude.{◌≡◌};
 ghost use Rattle.county_chart.specs.Packing.{packed};
-ghost use Rattle.record_groups.specs.SharedGroups.{HaveSameChains, HaveSameCounts, HaveSameEntries, HaveSameLandmarks};
+ghost use Rattle.record_groups.specs.SharedGroups.{HaveSameChains, HaveSameCounts, HaveSameEntries};
 ghost use Rattle.arranged_county.specs.Views.{arranged_county};
 
 use crate::landmark_link_records::LandmarkLinkRecords;
@@ -11,28 +11,6 @@ use crate::polygon_records::PolygonRecords;
 use arranged_county::CanonCounty;
 use county_chart::Chart;
 use record_groups::{HeadBuffers, LandmarkRecords, NameRecords, are_same_groups, have_same_chains};
-
-/// Whether two counties have the same records of types 7 and 8.
-fn have_same_landmarks<A: Chart, B: Chart>(
-    a: &CanonCounty<A>,
-    b: &CanonCounty<B>,
-    buffer: &mut HeadBuffers,
-    other: &mut HeadBuffers,
-) -> bool
-    ensures { Decides result (HaveSameLandmarks (arranged_county a.now) (arranged_county b.now)) }
-{
-    are_same_groups(
-        &LandmarkRecords { chart: a },
-        &LandmarkRecords { chart: b },
-        &mut buffer.counts,
-        &mut other.counts,
-    ) && are_same_groups(
-        &LandmarkLinkRecords { county: a },
-        &LandmarkLinkRecords { county: b },
-        &mut buffer.counts,
-        &mut other.counts,
-    )
-}
 
 /// Whether two counties have the same records for each name, each landmark and each polygon. The heads are read into the
 /// caller's buffers.
@@ -49,13 +27,22 @@ fn have_same_entries<A: Chart, B: Chart>(
         &NameRecords { chart: b },
         &mut buffer.counts,
         &mut other.counts,
-    ) && have_same_landmarks(a, b, buffer, other)
-        && are_same_groups(
-            &PolygonRecords { county: a },
-            &PolygonRecords { county: b },
-            &mut buffer.polygons,
-            &mut other.polygons,
-        )
+    ) && are_same_groups(
+        &LandmarkRecords { chart: a },
+        &LandmarkRecords { chart: b },
+        &mut buffer.counts,
+        &mut other.counts,
+    ) && are_same_groups(
+        &LandmarkLinkRecords { county: a },
+        &LandmarkLinkRecords { county: b },
+        &mut buffer.counts,
+        &mut other.counts,
+    ) && are_same_groups(
+        &PolygonRecords { county: a },
+        &PolygonRecords { county: b },
+        &mut buffer.polygons,
+        &mut other.polygons,
+    )
 }
 
 /// Whether two canonical counties have the same records for each chain, each name, each landmark and each polygon.

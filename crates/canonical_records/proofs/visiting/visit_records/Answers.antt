@@ -3,29 +3,29 @@ use Rattle.record_groups.proofs.Common.{err_from_is_err_and, types_1_to_4, types
 use Rattle.record_groups.proofs.{Records.OneAfterAnother.second_stops, Records.OneAfterAnother.third_ends, Records.PackedGroups.all_groups}
 use Rattle.canonical_records.proofs.visiting.visit_records.Goals as goal
 
-pub returns-in_err-visit_chains-clause-given : goal.returns-in_err-visit_chains-clause-given
-returns-in_err-visit_chains-clause-given g c =
+pub returns-in_err-visit_three-clause-given : goal.returns-in_err-visit_three-clause-given
+returns-in_err-visit_three-clause-given g c =
     let county = arranged_by (g.C.Chart.county c.args.county.now.chart) c.args.county.now.arrangement.items in
     let p = err_from_is_err_and c.from_residual.result c.from_residual.ensures.1 in
-    subst (λ rs. g.T.RecordVisitor.Takes rs c.args.visitor.now c.args.device.now c.from_residual.result c.visit_chains.new.visitor
-    c.visit_chains.new.device) (all_groups county)
+    subst (λ rs. g.T.RecordVisitor.Takes rs c.args.visitor.now c.args.device.now c.from_residual.result c.visit_three.new.visitor
+    c.visit_three.new.device) (all_groups county)
     (rw (p.1, p.2) (g.met.T.RecordVisitor.stops (types_1_to_4 county) (types_5_to_7 county ++ types_8_to_p county)
-    c.args.visitor.now c.visit_chains.new.visitor c.args.device.now c.visit_chains.new.device
-    c.in_err-visit_chains.field-0.0 c.in_err-visit_chains.ensures.given))
+    c.args.visitor.now c.visit_three.new.visitor c.args.device.now c.visit_three.new.device
+    c.in_err-visit_three.field-0.0 c.in_err-visit_three.ensures.given))
 
-pub returns-in_err-visit_names_and_landmarks-clause-given : goal.returns-in_err-visit_names_and_landmarks-clause-given
-returns-in_err-visit_names_and_landmarks-clause-given g c =
+pub returns-in_err-visit_three-2-clause-given : goal.returns-in_err-visit_three-2-clause-given
+returns-in_err-visit_three-2-clause-given g c =
     let county = arranged_by (g.C.Chart.county c.args.county.now.chart) c.args.county.now.arrangement.items in
-    let p = err_from_is_err_and c.from_residual-in_err-visit_names_and_landmarks.result c.from_residual-in_err-visit_names_and_landmarks.ensures.1 in
-    subst (λ rs. g.T.RecordVisitor.Takes rs c.args.visitor.now c.args.device.now c.from_residual-in_err-visit_names_and_landmarks.result
-    c.visit_names_and_landmarks.new.visitor c.visit_names_and_landmarks.new.device) (all_groups county)
+    let p = err_from_is_err_and c.from_residual-in_err-visit_three-2.result c.from_residual-in_err-visit_three-2.ensures.1 in
+    subst (λ rs. g.T.RecordVisitor.Takes rs c.args.visitor.now c.args.device.now c.from_residual-in_err-visit_three-2.result
+    c.visit_three-2.new.visitor c.visit_three-2.new.device) (all_groups county)
     (rw (p.1, p.2) (second_stops g.T.RecordVisitor.Takes g.met.T.RecordVisitor.then g.met.T.RecordVisitor.stops (types_1_to_4 county)
-    (types_5_to_7 county) (types_8_to_p county) c.in_ok-visit_chains.ensures.given c.in_err-visit_names_and_landmarks.ensures.given))
+    (types_5_to_7 county) (types_8_to_p county) c.in_ok-visit_three.ensures.given c.in_err-visit_three-2.ensures.given))
 
 pub returns-clause-given : goal.returns-clause-given
 returns-clause-given g c =
     let county = arranged_by (g.C.Chart.county c.args.county.now.chart) c.args.county.now.arrangement.items in
-    subst (λ rs. g.T.RecordVisitor.Takes rs c.args.visitor.now c.args.device.now c.visit_links_and_polygons.result c.visit_links_and_polygons.new.visitor
-    c.visit_links_and_polygons.new.device) (all_groups county)
+    subst (λ rs. g.T.RecordVisitor.Takes rs c.args.visitor.now c.args.device.now c.visit_three-3.result c.visit_three-3.new.visitor
+    c.visit_three-3.new.device) (all_groups county)
     (third_ends g.T.RecordVisitor.Takes g.met.T.RecordVisitor.then g.met.T.RecordVisitor.stops (types_1_to_4 county) (types_5_to_7 county)
-    (types_8_to_p county) c.in_ok-visit_chains.ensures.given c.in_ok-visit_names_and_landmarks.ensures.given c.visit_links_and_polygons.ensures.given)
+    (types_8_to_p county) c.in_ok-visit_three.ensures.given c.in_ok-visit_three-2.ensures.given c.visit_three-3.ensures.given)
