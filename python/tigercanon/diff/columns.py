@@ -119,7 +119,7 @@ OF_LANDMARK = (
     Column("LALONG, LALAT", 55, 73, "where it lies, for a landmark that is a point"),
 )
 OF_LINK = (
-    Column("SOURCE", 71, 80, "where the link comes from"),
+    Column("SOURCE", 71, 80, "where the topology comes from"),
     Column("FTSEG", 81, 97, "segment of the feature"),
     *(Column(f"RS_I{number}", 88 + 10 * number, 97 + 10 * number, "reserved") for number in (1, 2, 3)),
 )
