@@ -77,7 +77,7 @@ def record_types() -> dict[str, dict[str, Any]]:
 
 def contents() -> dict[str, list[dict[str, Any]]]:
     """The columns with the content of a map, which maps are compared by."""
-    named = ("CHAIN", "NAME", "RANGE", "LANDMARK", "LINK", "POLYGON")
+    named = ("CHAIN", "NAME", "RANGE", "LANDMARK", "TOPOLOGY", "POLYGON")
     made = {}
     for name in named:
         its: columns.Layout = getattr(columns, name)

@@ -84,12 +84,12 @@ class County(NamedTuple):
 
 def street(count: int) -> County:
     """Very many chains, each between two nodes and with a polygon on its left."""
-    link = {6: FILE, 11: b"%10d%10d%10d01001%10d"}
+    topology = {6: FILE, 11: b"%10d%10d%10d01001%10d"}
     number = next_of(int)
 
     def text() -> Pieces:
         yield from lines(chain_line(), range(count), number, longitude, next_of(longitude))
-        yield from lines(laid_out("I", link), range(count), number, number, next_of(number), number)
+        yield from lines(laid_out("I", topology), range(count), number, number, next_of(number), number)
 
     def otherwise() -> Pieces:
         """Every second chain is turned, and all have another order."""
@@ -98,7 +98,7 @@ def street(count: int) -> County:
         yield from lines(from_east, turned, TLID, next_of(NODE), NODE, POLYID)
         yield from lines(chain_line(), kept, TLID, longitude, next_of(longitude))
         yield from lines(chain_line(), turned, TLID, next_of(longitude), longitude)
-        yield from lines(laid_out("I", link, is_cut=True), kept, TLID, NODE, next_of(NODE), POLYID)
+        yield from lines(laid_out("I", topology, is_cut=True), kept, TLID, NODE, next_of(NODE), POLYID)
 
     return County(text, otherwise)
 
@@ -118,7 +118,7 @@ TWINS = {500: ("Ash", "Birch", "Cedar"), 1_500: ("Main", "Main", "Main", "Main")
 TIED_PLACE, TIED = 500, 7
 EACH = 999  # Further names or ranges of each chain made to be slow.
 OF_CHAIN = {"SOURCE": SOURCE.decode("latin-1"), "CFCC": "A41", **dict.fromkeys(("CENSUS1", "CENSUS2"), RESERVED.decode("latin-1"))}
-OF_LINK = {"FILE": maps.FILE, "SOURCE": OF_CHAIN["SOURCE"], "RS_I1": OF_CHAIN["CENSUS1"]}
+OF_TOPOLOGY = {"FILE": maps.FILE, "SOURCE": OF_CHAIN["SOURCE"], "RS_I1": OF_CHAIN["CENSUS1"]}
 
 
 class Hand(maps.Hand):
@@ -156,14 +156,14 @@ def other_lines(county: maps.County) -> Pieces:
 def street_chain(place: int, start: Optional[int], end: Optional[int], name: str = "Main", **more: Any) -> maps.Chain:
     """The chain at a place of the street, between two nodes."""
     points = [(longitude(it), int(LATITUDE)) for it in (place, place + 1)]
-    return maps.Chain({**OF_CHAIN, "FENAME": name}, points, start, end, **{"left": None, "right": None, "link": OF_LINK, **more})
+    return maps.Chain({**OF_CHAIN, "FENAME": name}, points, start, end, **{"left": None, "right": None, "topology": OF_TOPOLOGY, **more})
 
 
 def crowded() -> County:
     """Many names, landmarks, polygons and CENIDs, one long chain with many names and ranges, and one large landmark."""
-    link = {**OF_LINK, **dict.fromkeys(("RS_I2", "RS_I3"), OF_LINK["RS_I1"])}
+    topology = {**OF_TOPOLOGY, **dict.fromkeys(("RS_I2", "RS_I3"), OF_TOPOLOGY["RS_I1"])}
     chains = [
-        street_chain(it, it, it + 1, left=2 * it, right=2 * it + 1, names=[2 * it, 2 * it + 1], link=link) for it in range(CHAINS)
+        street_chain(it, it, it + 1, left=2 * it, right=2 * it + 1, names=[2 * it, 2 * it + 1], topology=topology) for it in range(CHAINS)
     ]
     long = chains[LONG]
     long.points[1:1] = ((WEST + STEP * LONG + place % 5, 32_300_000 + place) for place in range(POINTS))
@@ -253,10 +253,10 @@ def ties(
 ) -> County:
     """A street with seven chains of one shape, all between nodes of their own unless it says otherwise: all 5,040 orders of them have the
     same records of type 1. The last chain has all names, or as many as its records hold."""
-    nodes, link = itertools.count(TIED_PLACE + 1), {"FILE": maps.FILE}
-    tied = [street_chain(TIED_PLACE, **{"start": next(nodes), "end": next(nodes), **more}, link=link) for more in seven]
+    nodes, topology = itertools.count(TIED_PLACE + 1), {"FILE": maps.FILE}
+    tied = [street_chain(TIED_PLACE, **{"start": next(nodes), "end": next(nodes), **more}, topology=topology) for more in seven]
     further = next(nodes) - TIED_PLACE - 1
-    chains = [street_chain(place, place, place + 1, link=link) for place in range(TIED_PLACE)] + tied
-    chains += [street_chain(place, place + further, place + further + 1, link=link) for place in range(TIED_PLACE + 1, count)]
+    chains = [street_chain(place, place, place + 1, topology=topology) for place in range(TIED_PLACE)] + tied
+    chains += [street_chain(place, place + further, place + further + 1, topology=topology) for place in range(TIED_PLACE + 1, count)]
     chains[-1].names = list(range(min(len(names), FURTHER_NAMES)))
     return spelled(maps.County(chains, list(names), list(polygons), list(landmarks), outside=" " * 15))

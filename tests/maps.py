@@ -11,7 +11,7 @@ from typing import Any, Iterator, Optional, Sequence
 
 sys.path.insert(0, str(Path(__file__).resolve().parent.parent / "python"))
 
-from tigercanon.diff.columns import CHAIN, LANDMARK, LINK, NAME, POLYGON, RANGE, Layout  # noqa: E402
+from tigercanon.diff.columns import CHAIN, LANDMARK, NAME, POLYGON, RANGE, TOPOLOGY, Layout  # noqa: E402
 
 FILE = "01001"
 
@@ -35,7 +35,7 @@ class Chain:
     right: int | None
     names: list[int] = field(default_factory=list)
     ranges: list[Values] = field(default_factory=list)
-    link: Values = field(default_factory=dict)
+    topology: Values = field(default_factory=dict)
     outside: tuple[Optional[str], Optional[str]] = (None, None)
 
 
@@ -137,9 +137,9 @@ def lines(county: County, hand: Hand) -> Iterator[str]:
             yield f"42006{tlid:>10}{number:>3}" + "".join(names).ljust(40)
         for number, fields in enumerate(chain.ranges, 1):
             yield f"62006{tlid:>10}{number:>3}{content(RANGE, fields)}"
-        link = content(LINK, chain.link)
+        topology = content(TOPOLOGY, chain.topology)
         ends = f"{node_numbers[chain.start]:>10}{node_numbers[chain.end]:>10}"
-        yield f"I2006{link[:5]}{tlid:>10}{ends}{key(chain.left, chain.outside[0])}{key(chain.right, chain.outside[1])}{link[5:]}"
+        yield f"I2006{topology[:5]}{tlid:>10}{ends}{key(chain.left, chain.outside[0])}{key(chain.right, chain.outside[1])}{topology[5:]}"
     for name, feat in zip(county.names, feats):
         body = content(NAME, name)
         yield f"52006{body[:5]}{feat:>8}{body[5:]}"

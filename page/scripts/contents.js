@@ -44,5 +44,5 @@ export const CHAIN = new Content(CONTENTS.CHAIN);
 export const NAME = new Content(CONTENTS.NAME);
 export const RANGE = new Content(CONTENTS.RANGE);
 export const LANDMARK = new Content(CONTENTS.LANDMARK);
-export const LINK = new Content(CONTENTS.LINK);
+export const TOPOLOGY = new Content(CONTENTS.TOPOLOGY);
 export const POLYGON = new Content(CONTENTS.POLYGON);

@@ -2,7 +2,7 @@
 //
 // A field has a name, what it holds, and a kind: a text, a point, or a flag that something is there. Its text is what is read (plain),
 // the bytes (exact), and what is compared (mark).
-import { CHAIN, LANDMARK, LINK, NAME, POLYGON, RANGE } from "./contents.js";
+import { CHAIN, LANDMARK, NAME, POLYGON, RANGE, TOPOLOGY } from "./contents.js";
 import { degrees, NO_POINT } from "./points.js";
 import { isBlank } from "./records.js";
 import { BLANK, NONE } from "./tables.js";
@@ -62,7 +62,7 @@ export class Teller {
       fields.add(`${end} node`, `whether the ${end} has a node`, isBlank(chain.nodes[place]) ? NOTHING : THERE, "flag");
     });
     ["left", "right"].forEach((hand, place) => this.addSide(fields, hand, chain.sides[place]));
-    fields.addContent(LINK, chain.linkBody, " of type I");
+    fields.addContent(TOPOLOGY, chain.topologyBody, " of type I");
     return fields;
   }
 

@@ -152,7 +152,7 @@ function says(chain, teller) {
   const marks = [left, right].map((side) => teller.marks.get(side) ?? "-");
   const nodes = chain.nodes.map(isBlank).join();
   const names = chain.feats.length ? teller.county.nameBodies(chain) : [];
-  const parts = [chain.body, chain.linkBody, left.slice(0, 5), right.slice(0, 5), ...marks, nodes, names.join("|"), chain.ranges.join("|")];
+  const parts = [chain.body, chain.topologyBody, left.slice(0, 5), right.slice(0, 5), ...marks, nodes, names.join("|"), chain.ranges.join("|")];
   return parts.join("\n");
 }
 

@@ -1,6 +1,6 @@
 // Reads the records that the engine prints: a county's chains, feature names, polygons and landmarks. The engine spells each number
 // and point in one way, so equal ones are equal strings.
-import { CHAIN, LANDMARK, LINK, NAME, POLYGON, RANGE } from "./contents.js";
+import { CHAIN, LANDMARK, NAME, POLYGON, RANGE, TOPOLOGY } from "./contents.js";
 import { NO_POINT } from "./points.js";
 import { LENGTHS } from "./tables.js";
 
@@ -78,10 +78,10 @@ function there(map, key) {
 // The chains, in the order of their records of type 1.
 function readChains(records) {
   const [inner, names, ranges] = ["2", "4", "6"].map((type) => byChain(records[type]));
-  const links = new Map(records.I.map((line) => [line.slice(10, 20), line]));
+  const topologies = new Map(records.I.map((line) => [line.slice(10, 20), line]));
   return records["1"].map((line) => {
     const tlid = line.slice(5, 15);
-    const link = there(links, tlid);
+    const topology = there(topologies, tlid);
     const shape = (inner.get(tlid) ?? []).map((each) => each.slice(18).replace(UNUSED_PLACES, ""));
     return new Chain({
       key: `1${tlid}`,
@@ -89,9 +89,9 @@ function readChains(records) {
       points: line.slice(190, 209) + shape.join("") + line.slice(209),
       feats: (names.get(tlid) ?? []).flatMap(featsOf),
       ranges: (ranges.get(tlid) ?? []).map((each) => RANGE.of(each)),
-      linkBody: LINK.of(link),
-      nodes: [link.slice(20, 30), link.slice(30, 40)],
-      sides: [link.slice(40, 55), link.slice(55, 70)],
+      topologyBody: TOPOLOGY.of(topology),
+      nodes: [topology.slice(20, 30), topology.slice(30, 40)],
+      sides: [topology.slice(40, 55), topology.slice(55, 70)],
     });
   });
 }

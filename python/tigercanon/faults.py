@@ -7,12 +7,12 @@ from dataclasses import dataclass
 from itertools import islice
 from typing import Iterator, Sequence
 
-from .diff.columns import CHAIN, LANDMARK, LINK, NAME, POLYGON, RANGE
+from .diff.columns import CHAIN, LANDMARK, NAME, POLYGON, RANGE, TOPOLOGY
 from .errors import reason
 from .layout import FILLED, LENGTHS, NUMBERS, TYPES, Field
 
 REFUSAL = re.compile(r"refused (\d+) (\w+)((?: [0-9A-Za-z]+)*?)(?: in set [12])?")
-TEXTS = {each.record_type: each.columns for each in (CHAIN, LANDMARK, LINK, NAME, POLYGON, RANGE)}
+TEXTS = {each.record_type: each.columns for each in (CHAIN, LANDMARK, NAME, POLYGON, RANGE, TOPOLOGY)}
 RECORDS = {11: "1", 14: "1", 15: "I", 16: "5", 17: "4", 18: "P", 19: "8", 20: "8", 23: "P"}
 """The record type with the numbers that a refusal names, if it isn't named itself."""
 MOST_LINES = 2  # of a refusal of a county at most these are shown

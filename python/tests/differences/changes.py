@@ -167,7 +167,7 @@ def add_courts(changing: Changing) -> None:
         points = [begin, (begin[0] + (inside[0] - begin[0]) // 3 + 7, begin[1] + (inside[1] - begin[1]) // 3 + 9)]
         fields = {"SOURCE": "L", "FENAME": changing.chance.choice(("Quail", "Heron", "Wren")), "FETYPE": "Ct", "CFCC": "A41"}
         end = 10**6 + len(changing.county.chains)
-        court = Chain(fields, points, chain.start, end, chain.left, chain.left, link=dict(chain.link))
+        court = Chain(fields, points, chain.start, end, chain.left, chain.left, topology=dict(chain.topology))
         changing.county.chains.append(court)
         changing.touched.add(id(court))
         changing.tell("only in the second", court)

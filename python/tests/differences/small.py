@@ -10,7 +10,7 @@ from typing import Any, Callable, Hashable, Optional, TypeVar
 
 from maps import Chain, County, Landmark, Point, Polygon, Values, turned
 
-from tigercanon.diff.columns import CHAIN, LANDMARK, LINK, NAME, RANGE, Layout
+from tigercanon.diff.columns import CHAIN, LANDMARK, NAME, RANGE, TOPOLOGY, Layout
 
 PLACES: list[Point] = [(-86_000_000 + 10 * place, 32_000_000 + 7 * place * place) for place in range(6)]
 OFFICES = ("06001", "06002", "")
@@ -56,7 +56,7 @@ class Maker:
         chain = Chain(self.values(CHAIN, 0.05), self.points(), below(4), below(4), below(polygons), below(polygons))
         chain.names = [self.chance.randrange(len(county.names)) for _ in range(self.some([0, 0, 1, 2, 6]) if county.names else 0)]
         chain.ranges = [self.values(RANGE, 0.3) for _ in range(self.some([0, 0, 1, 2, 3]))]
-        chain.link = self.values(LINK)
+        chain.topology = self.values(TOPOLOGY)
         chain.outside = (self.some([*OFFICES]), self.some([*OFFICES]))
         return chain
 
@@ -100,8 +100,8 @@ def change_chain(maker: Maker, county: County) -> None:
     change_values(maker, CHAIN, chain.fields)
 
 
-def change_link(maker: Maker, county: County) -> None:
-    change_values(maker, LINK, maker.some(county.chains).link)
+def change_topology(maker: Maker, county: County) -> None:
+    change_values(maker, TOPOLOGY, maker.some(county.chains).topology)
 
 
 def move_point(maker: Maker, county: County) -> None:
@@ -229,7 +229,7 @@ def change_landmarks(maker: Maker, county: County) -> None:
 
 
 CHANGES: list[Callable[[Maker, County], None]] = [
-    *(change_chain, change_link, move_point, turn_points, turn_chain, remove_chain, double_chain),
+    *(change_chain, change_topology, move_point, turn_points, turn_chain, remove_chain, double_chain),
     *(change_end, change_end, exchange_ends, change_side, change_side, exchange_sides, change_office, change_names, change_names),
     *(change_ranges, change_ranges, change_name, add_name, change_polygon, change_polygon),
     *(change_landmark, change_records, move_landmark, change_areas, change_areas, change_landmarks),
@@ -272,7 +272,7 @@ class Contents:
         left, right = map(self.side, (chain.left, chain.right), chain.outside)
         names, ranges = [said(self.county.names[name]) for name in chain.names], map(said, chain.ranges)
         ends = chain.start is None, chain.end is None
-        return tuple(chain.points), said(chain.fields), said(chain.link), tuple(names), tuple(ranges), ends, left, right
+        return tuple(chain.points), said(chain.fields), said(chain.topology), tuple(names), tuple(ranges), ends, left, right
 
     def landmark(self, landmark: Landmark) -> Hashable:
         records = sorted(said(values) for values in (landmark.fields, *landmark.more))  # type: ignore[type-var]

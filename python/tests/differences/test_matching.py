@@ -13,7 +13,7 @@ from maps import Chain, County, Landmark, Polygon, turned, written
 from testing import ROOT
 
 from tigercanon.diff import page
-from tigercanon.diff.columns import CHAIN, LANDMARK, LENGTHS, LINK, NAME, POLYGON, RANGE
+from tigercanon.diff.columns import CHAIN, LANDMARK, LENGTHS, NAME, POLYGON, RANGE, TOPOLOGY
 from tigercanon.diff.fields import Pair, decimal, degrees
 from tigercanon.diff.geojson import features
 from tigercanon.diff.matching import Comparison, compare
@@ -40,7 +40,7 @@ def test_columns() -> None:
     tables = TABLE.findall((ROOT / "docs/format.md").read_text("utf-8"))
     assert LENGTHS == {kind: int(length) for kind, length, _ in tables}
     fields = {kind: FIELD.findall(table) for kind, _, table in tables}
-    for layout in (CHAIN, NAME, RANGE, LANDMARK, LINK, POLYGON):
+    for layout in (CHAIN, NAME, RANGE, LANDMARK, TOPOLOGY, POLYGON):
         wanted = [
             (name, int(first), int(last or first), partner.strip()) for first, last, name, partner in fields[layout.record_type]
         ]
@@ -88,7 +88,7 @@ def two_sided(*chains: Chain) -> County:
         ("chain", lambda chain: chain.fields.update(FENAME=""), [("FENAME", "Main", "(blank)")]),
         ("chain", lambda chain: chain.fields.update(FENAME=" Main"), [("FENAME", f'"{"Main":30}"', f'"{" Main":30}"')]),
         ("chain", lambda chain: chain.fields.update(SOURCE="A"), [("SOURCE", "(blank)", "A")]),
-        ("chain", lambda chain: chain.link.update(SOURCE="A"), [("SOURCE of type I", "(blank)", "A")]),
+        ("chain", lambda chain: chain.topology.update(SOURCE="A"), [("SOURCE of type I", "(blank)", "A")]),
         ("chain", lambda chain: chain.names.append(0), [("further name 1", "(none)", "Old Rd")]),
         ("chain", lambda chain: chain.ranges.append({}), [("range 1", "no", "yes")]),
         (

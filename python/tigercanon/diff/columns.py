@@ -118,7 +118,7 @@ OF_LANDMARK = (
     Column("LANAME", 25, 54, "name"),
     Column("LALONG, LALAT", 55, 73, "where it lies, for a landmark that is a point"),
 )
-OF_LINK = (
+OF_TOPOLOGY = (
     Column("SOURCE", 71, 80, "where the topology comes from"),
     Column("FTSEG", 81, 97, "segment of the feature"),
     *(Column(f"RS_I{number}", 88 + 10 * number, 97 + 10 * number, "reserved") for number in (1, 2, 3)),
@@ -128,5 +128,5 @@ CHAIN = Layout("1", (), OF_CHAIN)
 NAME = Layout("5", FILE, moved(FEATURE_NAME, 1))
 RANGE = Layout("6", (), moved(ADDRESSES, -40))
 LANDMARK = Layout("7", FILE, OF_LANDMARK)
-LINK = Layout("I", FILE, OF_LINK)
+TOPOLOGY = Layout("I", FILE, OF_TOPOLOGY)
 POLYGON = Layout("P", FILE, (Column("POLYLONG, POLYLAT", 26, 44, "a point inside it"), Column("WATER", 45, 45, "mark of water")))

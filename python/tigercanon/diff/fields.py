@@ -6,7 +6,7 @@ from collections import defaultdict, deque
 from functools import lru_cache
 from typing import Callable, Hashable, Iterable, NamedTuple, Sequence, TypeVar
 
-from .columns import CHAIN, LANDMARK, LINK, NAME, POLYGON, RANGE, Layout
+from .columns import CHAIN, LANDMARK, NAME, POLYGON, RANGE, TOPOLOGY, Layout
 from .reading import NO_POINT, POINT_WIDTH, Chain, County, Landmark, Polygon, PolygonKey
 
 NONE, BLANK, YES, NO = "(none)", "(blank)", "yes", "no"
@@ -70,7 +70,7 @@ class Teller(NamedTuple):
             if not side[5:].isspace():
                 name = FieldName(f"{hand} polygon", f"the polygon on the {hand}, by what its record says")
                 fields[name] = self.polygon_text(side)
-        fields.update(text_fields(LINK, chain.link_body, " of type I"))
+        fields.update(text_fields(TOPOLOGY, chain.topology_body, " of type I"))
         return fields
 
     def polygon_text(self, key: PolygonKey) -> Text:

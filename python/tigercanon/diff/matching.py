@@ -152,7 +152,7 @@ def says(chain: Chain, teller: Teller) -> tuple[Hashable, ...]:
     (left, right), (start, end) = chain.sides, chain.nodes
     sides = left[:5], right[:5], teller.marks.get(left), teller.marks.get(right)
     names = teller.county.name_bodies(chain) if chain.feats else ()
-    return chain.body, chain.link_body, *sides, start.isspace(), end.isspace(), names, chain.ranges
+    return chain.body, chain.topology_body, *sides, start.isspace(), end.isspace(), names, chain.ranges
 
 
 def is_own_reverse(chain: Chain) -> bool:

@@ -10,7 +10,7 @@ from dataclasses import dataclass, field
 from sys import intern
 
 from ..errors import Failure
-from .columns import CHAIN, LANDMARK, LENGTHS, LINK, NAME, POLYGON, RANGE
+from .columns import CHAIN, LANDMARK, LENGTHS, NAME, POLYGON, RANGE, TOPOLOGY
 
 POINT_WIDTH = 19
 NO_POINT = " " * POINT_WIDTH
@@ -37,7 +37,7 @@ class Chain:
     points: str
     feats: tuple[str, ...]
     ranges: tuple[str, ...]
-    link_body: str
+    topology_body: str
     nodes: tuple[str, str]
     sides: tuple[PolygonKey, PolygonKey]
 
@@ -118,10 +118,10 @@ def read_county(text: bytes) -> County:
 def read_chains(records: Records) -> list[Chain]:
     """The chains, in the order of their records of type 1."""
     inner, names, ranges = (by_chain(records[record_type]) for record_type in "246")
-    links, chains = {line[10:20]: line for line in records["I"]}, []
+    topologies, chains = {line[10:20]: line for line in records["I"]}, []
     for line in records["1"]:
         tlid = line[5:15]
-        link = links[tlid]
+        topology = topologies[tlid]
         feats = [each[at : at + 8] for each in names.get(tlid, ()) for at in range(18, 58, 8)]
         chain = Chain(
             key=f"1{tlid}",
@@ -129,9 +129,9 @@ def read_chains(records: Records) -> list[Chain]:
             points=line[190:209] + "".join([UNUSED_PLACES.sub("", each[18:]) for each in inner.get(tlid, ())]) + line[209:],
             feats=tuple([feat for feat in feats if not feat.isspace()]),
             ranges=tuple([RANGE.content(each) for each in ranges.get(tlid, ())]),
-            link_body=LINK.content(link),
-            nodes=(link[20:30], link[30:40]),
-            sides=(intern(link[40:55]), intern(link[55:70])),  # most polygons are on several sides, and share one key
+            topology_body=TOPOLOGY.content(topology),
+            nodes=(topology[20:30], topology[30:40]),
+            sides=(intern(topology[40:55]), intern(topology[55:70])),  # most polygons are on several sides, and share one key
         )
         chains.append(chain)
     return chains
