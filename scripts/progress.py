@@ -46,7 +46,7 @@ class Progress:
         return f"{len(self.weights) - len(self.parts)} of {len(self.weights)} crates, about {self.percent()} %"
 
     def begun(self) -> str:
-        """What is left at the start."""
+        """How much is left at the start."""
         share = f", about {100 - self.percent()} % of the work" if self.percent() else ""
         return f"{self.counted(len(self.parts))} left{share}"
 

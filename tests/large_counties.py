@@ -135,7 +135,7 @@ class Hand(maps.Hand):
 
 
 def spelled(county: maps.County) -> County:
-    """A county whose parts have the order and the directions of the canonical text, and the same by another hand."""
+    """A county whose parts have the order and the directions of the canonical text, and the same county as somebody else spells it."""
     return County(lambda: canonical_lines(county), lambda: other_lines(county))
 
 

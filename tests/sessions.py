@@ -1,9 +1,9 @@
 """Sessions: files that show commands of bash, and below each one its whole answer.
 
-A command comes after "    $ ", and its answer as far as the next command or the next line of explanation. An answer is what comes on
-standard output, then what comes on standard error, and then a status that isn't 0, in brackets. The folder of the test is ROOM in it. Three
-dots stand for any text of a line, such as a time. "== NAME" begins another session of the same file. One with lines that begin with "each"
-is tried once for each of them, with its values, between which is " :: ", in place of {0}, {1} and so on."""
+A command follows "    $ ". Its answer ends at the next command or the next line of explanation. An answer is the standard output, then
+the standard error, and then a status that isn't 0, in brackets. The folder of the test is ROOM in it. Three dots match any text in a
+line, such as a time. "== NAME" begins another session of the same file. One with lines that begin with "each" is tried once for each of
+them, with its values, separated by " :: ", in place of {0}, {1} and so on."""
 
 import re
 from pathlib import Path
@@ -13,13 +13,13 @@ STEP = re.compile(r"(?m)^    \$ (.*)\n((?:(?:    (?!\$ ).*)?\n)*)")
 
 
 class Step(NamedTuple):
-    """A command, and the answer that is shown."""
+    """A command, and its answer."""
 
     command: str
     answer: str
 
     def fault(self, status: int, printed: str, room: Path) -> str:
-        """Nothing if this is the answer, with the room's name in place of ROOM, and else what came."""
+        """Nothing if this is the answer, with the folder's name in place of ROOM, and otherwise what was printed."""
         found = (printed + f"[{status}]" * (status != 0)).replace(str(room), "ROOM").rstrip("\n")
         is_so = re.fullmatch(re.escape(self.answer).replace(re.escape("..."), ".*"), found)
         return "" if is_so else f"$ {self.command}\n{found}"

@@ -93,7 +93,7 @@ class Browser:
         return text
 
     def collect(self) -> None:
-        """Takes what the browser has logged since, and which addresses were asked for beside the page's own."""
+        """Takes what the browser has logged since, and which addresses it requested besides the page's own."""
         self.log += [entry["message"] for entry in self.driver.get_log("browser")]
         events = [json.loads(entry["message"])["message"] for entry in self.driver.get_log("performance")]
         asked = [event["params"]["request"]["url"] for event in events if event["method"] == "Network.requestWillBeSent"]

@@ -56,7 +56,7 @@ FLAGS = ("", "--no-sources", "--no-reserved", "--no-sources --no-reserved")
 
 @pytest.mark.parametrize("flags", FLAGS)
 def test_flags(four: Four, run: Any, flags: str) -> None:
-    """A manifest by a cluster is that of this machine: the workers leave out the same fields."""
+    """A cluster makes the same manifest as this machine: the workers leave out the same fields."""
     for where in ("--scheduler there:1", "--jobs 2"):
         assert run(f"fingerprint {where} {flags} in")[:2] == (0, manifest(four, flags)), where
     assert run(f"fingerprint --scheduler there:1 {flags} -o m in")[0] == 0

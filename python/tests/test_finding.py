@@ -87,7 +87,7 @@ def test_links() -> None:
 
 
 def test_files(archive: Path) -> None:
-    """What is known about a county: one of single files, also if one lies beside a zip, a zip, and one file with all records."""
+    """What is known about a county: one of single files, also if a zip of it is there too, a zip, and one file with all records."""
 
     def at(name: str, size: int = 5) -> File:
         return File(f"{archive}/in/{name}", size)

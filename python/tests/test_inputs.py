@@ -201,7 +201,7 @@ def test_standard_output(archive: Path, stream: str, command: str) -> None:
 
 
 def test_a_name_of_a_county(archive: Path) -> None:
-    """Nor does an output take the place of a county's file that isn't read: its own name was forgotten."""
+    """No output replaces a county's file that isn't read, as when the output's own name was forgotten."""
     before = files(archive)
     for name in ("in/TGR01001.RT1", "in/TGR01003.RT1", "zips/TGR01001.ZIP", "x.zip", "x.rtz"):
         for words in ("fingerprint -o", "diff --geojson", "diff --leaflet leaflet --page"):

@@ -37,7 +37,7 @@ class Refusal(Exception):
 
     number  1 to 7 for a faulty line, 9 if memory ran out (OutOfMemory), 11 to 24 if the records don't fit together
     name    the refusal's name, for example "BadNumber"
-    places  where it is, in the order of the line: a record type as a string ("6"), a CENID as ten hexadecimal digits
+    places  in the order of the line: a record type as a string ("6"), a CENID as ten hexadecimal digits
             ("3036303031"), everything else as numbers: parts, lines and columns, counted from 1, or TLIDs, FEATs,
             LANDs and POLYIDs
     set     from compare: which set is at fault, 1 or 2; otherwise None
@@ -115,8 +115,8 @@ ADDRESS_OF_EMPTY = ctypes.addressof(EMPTY)  # the address of a part without byte
 
 
 def place_of_library() -> tuple[str, str]:
-    """The file that the variable names, else the one beside this package, else that of the release or the clone around it, else the
-    name by which the system finds one. If a clone has none that was made from its sources, there is no file, and the reason."""
+    """The file that the variable names, else the one beside this package, else that of the release or the clone around it, else a name
+    that the system searches for. If a clone has no library that was made from its sources, there is no file, and the reason."""
     package = Path(__file__).resolve().parent
     root = package.parent.parent
     places = [package, root / "lib"]

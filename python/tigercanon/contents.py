@@ -15,7 +15,7 @@ from .storage import is_packed, members_of, opened_zip, pieces_of, tidy, unpacke
 
 
 def contents(path: str) -> list[bytes | bytearray]:
-    """The nine parts of the county of this name, of which those of absent files are empty; or the one part of a file with all records.
+    """The nine parts of the county of this name (an absent file is an empty part), or the one part of a file with all records.
     Raises FileNotFoundError if there is no such county, Unreadable if it isn't clear which records are meant, or if they are more than
     a county may have, and OSError."""
     county = Finder().of_name(tidy(path), is_exact=True)

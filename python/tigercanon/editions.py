@@ -21,7 +21,7 @@ class Edition(NamedTuple):
 
 
 class History(NamedTuple):
-    """A county through the editions: its line in each, or None where it isn't there. It may have another name in each."""
+    """A county through the editions: its line in each, or None if an edition doesn't have it. It may have another name in each."""
 
     editions: tuple[str, ...]
     lines: tuple[Line | None, ...]
@@ -37,12 +37,12 @@ class History(NamedTuple):
 
     @property
     def maps(self) -> list[int | None]:
-        """A number for its map in each edition: the same number for the same map. None where there is no map."""
+        """A number for its map in each edition: the same number for the same map. None if an edition has no map of it."""
         found: dict[str, int] = {}
         return [found.setdefault(line.fingerprint, 1 + len(found)) if line and line.fingerprint else None for line in self.lines]
 
     def step(self, place: int) -> str:
-        """What became of it between an edition and the one before: one of KINDS, or nothing where neither has it."""
+        """How it changed between an edition and the one before: one of KINDS, or nothing if neither edition has it."""
         old, new = self.lines[place - 1 : place + 1]
         if old is None or new is None:
             return "added" if new else "removed" if old else ""

@@ -32,7 +32,7 @@ class Gone(Exception):
 
 
 class Engine:
-    """Judges counties side by side: by as many threads as there are processors, or as are asked for."""
+    """Judges counties side by side, in the given number of threads, or one for each processor."""
 
     def __init__(self, jobs: int | None, resources: Resources) -> None:
         self.resources = resources

@@ -120,5 +120,5 @@ def found_there(name: str) -> County | None:
 
 
 def bare(line: str) -> str:
-    """A refusal without names before it and notes behind it."""
+    """A refusal without names before it and notes after it."""
     return re.sub(r"(?s).*\b(?=refused \d)|;.*", "", line).strip()

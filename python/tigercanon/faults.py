@@ -1,4 +1,4 @@
-"""Where a refusal lies in a county's files: the line, its field, what is wrong with it, and an example of what would be right."""
+"""The place of a refusal in a county's files: the line, its field, what is wrong with it, and an example of what would be right."""
 
 from __future__ import annotations
 
@@ -75,7 +75,7 @@ def faults_of(refusal: str, files: Sequence[str], names: Sequence[str]) -> list[
 
 
 def unreadable(file: str, is_first: bool) -> str:
-    """Why a file can't be read, if it can't. Only the first one of a set has to be there."""
+    """Why a file can't be read, if it can't. Only the first file of a set must exist."""
     try:
         with open(file, "rb") as opened:
             while opened.read(1 << 20):

@@ -41,7 +41,7 @@ class Inputs:
             raise Failure(f"{shown}: can't be written: this command reads it{other}")
 
     def spare_all(self, outputs: Iterable[str]) -> None:
-        """Raises Failure if a command can't write to all of these names: one leads to a file that it reads, or is that of a county's
+        """Raises Failure if a command can't write to all of these names: one leads to a file that it reads, or is the name of a county's
         file, as when the output's own name was forgotten."""
         for name in outputs:
             self.spare(name, name)
@@ -57,7 +57,7 @@ def path_of(name: str) -> str:
 
 
 def identity(file: Union[str, int]) -> Optional[Identity]:
-    """The device of a regular file and its number there. Nothing for what is no such file, or can't be asked."""
+    """The device of a regular file and its number there. Nothing for anything else, or if the system doesn't say."""
     with suppress(OSError, ValueError):
         status = os.stat(file)
         if stat.S_ISREG(status.st_mode):
@@ -66,7 +66,7 @@ def identity(file: Union[str, int]) -> Optional[Identity]:
 
 
 def silence(stream: int) -> None:
-    """What is printed to a stream from now on is dropped."""
+    """Drops everything that is printed to a stream from now on."""
     nothing = os.open(os.devnull, os.O_WRONLY)
     os.dup2(nothing, stream)
     os.close(nothing)

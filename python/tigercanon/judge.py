@@ -24,7 +24,7 @@ from .storage import fetch, is_packed, is_url, members_of, opened_zip, pieces_of
 ANSWERS = {"fingerprint": re.compile(rb"[0-9a-f]{64}\n"), "check": re.compile(b"accepted\n")}
 """What the program prints for a county that it accepts."""
 NEEDED_IN_STRICT_MODE = "12I"  # types whose file may not be empty in strict mode
-LARGEST = 2 * 10**9  # the bytes that a county may have after it is unpacked, if nothing else is asked for
+LARGEST = 2 * 10**9  # the bytes that a county may have after it is unpacked, by default
 
 
 @dataclass(frozen=True)
@@ -114,7 +114,7 @@ class Source:
         return resources.run([program, job, *["--stem"] * self.is_stem, *flags, "--", self.place], memory)
 
     def complaint(self, ended: subprocess.CompletedProcess[bytes]) -> list[str]:
-        """The program's line, or what can be said about its end; and a hint, if there is one."""
+        """The program's line, or how it ended; and a hint, if there is one."""
         lines = ended.stderr.decode(errors="replace").strip().splitlines()
         if ended.returncode < 0:
             line = f"the program was ended by signal {-ended.returncode}"
@@ -154,7 +154,7 @@ def judge(county: County, order: Order, resources: Resources) -> Answer:
 
 def prepared(county: County, order: Order, notes: list[str], resources: Resources) -> Source:
     """The set as the program reads it: the county's own files, links to them, copies, or what was in its zip. Notes which of the nine
-    files, or the records of which types, are missing."""
+    files are missing, or which record types."""
     if county.whole:
         return prepared_whole(county.stem, local(county.whole, resources), order, notes, resources)
     pieces: dict[str, Iterator[bytes]] = {}
@@ -241,8 +241,8 @@ def note_files(sizes: Mapping[str, int | None], order: Order, notes: list[str]) 
 
 
 def note_records(path: str, order: Order, notes: list[str]) -> None:
-    """Notes that a file with all records is empty. In strict mode it notes of which types there is no record, and raises Rejected if one
-    of them is needed."""
+    """Notes that a file with all records is empty. In strict mode it notes which record types are missing, and raises Rejected if one of
+    them is needed."""
     missing = types_missing(path) if order.is_strict else []
     if any(kind in NEEDED_IN_STRICT_MODE for kind in missing):
         raise Rejected(f"rejected by --strict: no records of type {' '.join(missing)}")
@@ -253,7 +253,7 @@ def note_records(path: str, order: Order, notes: list[str]) -> None:
 
 
 def types_missing(path: str) -> list[str]:
-    """The record types of which a file has no line."""
+    """The record types that a file has no line of."""
     if os.path.getsize(path) == 0:
         return [*TYPES]
     with open(path, "rb") as file, mmap.mmap(file.fileno(), 0, access=mmap.ACCESS_READ) as text:

@@ -25,7 +25,7 @@ from .storage import joined, tidy
 T = TypeVar("T")
 Numbered = Generator[tuple[int, T], None, None]  # values with the numbers of their counties
 LASTING = re.compile(r"refused (?:[1-7]|1[1-9]|2[0-9]) ")  # refusals that a county gets again as long as its files are the same
-TELLING = re.compile(r"[0-9]+ [^- ]\S*(?:, [0-9]+ [^- ]\S*)*")  # sources by which a change on disk is seen
+TELLING = re.compile(r"[0-9]+ [^- ]\S*(?:, [0-9]+ [^- ]\S*)*")  # sizes and times of files that show a change on disk
 
 
 @dataclass(frozen=True)
@@ -118,7 +118,7 @@ class Judging:
         self.gone, self.left = "", 0
 
     def inputs(self, counties: Iterable[County], *others: str) -> Inputs:
-        """What is read: the files of these counties, those that are named beside them, and others."""
+        """The inputs: the files of these counties, those that are named beside them, and others."""
         return self.resources.inputs([*(file.place for county in counties for file in county.places), *self.means.files, *others])
 
     def answers(self, counties: Sequence[County], flags: tuple[str, ...] = (), is_strict: bool = False) -> Numbered[Answer]:

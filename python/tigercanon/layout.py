@@ -52,7 +52,7 @@ class Field:
 
 
 def points(names: str, first: int, holds: str, is_required: bool = False) -> tuple[Field, Field]:
-    """A longitude of 10 columns and the latitude of 9 behind it."""
+    """A longitude of 10 columns and the latitude of 9 after it."""
     longitude, latitude = names.split()
     middle = first + 10
     return (

@@ -30,7 +30,7 @@ Flags = tuple[str, ...]
 FORM = "# tigercanon form 1"
 FLAGS = ("--no-sources", "--no-reserved")
 FLAG_SETS = ((), FLAGS[:1], FLAGS[1:], FLAGS)
-UNPROVED = "unproved"  # stands before the flags if the program isn't proved
+UNPROVED = "unproved"  # comes before the flags if the program isn't proved
 LINE = re.compile(rb"([0-9a-fA-F]{64})  ([^\n]+)")
 COMMENT = re.compile(rb"# ((?:[0-9?]+ [^ \n]+)(?:, [0-9?]+ [^ \n]+)*)  (?:(refused [0-9A-Za-z ]+)  )?([^\n]+)")
 STARTED_LINE = re.compile(rb"[0-9a-f]{0,64}|[0-9a-f]{64} ( [^\n]*)?|#[^\n]*")
@@ -120,7 +120,7 @@ def parsed(name: str, is_written: bool = False) -> tuple[Flags | None, list[Line
 
 
 def is_other_file(stem: str) -> bool:
-    """Whether a name is that of a file whose hash isn't a fingerprint: one of a county's nine, a zip, or one without records."""
+    """Whether a name belongs to a file whose hash isn't a fingerprint: one of a county's nine, a zip, or one without records."""
     if kind_of(stem):
         return True
     return os.path.isfile(stem) and not has_records(stem, Entry(os.path.basename(stem), False, None))
@@ -162,7 +162,7 @@ class Manifest:
             self.put_in_order()
 
     def add(self, line: Line) -> None:
-        """Adds a county, or puts it in the place of the line that it had. It is written at once: the whole of it or nothing."""
+        """Adds a county, or replaces the line that it had. The line is written at once: the whole of it or nothing."""
         with self.resources.lock, reported(self.name), open(self.place, "ab", buffering=0) as file:
             self.inputs.spare(self.name, file.fileno())  # another file may have taken its name
             before = file.tell()

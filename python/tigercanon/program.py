@@ -14,7 +14,7 @@ from .errors import Failure, reason
 VARIABLE = "TIGERCANON"
 PACKAGE = Path(__file__).resolve().parent
 ADVICE = "run ./tigercanon once, which builds it, or name one with --program"
-# Settings that make the program faster, unless the user has others: its memory lies in large pages, and what it frees is used again.
+# Settings that make the program faster, unless the user has others: its memory is in large pages, and it keeps memory that it frees.
 TUNABLES = "glibc.malloc.hugetlb=1:glibc.malloc.mmap_threshold=8589934592:glibc.malloc.trim_threshold=17179869184"
 
 
@@ -44,7 +44,7 @@ def find_program(named: str | None = None) -> str:
 
 
 def launched(root: Path) -> str:
-    """The program of a clone, or nothing, and then the reason was reported. If it has to be built first, that is reported too."""
+    """The program of a clone, or nothing, and then the reason was reported. If it must be built first, that is reported too."""
     words = [str(root / "scripts/launch"), "--program", str(root)]
     ended = subprocess.run(words, stdin=subprocess.DEVNULL, stdout=subprocess.PIPE)
     return os.fsdecode(ended.stdout).rstrip("\n") if ended.returncode == 0 else ""

@@ -111,7 +111,7 @@ class Resources:
 
 @contextmanager
 def started(words: Sequence[str]) -> Iterator[subprocess.Popen[bytes]]:
-    """A process, which is ended if it hasn't ended by itself."""
+    """A process, which is ended if it still runs."""
     pipe, nothing, environment = subprocess.PIPE, subprocess.DEVNULL, {"GLIBC_TUNABLES": TUNABLES, **os.environ}
     child = subprocess.Popen(words, stdin=nothing, stdout=pipe, stderr=pipe, env=environment, start_new_session=True)
     try:

@@ -98,7 +98,7 @@ class Browser:
         self.run("filter(...arguments)", text)
 
     def requests(self) -> list[str]:
-        """The addresses of all that was asked for since the browser began."""
+        """The addresses of all requests since the browser began."""
         messages = [json.loads(entry["message"])["message"] for entry in self.driver.get_log("performance")]
         return [message["params"]["request"]["url"] for message in messages if message["method"] == "Network.requestWillBeSent"]
 

@@ -74,7 +74,7 @@ class TestPage:
         browser.open(page)
 
     def test_head(self, browser: Browser, page: Path) -> None:
-        """Nothing but the page itself is asked for."""
+        """The browser requests only the page itself."""
         assert set(browser.requests()) == {page.as_uri()}
         head = browser.texts(".sets")[0]
         assert re.search(r"/<b>a-folder-with-a-long-name/another-folder-with-a-long-name/first\s+[0-9a-f]{64}\b", head)

@@ -1,5 +1,5 @@
 """Small counties and changes of them, made at random: diff lists something exactly if the library's compare says that the maps differ, and
-no more than what differs. They are compared in this process."""
+only what differs. They are compared in this process."""
 
 import pickle
 from typing import Iterator

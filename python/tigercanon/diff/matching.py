@@ -244,7 +244,7 @@ def ties_of(chain: Chain, twin: Chain, first: Teller, second: Teller) -> Iterato
 
 
 def areas_of(landmark: Landmark, twin: Landmark, first: Teller, second: Teller) -> Iterator[Tied]:
-    """The polygons that a landmark lies in, in both maps."""
+    """The polygons of a landmark, in both maps."""
     ones = [((file, first.marks[key]), key) for file, key in landmark.places]
     others = [((file, second.marks[key]), key) for file, key in twin.places]
     pairs, _, _ = pair_by(ones, others, lambda area: area[0])

@@ -29,8 +29,8 @@ class NotCanonical(Failure):
 
 @dataclass(eq=False)
 class Chain:
-    """The content of the records of one TLID, which is its key behind the record type. The nodes are those at its start and its
-    end, the sides the left and the right one."""
+    """The content of the records of one TLID. The key is the TLID as it follows the record type. The nodes are those at the start and
+    the end, and the sides the left and the right one."""
 
     key: str
     body: str
