@@ -34,7 +34,7 @@ export class DifferenceList {
       });
       return h("tr", {}, h("th", { scope: "row" }, h("label", { for: `kind-${place}` }, box, sign, kind)), cells);
     });
-    const tied = ties ? h("p", { class: "quiet" }, `Tied in another way: ${counted(ties)}.`) : null;
+    const tied = ties ? h("p", { class: "quiet" }, `Joined differently: ${counted(ties)}.`) : null;
     return h("div", {}, h("table", { class: "kinds" }, h("thead", {}, head), h("tbody", {}, rows)), tied);
   }
 

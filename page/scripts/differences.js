@@ -55,7 +55,7 @@ export function* things(found, withAlike = false) {
   }
 }
 
-// The first sentence of a report if nothing differs, or only how things are tied.
+// The first sentence of a report if nothing differs, or only how things are joined.
 export function verdictOf(found, areOneMap) {
   if (areOneMap) return ONE_MAP;
   return found.isAlike ? TIED : "";

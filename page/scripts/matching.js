@@ -44,7 +44,7 @@ class Comparison {
     return { chain: this.chains, landmark: this.landmarks, polygon: this.polygons, "feature name": this.names };
   }
 
-  // Whether nothing differs, unless it is how things are tied.
+  // Whether nothing differs, except how things are joined.
   get isAlike() {
     return Object.values(this.parts).every((part) => part.isAlike);
   }

@@ -1,4 +1,4 @@
-// How things are tied: the nodes, polygons and feature names that are one in one of two maps and several in the other, though what
+// How things are joined: the nodes, polygons and feature names that are one in one of two maps and several in the other, though what
 // they number is the same in both.
 import { LANDMARK } from "./contents.js";
 import { chainTitle, landmarkTitle, pairBy } from "./fields.js";

@@ -128,7 +128,7 @@ def differences(
     no_reserved: bool = False,
     program: str | None = None,
 ) -> Iterator[Difference]:
-    """Where two counties differ: nothing if they are one map. How things are tied isn't among it. Raises Failure."""
+    """Where two counties differ: nothing if they are one map. It leaves out how things are joined. Raises Failure."""
     names = [os.fspath(first), os.fspath(second)]
     with Resources() as resources:
         counties, masks = [found(name, False) for name in names], flags_for(no_sources, no_reserved)

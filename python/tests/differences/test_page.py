@@ -179,10 +179,10 @@ def test_one_map(browser: Browser, room: Path, county: County) -> None:
 
 
 def test_ties(browser: Browser, room: Path) -> None:
-    """The page of maps that differ only in how things are tied."""
+    """The page of maps that differ only in how things are joined."""
     _, *files = split_maps(room, 220, 27)
     browser.open(page_of(room, *files))
-    assert "What differs is how they are tied" in browser.texts("#notes")[0]
+    assert "What differs is how they are joined" in browser.texts("#notes")[0]
     assert len(browser.texts("#list li")) == 1
     browser.click("#list button")
     assert "one node in the first, 2 in the second" in browser.popup()

@@ -88,7 +88,7 @@ class Comparison:
 
     @property
     def is_alike(self) -> bool:
-        """Whether nothing differs, unless it is how things are tied."""
+        """Whether nothing differs, except how things are joined."""
         return all(part.is_alike for part in self.parts)
 
 

@@ -362,7 +362,7 @@
     });
   }
 
-  /** The layers, by kind and subject. What is tied in another way has no layer that can be hidden. */
+  /** The layers, by kind and subject. What is joined differently has no layer that can be hidden. */
   const layers = KINDS.map((_, kind) => ({ chain: new Chains(kind), landmark: L.featureGroup(), polygon: L.featureGroup() }));
   const ties = L.featureGroup();
 
@@ -545,7 +545,7 @@
   function details(entry) {
     const kind = KINDS[entry.kind];
     const box = element('div', { tabindex: '-1' });
-    const words = entry.what === 'tie' ? 'tied in another way' : `${entry.what} ${data.kinds[entry.kind]}`;
+    const words = entry.what === 'tie' ? 'joined differently' : `${entry.what} ${data.kinds[entry.kind]}`;
     box.append(element('p', { class: `kind ${kind.name}` }, `${kind.sign} ${words}`), element('h3', {}, entry.title), element('p', {}, unbroken(entry.about)));
     if (entry.groups.length) box.append(element('ul', {}, ...entry.groups.map((group) => element('li', {}, group.join('; ')))));
     if (entry.kind === CHANGED) {
@@ -586,7 +586,7 @@
 
   function item(entry) {
     const kind = KINDS[entry.kind];
-    const words = entry.what === 'tie' ? 'tied in another way' : `${entry.what} ${data.kinds[entry.kind]}`;
+    const words = entry.what === 'tie' ? 'joined differently' : `${entry.what} ${data.kinds[entry.kind]}`;
     const button = element(
       'button',
       { type: 'button', tabindex: '-1', 'data-entry': entry.index, 'aria-current': current === entry ? 'true' : undefined },

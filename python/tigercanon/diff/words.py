@@ -14,7 +14,7 @@ from .sets import Sets
 KINDS = ("only in the first", "only in the second", "changed", "alike")
 ONE_MAP = "No differences: the two are one map."
 TIED = (
-    "All chains, landmarks, polygons and feature names are alike. What differs is how they are tied: which ends of chains are one "
+    "All chains, landmarks, polygons and feature names are alike. What differs is how they are joined: which ends of chains are one "
     "node, which sides are one polygon, which chains share a feature name, or which polygons a landmark lies in."
 )
 
@@ -95,7 +95,7 @@ def things(comparison: Comparison, with_alike: bool = False) -> Iterator[Thing]:
 
 
 def verdict(comparison: Comparison, sets: Sets) -> str:
-    """The first sentence of a report if nothing differs, or only how things are tied."""
+    """The first sentence of a report if nothing differs, or only how things are joined."""
     if sets.are_one_map:
         return ONE_MAP
     return TIED if comparison.is_alike else ""
@@ -114,7 +114,7 @@ def told(comparison: Comparison, sets: Sets, is_summary: bool = False) -> Iterat
         yield ONE_MAP
         return
     yield from told_counts(comparison)
-    tied = [f"tied in another way: {len(comparison.ties):,}"] if comparison.ties else []
+    tied = [f"joined differently: {len(comparison.ties):,}"] if comparison.ties else []
     if is_summary:
         yield from tied
         return
