@@ -86,7 +86,7 @@ def add_command(commands: Any, name: str, about: str, run: Run) -> argparse.Argu
 
 WHERE = "default: the one that $TIGERCANON names, else the one built here, else the one on the PATH"
 SHARED: dict[str, dict[str, Any]] = {
-    "--program": {"metavar": "FILE", "help": f"run this program tigercanon ({WHERE})"},
+    "--program": {"metavar": "FILE", "help": f"the program tigercanon to run ({WHERE})"},
     "--no-sources": {"action": "store_true", "help": "leave out the fields that record where data came from"},
     "--no-reserved": {"action": "store_true", "help": "leave out the reserved fields"},
     "--json": {"action": "store_true", "help": "print JSON, one value on each line"},
@@ -105,7 +105,7 @@ def add_judging_options(made: argparse.ArgumentParser, with_flags: bool = True) 
     engine.add_argument("--jobs", metavar="N", type=count_of, help="process N counties at a time (default: one per processor)")
     about = "use the workers of the Dask scheduler at this address, or at the one in a file that the scheduler has written"
     engine.add_argument("--scheduler", metavar="ADDRESS", help=about)
-    about = "limit the memory of each process, for example to 4GB; a county that doesn't fit is tried once more alone"
+    about = "limit the memory of each process, for example to 4GB; a county that doesn't fit is tried again, alone"
     made.add_argument("--memory", metavar="SIZE", type=size_of, help=about)
     about = f"skip zips that unpack to more than SIZE (default: {LARGEST})"
     made.add_argument("--largest", metavar="SIZE", type=size_of, default=size_of(LARGEST), help=about)
@@ -184,7 +184,7 @@ def add_other_commands(commands: Any) -> None:
     about = "explain a refusal: what it means, an example, and what to do; of a county it shows the place too"
     made = add_command(commands, "explain", about, explanations.run)
     add_shared(made, "--program")
-    about = "the line that the program printed, or the refusal's number or name; a COUNTY may follow, or stand alone"
+    about = "the line that the program printed, or the refusal's number or name; a COUNTY may follow it, or be given instead"
     made.add_argument("line", metavar="LINE", nargs="+", help=about)
 
 
