@@ -1,7 +1,7 @@
 """The calls for archives. Each returns or yields values, and prints nothing; the commands of tigercanon-tools are made of them.
 
-They run the program, and need no library. Counties are named as on the command line of tigercanon-tools. What a call starts and makes
-ends with it, or with its generator.
+They run the program, and need no library. Counties are named as on the command line of tigercanon-tools. At the end of a
+call, or of its generator, the processes that it started end and its temporary files are removed.
 """
 
 from __future__ import annotations

@@ -58,8 +58,8 @@ class Finder:
         return self.once(self.all(sources), is_known)
 
     def of_source(self, source: str) -> Iterator[County]:
-        """The counties of a source: a folder, the name of a county or of one of its files, or a glob. What has a glob as its name is
-        found by it."""
+        """The counties of a source: a folder, the name of a county or of one of its files, or a glob. If a county's name
+        looks like a glob, the name finds it too."""
         path = tidy(source) or ("/" if source.startswith("/") else "")
         try:
             if not kind_of(path) and is_folder(path or "."):

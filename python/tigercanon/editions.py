@@ -61,7 +61,7 @@ class History(NamedTuple):
 
     @property
     def verdict(self) -> str:
-        """What became of it, in words: `same since 1990`, or `changed in 2000, back in 2006`."""
+        """How it changed, in words: `same since 1990`, or `changed in 2000, back in 2006`."""
         if self.is_same:
             return f"same since {self.editions[0]}"
         maps, told = self.maps, []

@@ -28,7 +28,7 @@ Result = Optional[tuple[int, Answer]]  # a county's number and its answer, or No
 
 
 class Gone(Exception):
-    """What judges counties is gone. The text says why."""
+    """The engine can judge no more counties. The text says why."""
 
 
 class Engine:
@@ -65,7 +65,7 @@ class Engine:
                 yield under_way.pop(future), self.answer(future)
 
     def begin(self, counties: Sequence[County], order: Order) -> Any:
-        """Hands over the counties, and returns a future for each."""
+        """Submits the counties, and returns a future for each."""
         return [self.pool.submit(judge, county, order, self.resources) for county in counties]
 
     def answer(self, future: Any) -> Any:

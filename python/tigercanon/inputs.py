@@ -1,4 +1,4 @@
-"""The files that a call or a command reads. Neither writes over one of them."""
+"""The files that a call or a command reads. None of them is written over."""
 
 from __future__ import annotations
 

@@ -71,7 +71,7 @@ class Checked:
 
 @dataclass(frozen=True)
 class Means:
-    """What judges counties: the program, in as many processes at a time, or the workers of a scheduler; and within which limits."""
+    """How counties are judged: by this many processes of the program at a time, or by the workers of a scheduler; and their limits."""
 
     program: str | None = None
     jobs: int | None = None

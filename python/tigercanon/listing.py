@@ -57,7 +57,7 @@ def list_pages(found: Sequence[History], options: argparse.Namespace, console: C
 
 
 def of_two(found: Sequence[History]) -> Iterator[str]:
-    """A line for each county of two editions: what became of it, and its name in the later one."""
+    """A line for each county of two editions: how it changed, and its name in the later one."""
     for each in found:
         (step,), old = each.steps, each.lines[0]
         before = f"  was {old.stem}" if step == "renamed" and old else ""
@@ -65,7 +65,7 @@ def of_two(found: Sequence[History]) -> Iterator[str]:
 
 
 def table(found: Sequence[History]) -> Iterator[str]:
-    """A line for each county: the number of its map in each edition, and what became of it."""
+    """A line for each county: the number of its map in each edition, and how it changed."""
     if not found:
         return
     rows = [("county", found[0].editions, "")]

@@ -71,7 +71,7 @@ class Line(NamedTuple):
 
     @property
     def entry(self) -> str:
-        """The lines of a county in a manifest. sha256sum takes those for comments that begin with #."""
+        """The lines of a county in a manifest. For sha256sum those that begin with # are comments."""
         if self.refusal:
             return f"# {self.sources}  {self.refusal}  {self.stem}\n"
         return f"# {self.sources}  {self.stem}\n{self}\n" if self.sources else f"{self}\n"
@@ -243,7 +243,7 @@ def respect_lock(name: str) -> None:
 
 
 def give_back(name: str, handle: int) -> None:
-    """Removes the file while it is locked: another run that has opened it finds that it is no longer the file of that name."""
+    """Removes the file while it is locked. Another run that has opened it notices that the name no longer leads to it."""
     with suppress(OSError):
         os.unlink(lock_of(name))
     with suppress(OSError):

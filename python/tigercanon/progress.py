@@ -57,7 +57,7 @@ def duration(seconds: float) -> str:
 
 
 class Tally:
-    """The counties that are judged, and the results so far. A call from Python shows them to nobody."""
+    """The counties that are judged, and the results so far. A call from Python doesn't show them."""
 
     def __init__(self) -> None:
         self.counties = self.ended = self.bytes = self.bytes_in_all = self.failed = 0
@@ -70,7 +70,7 @@ class Tally:
         return self.ended - sum(self.refused.values()) - self.failed
 
     def start(self, counties: int, bytes_in_all: int) -> None:
-        """What there is to do is known."""
+        """All counties are found."""
         self.counties, self.bytes_in_all = counties, bytes_in_all
 
     def end(self, size: int) -> None:
@@ -82,7 +82,7 @@ class Tally:
         """A moment has passed."""
 
     def close(self) -> None:
-        """There is nothing more to do."""
+        """All counties are done."""
 
 
 class Console:
@@ -93,7 +93,7 @@ class Console:
         self.progress: Progress | None = None
 
     def report(self, text: str) -> None:
-        """Reports a line, above the progress bar if there is one. What can't be written is dropped."""
+        """Reports a line, above the progress bar if there is one. If it can't be written, it is dropped."""
         line = f"tigercanon-tools: {printable(text)}"
         with self.lock, suppress(OSError, ValueError, AttributeError):
             if self.progress and self.progress.bar is not None:
@@ -104,7 +104,7 @@ class Console:
 
 
 class Progress(Tally):
-    """A tally that is shown: by a bar, where standard error is a terminal and tqdm is installed, or else by a line now and then."""
+    """A tally that is shown: by a bar, if standard error is a terminal and tqdm is installed, or else by a line now and then."""
 
     bar: Any = None
 

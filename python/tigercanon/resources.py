@@ -36,7 +36,7 @@ class Closed(Exception):
 
 class Resources:
     """What a call or a command, or a part of one, has started and made. It ends with the block. Each call has its own, so calls in
-    several threads don't know of each other. prints: whether standard output and standard error belong to it, as they do to a command.
+    several threads are independent. prints: whether standard output and standard error belong to it, as they do to a command.
     """
 
     def __init__(self, prints: bool = False, whole: Resources | None = None) -> None:
@@ -159,7 +159,7 @@ def remove(path: str) -> None:
 
 
 def remove_stale_folders() -> None:
-    """Removes the folders of runs that were killed. A folder in which anything else lies is the user's."""
+    """Removes the folders of runs that were killed. A folder with anything else in it is the user's."""
     ours = {COUNTY, *(file_name(COUNTY, kind) for kind in TYPES)}
     for room in filter(None, {os.environ.get(VARIABLE, IN_MEMORY), tempfile.gettempdir()}):
         for path in Path(room).glob(f"{PREFIX}*{SUFFIX}"):
@@ -171,7 +171,7 @@ def remove_stale_folders() -> None:
 
 
 class Writable(Protocol):
-    """What a page, GeoJSON or a table is written to."""
+    """Where a page, GeoJSON or a table is written."""
 
     def write(self, text: bytes) -> None:
         ...
@@ -191,7 +191,7 @@ STANDARD_OUTPUT = ("-", "/dev/stdout", "/dev/fd/1", "/proc/self/fd/1")
 
 
 class NewFile:
-    """A file beside the one whose place it takes when it is whole. If it isn't, nothing is left of it at the end of the block."""
+    """A file beside the one that it replaces when it is whole. If it isn't whole at the end of the block, it is removed."""
 
     file: BinaryIO
 

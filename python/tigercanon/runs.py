@@ -74,7 +74,7 @@ def fingerprint(options: argparse.Namespace, console: Console, resources: Resour
 
 
 def report_found(survey: Survey, console: Console) -> None:
-    """What was found besides the counties that are judged."""
+    """Reports files that aren't judged, and why."""
     finder = survey.finder
     for stem, first in finder.same:
         console.report(f"{stem}: the same file as {first}, which is counted once")
@@ -140,7 +140,7 @@ def check(options: argparse.Namespace, console: Console, resources: Resources) -
 
 
 def shown(each: Checked) -> list[str]:
-    """What is wrong with a county, and the places of that."""
+    """What is wrong with a county, and where."""
     places = [f"    {line}" for fault in each.faults for line in fault.shown()]
     return [f"{each.county}: {each.reason or 'accepted'}", *places]
 

@@ -12,7 +12,7 @@ from ..layout import LENGTHS as LENGTHS
 
 @dataclass(frozen=True)
 class Column:
-    """A field of a record. Its partner, for a chain, holds the same thing as seen from the chain's other end."""
+    """A field of a record. Its partner, for a chain, holds the same thing when the chain is read from its other end."""
 
     name: str
     first: int
@@ -57,7 +57,7 @@ class Layout:
         return "".join(" " * len(value) if field == name else value for field, value in zip(self.places, self.values(content)))
 
     def turned(self, content: str) -> str:
-        """The content as seen from the chain's other end."""
+        """The content, read from the chain's other end."""
         return "".join(self.value(content, column.partner or column.name) for column in self.columns)
 
 

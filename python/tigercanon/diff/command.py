@@ -35,7 +35,7 @@ PATIENCE = 2.0  # after this many seconds the progress is reported on standard e
 
 
 class Steps(threading.Timer):
-    """Reports what is being done in the block, if the whole takes a while."""
+    """Reports the current step of the block, if the whole takes a while."""
 
     def __init__(self, console: Console) -> None:
         super().__init__(PATIENCE, lambda: console.report(self.step))

@@ -1,4 +1,4 @@
-"""What a chain, a landmark or a polygon says, field by field and in words, and in which fields two of them differ."""
+"""The fields of a chain, a landmark or a polygon, by name and in words, and the fields in which two of them differ."""
 
 from __future__ import annotations
 
@@ -24,7 +24,7 @@ class FieldName(NamedTuple):
 
 
 class Text(NamedTuple):
-    """What a field says: to be read, byte for byte, and as it is compared. A field that is blank reads as nothing."""
+    """The value of a field: in words, byte for byte, and as it is compared. In words a blank field is empty."""
 
     plain: str
     exact: str
@@ -50,7 +50,7 @@ class Row(NamedTuple):
 
 
 class Teller(NamedTuple):
-    """Tells what the parts of one map say. Polygons of two maps that are taken for one have one mark, even where they differ."""
+    """Makes the fields of the things in one map. Polygons of two maps that are taken for one have one mark, even where they differ."""
 
     county: County
     marks: dict[PolygonKey, str]
@@ -119,7 +119,7 @@ def landmark_fields(bodies: Sequence[str], places: Sequence[Text]) -> Fields:
 
 
 def landmark_rows(first: Teller, second: Teller, one: Landmark | None, other: Landmark | None) -> list[Row]:
-    """The fields of a landmark of both maps, or of one of them. What both have stands first in its repeated fields."""
+    """The fields of a landmark of both maps, or of one of them. In repeated fields, what both have comes first."""
     bodies = aligned(one.bodies if one else [], other.bodies if other else [], lambda body: body)
     places = aligned(first.place_texts(one), second.place_texts(other), lambda text: text.mark)
     return rows(landmark_fields(bodies[0], places[0]) if one else None, landmark_fields(bodies[1], places[1]) if other else None)
@@ -165,7 +165,7 @@ def rows(first: Fields | None, second: Fields | None) -> list[Row]:
 
 
 def shown(name: FieldName, text: Text, other: Text) -> str:
-    """A field in words. If it would read like the other map's, which is another, it is shown byte for byte."""
+    """A field in words. If it differs from the other map's and would read the same, it is shown byte for byte."""
     if name.kind == "flag":
         return YES if text.plain else NO
     if not text.exact:

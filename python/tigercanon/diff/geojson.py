@@ -28,7 +28,7 @@ def write_geojson(file: Writable, comparison: Comparison, sets: Sets, with_alike
 
 
 def head(comparison: Comparison, sets: Sets) -> Properties:
-    """What holds for all differences: the two sets, and the verdict."""
+    """The part about both maps: the two sets, and the verdict."""
     told: Properties = {"about": ABOUT, "verdict": "same" if sets.are_one_map else "different"}
     for side, one in zip(SIDES, (sets.first, sets.second)):
         told[side] = {"name": one.name, "fingerprint": one.fingerprint}
@@ -82,7 +82,7 @@ def tie_properties(tie: Tie, own: OwnNumbers) -> Properties:
 
 def values(side: str, name: FieldName, shown: str | None, exact: str) -> Properties:
     """A field of one map: a text, true or false, or the two coordinates of a point in degrees, under the names of their columns.
-    There is none if the map hasn't what the field is of."""
+    There is none if the map doesn't have the thing."""
     if shown is None:
         return {}
     if name.kind == "point":
@@ -95,7 +95,7 @@ def values(side: str, name: FieldName, shown: str | None, exact: str) -> Propert
 
 @lru_cache(maxsize=None)
 def property_name(side: str, label: str) -> str:
-    """A field's name, for readers that take letters, digits and underscores alone."""
+    """A field's name, for readers that allow only letters, digits and underscores."""
     return f"{side}_" + re.sub(r"\W+", "_", label)
 
 

@@ -1,6 +1,6 @@
 """Finds what two maps have in common and what differs.
 
-Each map has numbers of its own, so numbers are never compared. The things that they tie together come after the rest.
+Each map has numbers of its own, so numbers are never compared. What they join comes after the rest.
 
 A canonical text has numbers of its own. The same set, respelled by the program, keeps its own numbers. Both describe one map, so they
 are matched as two maps are. Things that nothing tells apart may have their numbers exchanged.
@@ -40,7 +40,7 @@ class Matched(Generic[T]):
         return not any(self.counts[:3])
 
     def pair(self, found: list[Pair[T]], *keys: Callable[[T], Optional[Hashable]]) -> None:
-        """Pairs what is alone in both maps and has one key, by one kind of key after another."""
+        """Pairs things of which each map has exactly one under a key, by one kind of key after another."""
         for key in keys:
             pairs, self.first, self.second = pair_by(self.first, self.second, key)
             found += pairs
@@ -75,7 +75,7 @@ class Comparison:
     @cached_property
     def ties(self) -> list[Tie]:
         """The nodes, polygons and names that are one in one map and several in the other. Chains and landmarks that nothing else tells
-        apart are paired at will, so they are asked only if nothing else differs."""
+        apart are paired at will, so they count only if nothing else differs."""
         ties = ties_among(at for pair in self.certain for at in ties_of(*pair, self.first, self.second))
         if ties or not self.is_alike:
             return ties
@@ -128,7 +128,7 @@ def match_chains(groups: list[Pair[list[Chain]]], first: Teller, second: Teller)
 
 def match_group(ones: list[Chain], others: list[Chain], first: Teller, second: Teller, matched: Matched[Chain]) -> None:
     """Matches chains of the same points as a multiset: those with the same content, and then those that differ the least.
-    A chain that is its own reverse may be seen from either end."""
+    A chain that is its own reverse may be read from either end."""
     may_be_turned = is_own_reverse(ones[0])
     if may_be_turned:
         ones = [lesser_turn(chain, first) for chain in ones]
@@ -165,7 +165,7 @@ def turned(chain: Chain) -> Chain:
 
 
 def lesser_turn(chain: Chain, teller: Teller) -> Chain:
-    """Of the ways to see a chain that is its own reverse the one that says the lesser."""
+    """The end to read a chain from, if it is its own reverse: the one with the lesser content."""
     return min(chain, turned(chain), key=lambda seen: repr(says(seen, teller)))
 
 

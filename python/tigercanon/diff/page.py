@@ -52,7 +52,7 @@ def find_leaflet(folder: str | None) -> Leaflet:
 
 @dataclass
 class PageData:
-    """What a page's script reads. Points are in millionths of a degree, each as its distance from the point before it. If a map
+    """The data that a page's script reads. Points are in millionths of a degree, each as its distance from the point before it. If a map
     crosses the line of 180 degrees, its eastern longitudes are moved to the west by the shift. Bare chains and polygons have no
     fields: each is its kind, the number of a chain's title, and the points."""
 

@@ -52,7 +52,7 @@ class Name:
 
 @dataclass(eq=False)
 class Polygon:
-    """A polygon on a side of a chain or of type P. Its body is empty where no record of type P has it."""
+    """A polygon on a side of a chain or of type P. Its body is empty if no record of type P has it."""
 
     key: PolygonKey
     body: str = ""

@@ -37,7 +37,7 @@ class Thing(NamedTuple):
 
     @property
     def name(self) -> str:
-        """The title where `what` isn't shown beside it."""
+        """The title if `what` isn't shown beside it."""
         return f"polygon {self.title}" if self.what == "polygon" else self.title
 
 
@@ -137,7 +137,7 @@ def told_counts(comparison: Comparison) -> Iterator[str]:
 
 
 def told_things(comparison: Comparison) -> Iterator[str]:
-    """What is in one of the maps alone, and what is in both with the fields that differ."""
+    """Everything that only one map has, and everything that both have with fields that differ."""
     for (what, kind), found in groupby(things(comparison), lambda thing: (thing.what, thing.kind)):
         listed = list(found)
         yield from ["", f"{what}s {kind}: {len(listed):,}"]
