@@ -1,7 +1,7 @@
 //! The commands of the program, as in its help.
 
 ghost use Rattle.clap.specs.{Words.app_of, Words.rule_of, Words.with_subcommand, declared.builder.command.Command.TheViews.out-Command};
-ghost use Rattle.std.specs.Prelude.{IfOk, IsOkAnd, codes, false, ◌≡◌};
+ghost use Rattle.std.specs.Prelude.{IfOk, codes, false, ◌≡◌};
 ghost use Rattle.command_line.specs.Grammar.{flag_named, over_one_set, over_two_sets, program_alone, set_argument, stem_flag, understood};
 ghost use Rattle.command_line.specs.Grammar.{with_mask};
 
@@ -45,7 +45,6 @@ Exit status:
   5  out of memory
 ";
 
-/// A flag.
 fn flag<'a>(alloc: Global, name: &'a str, help: &'a str) -> Arg<'a>
     ensures rule { rule_of result ≡ flag_named name.entry.now }
     ensures local { result.global ≡ false }
@@ -56,7 +55,6 @@ fn flag<'a>(alloc: Global, name: &'a str, help: &'a str) -> Arg<'a>
         .help(help)
 }
 
-/// The flag to name sets by their stems.
 fn stem<'a>(alloc: Global) -> Arg<'a>
     ensures rule { rule_of result ≡ stem_flag }
     ensures local { result.global ≡ false }
@@ -117,15 +115,6 @@ fn over_one_set<'a>(
     ))
 }
 
-/// A subcommand that reads one set and has the flags to leave fields out.
-fn over_one_map<'a>(alloc: Global, name: &'a str, about: &'a str) -> Result<Command<'a>, AllocError>
-    ensures app { IfOk result (λ c. app_of c ≡ with_mask (over_one_set name.entry.now)) }
-    ensures local { IfOk result (λ c. (out-Command c).has_globals ≡ false) }
-{
-    masked(alloc, over_one_set(alloc, name, about, "SET")?)
-}
-
-/// The subcommand that compares two sets.
 fn compare<'a>(alloc: Global) -> Result<Command<'a>, AllocError>
     ensures app { IfOk result (λ c. app_of c ≡ with_mask (over_two_sets (codes "compare"))) }
     ensures local { IfOk result (λ c. (out-Command c).has_globals ≡ false) }
@@ -162,55 +151,57 @@ fn program<'a>(alloc: Global) -> Result<Command<'a>, AllocError>
     )
 }
 
-/// Adds a subcommand to the program, if there was memory to make it.
-fn with_job<'a>(
+/// Adds to the program a subcommand that reads one set.
+fn with_set_job<'a>(
+    alloc: Global,
     program: Command<'a>,
-    job: Result<Command<'a>, AllocError>,
+    name: &'a str,
+    about: &'a str,
 ) -> Result<Command<'a>, AllocError>
-    requires { IfOk job (λ j. (out-Command j).has_globals ≡ false) }
-    ensures { IfOk result (λ c. IsOkAnd job.entry (λ j. app_of c ≡ with_subcommand (app_of program.entry) (app_of j).top)) }
+    ensures { IfOk result (λ c. app_of c ≡ with_subcommand (app_of program.entry) (over_one_set name.entry.now).top) }
 {
-    program.subcommand(job?)
+    program.subcommand(over_one_set(alloc, name, about, "SET")?)
 }
 
-/// Adds to the program the two subcommands that print a set's records.
-fn with_texts<'a>(alloc: Global, program: Command<'a>) -> Result<Command<'a>, AllocError>
-    ensures { IfOk result (λ c. app_of c ≡
-        with_subcommand (with_subcommand (app_of program.entry) (over_one_set (codes "respell")).top)
-        (with_mask (over_one_set (codes "normalise"))).top) }
+/// Adds to the program a subcommand that reads one set and has the flags to leave fields out.
+fn with_map_job<'a>(
+    alloc: Global,
+    program: Command<'a>,
+    name: &'a str,
+    about: &'a str,
+) -> Result<Command<'a>, AllocError>
+    ensures { IfOk result (λ c. app_of c ≡ with_subcommand (app_of program.entry) (with_mask (over_one_set name.entry.now)).top) }
 {
-    let respell = over_one_set(
-        alloc,
-        "respell",
-        "Print the records in canonical spelling, in their order and with their numbers",
-        "SET",
-    );
-    let program = with_job(program, respell)?;
-    let normalise = over_one_map(
-        alloc,
-        "normalise",
-        "Print the canonical text of the map that the records describe",
-    );
-    with_job(program, normalise)
+    program.subcommand(masked(alloc, over_one_set(alloc, name, about, "SET")?)?)
 }
 
 /// The grammar of the command line: the subcommands and their arguments.
 pub(crate) fn command<'a>(alloc: Global) -> Result<Command<'a>, AllocError>
     ensures { IfOk result (λ c. app_of c ≡ understood) }
 {
-    let program = with_texts(alloc, program(alloc)?)?;
-    let check = over_one_set(
+    let program = with_set_job(
         alloc,
+        program(alloc)?,
+        "respell",
+        "Print the records in canonical spelling, in their order and with their numbers",
+    )?;
+    let program = with_map_job(
+        alloc,
+        program,
+        "normalise",
+        "Print the canonical text of the map that the records describe",
+    )?;
+    let program = with_set_job(
+        alloc,
+        program,
         "check",
         "Check whether the records fit together and have a canonical text",
-        "SET",
-    );
-    let program = with_job(program, check)?;
-    let fingerprint = over_one_map(
+    )?;
+    let program = with_map_job(
         alloc,
+        program,
         "fingerprint",
         "Print the SHA-256 hash of the canonical text, to cite the map by",
-    );
-    let program = with_job(program, fingerprint)?;
-    with_job(program, compare(alloc))
+    )?;
+    program.subcommand(compare(alloc)?)
 }

@@ -10,7 +10,6 @@ const SUFFIXES: [&str; 9] = [
     ".RT1", ".RT2", ".RT4", ".RT5", ".RT6", ".RT7", ".RT8", ".RTI", ".RTP",
 ];
 
-/// The stem with a suffix.
 fn with_suffix(alloc: Global, stem: &str, suffix: &str) -> Result<String, AllocError>
     ensures { IfOk result (λ name. string_bytes name ≡ stem.now ++ suffix.now) }
 {
@@ -19,7 +18,6 @@ fn with_suffix(alloc: Global, stem: &str, suffix: &str) -> Result<String, AllocE
     Ok(name)
 }
 
-/// The stem with each of the suffixes.
 fn with_suffixes(alloc: Global, stem: &str, suffixes: &[&str]) -> Result<Vec<String>, AllocError>
     ensures { IfOk result (λ names. map string_bytes names.items ≡ map (λ suffix. stem.now ++ suffix.now) suffixes.now) }
 {

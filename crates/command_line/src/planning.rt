@@ -14,7 +14,6 @@ use clap::error::ErrorKind;
 use std::alloc::{AllocError, Global};
 use tl_layout::Mask;
 
-/// The job that a word names.
 fn job_named(name: &str) -> Option<Job>
     ensures named { IfSome result (λ job. name.now ≡ word_of job) }
     ensures known { (job : Job) → name.now ≡ word_of job → result ≡ Some job }
@@ -42,7 +41,6 @@ fn fault_of(alloc: Global, error: &clap::Error) -> PlanFault
     }
 }
 
-/// The program's usage message.
 fn usage_text(alloc: Global) -> Result<String, AllocError> {
     let mut command = command(alloc)?;
     command.render_usage()
