@@ -29,7 +29,7 @@ pub use Rattle.tl_load.specs.Keeping.{AreCounted, AreKept, IsLoader, IsSamePart,
 pub use Rattle.tl_load.specs.Loaded.{HasLoaded, IsFaultHowever, IsNotDevice, IsOfLines, IsWellAfter, IsWellSoFar, Loaded, WasFed, all_parts}
 pub use Rattle.tl_load.specs.Outcome.{AreLinesSpelled, FaultAt, IsFaultOf, Spells, SpellsWithin, after_verdict, count_of, of_limit, of_line}
 pub use Rattle.tl_load.specs.Outcome.{outcome, ◌then_with◌}
-pub use Rattle.tl_load.specs.Steps.{Closes, Ends, IsPartClosed, Judges, JudgesAs, LeavesRest, LeavesRestOnOk, ReadsPart, Takes, TakesLines}
+pub use Rattle.tl_load.specs.Steps.{Closes, Ends, IsPartClosed, JudgesAs, LeavesRest, LeavesRestOnOk, ReadsPart, Takes, TakesLines}
 pub use Rattle.tl_load.specs.Steps.{TakesWell, next_place, to_end, with_fault}
 pub use Rattle.tl_load.specs.{Choice.as_record, Lines.most_unfinished, RecordLine.BeginsWith, RecordLine.of_no_type, Verdicts.without_place}
 pub use Rattle.tl_load.specs.{Choice.judged, Choice.tiger, LineOf.IsLineOf, LineOf.filled, Lines.IsLineEnd, Lines.lines, Sources.Gave}
@@ -39,5 +39,4 @@ pub use Rattle.tl_load.specs.{Lines.IsWithoutLineFeed, Places.lines_from_part, R
 pub use Rattle.tl_load.specs.{RecordLine.IsFaultOfLine, declared.fault.LineFault.LineFault, declared.loader_for.LoaderFor.TheInside.Inside}
 pub use Rattle.tl_layout.specs.declared.record_type.Record.{Record}
 pub use Rattle.tl_layout.specs.declared.tables.Tables.{Tables}
-pub use lib.Lanes.{Each1, mask_l, zip2}
 pub use lib.Lanes.{Each1, chunk, mask_l, zip2}

@@ -1,5 +1,5 @@
 -- The loader's steps, for a loader of a list of records.
-use Rattle.tl_load.proofs.Common.{Closes, Ends, Err, FieldKind, IsErr, IsNotDevice, IsWithoutLineFeed, Judges, LeavesRest, LineFault, List}
+use Rattle.tl_load.proofs.Common.{Closes, Ends, Err, FieldKind, IsErr, IsNotDevice, IsWithoutLineFeed, JudgesAs, LeavesRest, LineFault, List}
 use Rattle.tl_load.proofs.Common.{LoadFault, Loaded, Ok, OnOk, PlacedLine, ReadsPart, Record, Result, Takes, TakesLines, [], after_verdict}
 use Rattle.tl_load.proofs.Common.{ap, append-nil, append_assoc, arith, common_steps, flat_map-append, inl, inr, judged, length}
 use Rattle.tl_load.proofs.Common.{length-append, length-map, lines, lines_from_part, longest_line, map, map-append, next_place, refl, rules}
@@ -143,7 +143,7 @@ one_line l line = refl
 -- the bytes before an LF make a line, together with the bytes kept before them
 pub ends_line : {T : Type 0} (before mid after : Loaded) (bytes line : List ℕ) (result : Result T LoadFault) → IsBefore mid before
     → line ≡ without_return (before.unfinished ++ bytes) → IsWithoutLineFeed (before.unfinished ++ bytes)
-    → Judges line mid result after → OnOk result (after.judged ≡ mid.judged + 1) → after.unfinished ≡ [] → after.parts ≡ mid.parts
+    → JudgesAs line (judged line) mid result after → OnOk result (after.judged ≡ mid.judged + 1) → after.unfinished ≡ [] → after.parts ≡ mid.parts
     → after.limit ≡ mid.limit → Takes (bytes ++ 10 ∷ []) before result after
 unfolding to_come
 ends_line before mid after bytes line (Ok x) same is none judges count empty parts limit =
@@ -203,7 +203,7 @@ long_line before bytes line c z fault split long none e more later =
 
 pub refuses : {T : Type 0} (before mid after : Loaded) (bytes line rest : List ℕ) (result : Result T LoadFault) → IsBefore mid before
     → before.unfinished ++ bytes ≡ line ++ rest → 0 < length rest → longest_line < length line
-    → IsWithoutLineFeed (before.unfinished ++ bytes) → OnOk result (length line ≤ longest_line) → Judges line mid result after
+    → IsWithoutLineFeed (before.unfinished ++ bytes) → OnOk result (length line ≤ longest_line) → JudgesAs line (judged line) mid result after
     → Takes bytes before result after
 refuses before mid after bytes line [] result same split some long none short judges = absurd (omega arith)
 refuses before mid after bytes line (c ∷ z) (Ok x) same split some long none short judges = absurd (omega arith)
@@ -263,7 +263,7 @@ last_of (b ∷ a) h = refl
 
 pub ends_part : {T : Type 0} (before mid after : Loaded) (line : List ℕ) (result : Result T LoadFault) → IsBefore mid before
     → 0 < length before.unfinished → IsWithoutLineFeed before.unfinished → line ≡ without_return before.unfinished
-    → Judges line mid result after → Ends before result after
+    → JudgesAs line (judged line) mid result after → Ends before result after
 ends_part {T} before mid after line result same some none is judges = go result judges
   where
     first : to_end before ≡ (after_verdict tiger mid.limit mid.records (next_place mid line) (judged line) then_with λ records. Ok records)
@@ -274,7 +274,7 @@ ends_part {T} before mid after line result same some none is judges = go result 
         ∙ one_line before line
         ∙ ap (λ (r : Result (List Record) LoadFault). r then_with λ records. Ok records) (sym (verdict_before mid before line same))
 
-    go : (r : Result T LoadFault) → Judges line mid r after → Ends before r after
+    go : (r : Result T LoadFault) → JudgesAs line (judged line) mid r after → Ends before r after
     go (Ok x) j = first ∙ ap (λ (r : Result (List Record) LoadFault). r then_with λ records. Ok records) j
     go (Err f) j = λ is_of. first ∙ ap (λ (r : Result (List Record) LoadFault). r then_with λ records. Ok records) (j is_of)
 

@@ -1,8 +1,8 @@
 -- What the loader's internal steps do to its value.
-use Rattle.std.specs.Prelude.{Err, List, MatchResult, Ok, Result, Some, [], length, map, ℕ, ◌++◌, ◌+◌, ◌≡◌, ◌≤◌, ◌⊎◌}
+use Rattle.std.specs.Prelude.{Err, IfErr, List, MatchResult, Ok, OnOk, Result, Some, [], length, map, ℕ, ◌++◌, ◌+◌, ◌≡◌, ◌≤◌, ◌⊎◌}
 use Rattle.tl_layout.specs.{Bytes.longest_line, declared.record_type.Record.Record}
-use Rattle.tl_load.specs.{Choice.judged, Choice.tiger, Keeping.Lifts, Keeping.LoadedInto, Keeping.total, Lines.lines, Lines.most_unfinished}
-use Rattle.tl_load.specs.{Lines.without_return, Loaded.AreLines, Loaded.IsOfLines, Loaded.Loaded, Outcome.after_verdict}
+use Rattle.tl_load.specs.{Choice.tiger, Keeping.IsSamePart, Keeping.Lifts, Keeping.LoadedInto, Keeping.total, Lines.lines, Lines.most_unfinished}
+use Rattle.tl_load.specs.{Lines.without_return, Loaded.AreLines, Loaded.IsNotDevice, Loaded.IsOfLines, Loaded.Loaded, Outcome.after_verdict}
 use Rattle.tl_load.specs.{Outcome.outcome_after, Outcome.with_record, Places.PlacedLine, Places.lines_from_part, Places.numbered_lines}
 use Rattle.tl_load.specs.{declared.fault.LineFault.LineFault, declared.fault.LoadFault.LoadFault}
 
@@ -48,17 +48,17 @@ JudgesAs line verdict before result after = MatchResult result
     (λ _. after_verdict tiger before.limit before.records (next_place before line) verdict ≡ Ok after.records)
     (λ f. IsOfLines f → after_verdict tiger before.limit before.records (next_place before line) verdict ≡ Err f)
 
--- a step judged a line
-abbrev pub Judges : {T : Type 0} → List ℕ → Loaded → Result T LoadFault → Loaded → Type 0
-Judges line before result after = JudgesAs line (judged line) before result after
-
--- a step kept and counted the record of a line that isn't longer than any layout
-pub record KeepsUnread {K : Type 0} (holds : K → List Record → Type 0) (line : List ℕ) (verdict : Result Record LineFault)
-    (before after : LoadedInto K) : Type 0 where
-  pub judges : Lifts {T = Unit {0}} holds (JudgesAs line verdict) before (Ok tt) after
-  pub judged : after.judged ≡ before.judged + 1
-  pub one_more : total after.counts ≡ total before.counts + 1
-  pub short : length line ≤ longest_line
+-- A step judged a line with this verdict. It kept and counted the record of a line that isn't longer than any layout, or its fault
+-- isn't one of a device. The open part is otherwise as it was.
+pub record JudgesLine {K T : Type 0} (holds : K → List Record → Type 0) (line : List ℕ) (verdict : Result Record LineFault)
+    (before : LoadedInto K) (result : Result T LoadFault) (after : LoadedInto K) : Type 0 where
+  pub judges : Lifts holds (JudgesAs line verdict) before result after
+  pub short : OnOk result (length line ≤ longest_line)
+  pub judged : OnOk result (after.judged ≡ before.judged + 1)
+  pub one_more : OnOk result (total after.counts ≡ total before.counts + 1)
+  pub same_part : IsSamePart before after
+  pub unfinished : after.unfinished ≡ before.unfinished
+  pub no_device : IfErr result IsNotDevice
 
 -- a step added the record: it is now the last one, or there are too many
 abbrev pub Adds : {T : Type 0} → Record → Loaded → Result T LoadFault → Loaded → Type 0

@@ -4,8 +4,7 @@ ghost use Rattle.std.specs.Prelude.{◌≡◌, ◌≤◌, ◌<◌, [], ◌∷◌
 ghost use Rattle.tl_layout.specs.Bytes.{AreAllowed, IsLine, is_allowed, longest_line};
 ghost use Rattle.tl_load.specs.LineOf.{filled, judged_as, judged_full};
 
-use crate::bytes::first_bad;
-use crate::fault::LineFault;
+use crate::{LineFault, first_bad};
 use tl_layout::{LONGEST_LINE, Layout};
 
 /// Judges a line that begins with the layout's type: returns its record or its fault. The line has neither its LF nor the CR

@@ -3,8 +3,8 @@
 //!
 //! Start with [`Loader::new`]. For each part call [`Loader::feed`] with its bytes in any pieces, and then
 //! [`Loader::end_part`]; or call [`Loader::read_part`] with a [`Source`], such as a [`Counted`] reader. [`Loader::finish`]
-//! returns the records or the first [`LoadFault`]. A [`LoaderFor`] has the same calls and passes each record to a [`Collector`]:
-//! tables by type, or [`CanonicalText`]. The crate `uses` has a proved caller, in `pieces.rt`.
+//! returns the records or the first [`LoadFault`]. A [`LoaderFor`] reads through its caller's buffer, and passes each record to a
+//! [`Collector`]: tables by type, or [`CanonicalText`]. The crate `uses` has a proved caller, in `pieces.rt`.
 #![tactic(auto)]
 
 mod bytes;

@@ -8,12 +8,13 @@ ghost use Rattle.tl_load.specs.Loaded.{FedPart, IsFaultHowever, IsNotDevice, IsO
 ghost use Rattle.tl_load.specs.Sources.{Gave, StopsThere, most_read, most_taken};
 ghost use Rattle.tl_load.specs.{Choice.tiger, Outcome.FaultAt, Outcome.SpellsWithin};
 
-use crate::fault::LoadFault;
-use crate::loader_for::LoaderFor;
-use crate::source::Source;
+use crate::{LoadFault, LoaderFor, Source};
 use std::alloc::Global;
 use std::marker::Model;
 use tl_layout::{MOST_RECORDS, Record};
+
+/// The most bytes of one read.
+const READ_BYTES: usize = 4096;
 
 /// Takes the bytes of a set of parts, one part after another and each in any pieces, and judges each line when it ends. It
 /// stores the records and the unfinished line. After a fault every call returns that fault.
@@ -134,7 +135,8 @@ impl Loader {
         // The fault is `Device` exactly if the source failed in this call.
         ensures device { self.old.fault ≡ None → R.failed source.new ≡ (if is_device result then R.failed source.old + 1 else R.failed source.old) }
     {
-        self.inner.read_part(source)
+        let mut buffer = [0; READ_BYTES];
+        self.inner.read_part_by(source, &mut buffer)
     }
 
     /// Ends the open part, if bytes were fed into it, and returns the records of all parts in the order of their lines.

@@ -8,14 +8,12 @@ ghost use Rattle.tl_load.specs.Keeping.{HasSome, IsSamePart, Lifts, WasFedInto, 
 ghost use Rattle.tl_load.specs.Loaded.{FedPart, IsFaultHowever, IsNotDevice, IsOfLines, IsWellAfter, all_parts, is_device};
 ghost use Rattle.tl_load.specs.Steps.{Closes, Ends, ReadsPart, Takes, TakesWell, with_fault};
 ghost use Rattle.tl_load.specs.{Choice.judged, Lines.IsWithoutLineFeed, Lines.most_unfinished, Lines.without_return, Outcome.SpellsWithin};
-ghost use Rattle.tl_load.specs.{Choice.tiger, Outcome.FaultAt, Sources.Gave, Sources.StopsThere, Sources.most_read, Sources.most_taken};
+ghost use Rattle.tl_load.specs.{Choice.tiger, Outcome.FaultAt, Sources.Gave, Sources.StopsThere, Sources.most_taken};
 
 mod judging;
 
-use crate::collector::Collector;
-use crate::fault::LoadFault;
 use crate::line::{line_end, without_carriage_return};
-use crate::source::Source;
+use crate::{Collector, LoadFault, Source};
 use arrayvec::ArrayVec;
 use std::alloc::Global;
 use std::marker::Model;
@@ -23,9 +21,6 @@ use tl_layout::MOST_RECORDS;
 
 /// The most bytes of an unfinished line that are kept: the longest line and a CR.
 const LINE_BYTES: usize = 229;
-
-/// The most bytes of one read.
-const READ_BYTES: usize = 4096;
 
 /// Takes the bytes of a set of parts, one part after another and each in any pieces, and judges each line when it ends. It
 /// passes the record to a [`Collector`] and itself stores only the unfinished line. After a fault every call returns that fault.
@@ -50,7 +45,6 @@ impl<K> Model for LoaderFor<K> {
     ghost invariant = { λ l. IsLoader l.counts l.line.items l.parts l.judged l.limit };
 }
 
-/// A count of 0 for each type.
 fn no_counts() -> [u64; 128]
     ensures { result ≡ replicate 128 0 }
 {
@@ -298,9 +292,9 @@ impl<K: Collector> LoaderFor<K> {
         ensures reported { IfErr result (λ f. self.new.fault ≡ Some f) }
         // After a fault nothing changes.
         ensures stood { IfSome self.old.fault (λ f. (result ≡ Err f) × (self.new ≡ self.old)) }
+        ensures kept { HasSome K.holds self.old → OnOk result (HasSome K.holds self.new) }
         ensures parts { self.new.parts ≡ (if is_ok result then self.old.parts + 1 else self.old.parts) }
         ensures device { self.old.fault ≡ None → IfErr result IsNotDevice }
-        ensures kept { HasSome K.holds self.old → OnOk result (HasSome K.holds self.new) }
     {
         if let Some(fault) = self.fault {
             return Err(fault);
@@ -309,41 +303,12 @@ impl<K: Collector> LoaderFor<K> {
         self.latch(outcome)
     }
 
-    /// Reads a source to its end into the open part, and ends the part. Each read is of at most 4,096 bytes, and a read that
-    /// causes a fault is the last.
+    /// Reads a source to its end into the open part, and ends the part. Each read is through the caller's buffer, at most its
+    /// length at a time, and a read that causes a fault is the last. The buffer must not be empty.
     ///
     /// # Errors
     ///
     /// `Device`, or as for [`LoaderFor::feed`].
-    pub fn read_part<R: Source>(&mut self, source: &mut R) -> Result<(), LoadFault>
-        requires parts { self.old.parts < u64.MAX }
-        requires failures { R.failed source.old < u64.MAX }
-        // The source's bytes were fed into the open part. There is a bound on them, so even an endless source can't keep the
-        // call from returning.
-        ensures fed { (taken : List ℕ) × Gave R.remaining R.given source.old source.new taken × (length taken ≤ most_taken + most_read)
-            × FedPart (WasFedInto K.holds) self.old taken (IsAtEnd (R.remaining source.new)) result self.new }
-        // Nothing is read after the read that causes a fault.
-        ensures stops { self.old.fault ≡ None
-            → StopsThere R.remaining R.given R.reads source.old source.new (IsWellAfter (WasFedInto K.holds) self.old) }
-        ensures ok { OnOk result (self.new.fault ≡ None) }
-        ensures reported { IfErr result (λ f. self.new.fault ≡ Some f) }
-        // After a fault nothing changes, and nothing is read.
-        ensures stood { IfSome self.old.fault (λ f. (result ≡ Err f) × (self.new ≡ self.old) × (source.new ≡ source.old)) }
-        ensures parts { self.new.parts ≡ (if is_ok result then self.old.parts + 1 else self.old.parts) }
-        // The fault is `Device` exactly if the source failed in this call.
-        ensures device { self.old.fault ≡ None → R.failed source.new ≡ (if is_device result then R.failed source.old + 1 else R.failed source.old) }
-        ensures kept { HasSome K.holds self.old → OnOk result (HasSome K.holds self.new) }
-    {
-        let mut buffer = [0; READ_BYTES];
-        self.read_part_by(source, &mut buffer)
-    }
-
-    /// Like [`LoaderFor::read_part`], but reads through the caller's buffer, at most its length at a time. The buffer must not
-    /// be empty.
-    ///
-    /// # Errors
-    ///
-    /// As for [`LoaderFor::read_part`].
     pub fn read_part_by<R: Source>(
         &mut self,
         source: &mut R,

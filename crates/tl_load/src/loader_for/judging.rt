@@ -1,16 +1,13 @@
 //! How a loader judges the next line: it keeps and counts the line's record, or reports the line's fault.
 
-ghost use Rattle.std.specs.Prelude.{Err, IfErr, IfOk, IsTrue, OnOk, [], false, length, take, ◌+◌, ◌<◌, ◌∷◌, ◌≡◌, ◌≤◌};
-ghost use Rattle.std.specs.Result.{IsErr};
-ghost use Rattle.tl_layout.specs.Bytes.{AreAllowed, longest_line};
+ghost use Rattle.std.specs.Prelude.{Err, IfErr, IfOk, IsTrue, Ok, OnOk, [], false, take, ◌+◌, ◌<◌, ◌∷◌, ◌≡◌};
+ghost use Rattle.tl_layout.specs.Bytes.{AreAllowed};
 ghost use Rattle.tl_load.specs.{Choice.as_record, Choice.judged, Keeping.IsSamePart, Keeping.Lifts, Keeping.total, LineOf.judged_as};
-ghost use Rattle.tl_load.specs.{Loaded.IsNotDevice, Steps.Adds, Steps.Judges, Steps.JudgesAs, Steps.KeepsUnread};
+ghost use Rattle.tl_load.specs.{Loaded.IsNotDevice, Steps.Adds, Steps.JudgesLine};
 ghost use Rattle.tl_load.specs.{declared.fault.LineFault.TheVariants.UnknownType, declared.fault.LoadFault.TheVariants.Memory};
 
-use crate::collector::Collector;
-use crate::fault::{LineFault, LoadFault};
 use crate::judge::{is_full_line, judge_line};
-use crate::loader_for::LoaderFor;
+use crate::{Collector, LineFault, LoadFault, LoaderFor};
 use canonical_lines::CanonicalLine;
 use tl_layout::{Rec1, Rec2, Rec4, Rec5, Rec6, Rec7, Rec8, RecI, RecP, Tabled};
 
@@ -50,7 +47,7 @@ impl<K: Collector> LoaderFor<K> {
     ) -> Result<bool, LoadFault>
         requires begins { take 1 line.now ≡ L.RTYPE ∷ [] }
         requires clean { IsTrue is_clean → AreAllowed line.now }
-        ensures kept { IfOk result (λ was_kept. IsTrue was_kept → KeepsUnread K.holds line.now (as_record L.as_record (judged_as L.LEN L.reading line.now)) self.old self.new) }
+        ensures kept { IfOk result (λ was_kept. IsTrue was_kept → JudgesLine {T = Unit {0}} K.holds line.now (as_record L.as_record (judged_as L.LEN L.reading line.now)) self.old (Ok tt) self.new) }
         ensures unchanged { IfOk result (λ was_kept. was_kept ≡ false → self.new ≡ self.old) }
         ensures memory { IfErr result (λ f. f ≡ Memory) }
         ensures same_part { IsSamePart self.old self.new }
@@ -82,13 +79,7 @@ impl<K: Collector> LoaderFor<K> {
         requires parts { self.old.parts < u64.MAX }
         requires begins { take 1 line.now ≡ L.RTYPE ∷ [] }
         requires clean { IsTrue is_clean → AreAllowed line.now }
-        ensures judges { Lifts K.holds (JudgesAs line.now (as_record L.as_record (judged_as L.LEN L.reading line.now))) self.old result self.new }
-        ensures short { OnOk result (length line.now ≤ longest_line) }
-        ensures same_part { IsSamePart self.old self.new }
-        ensures unfinished { self.new.unfinished ≡ self.old.unfinished }
-        ensures judged { OnOk result (self.new.judged ≡ self.old.judged + 1) }
-        ensures one_more { OnOk result (total self.new.counts ≡ total self.old.counts + 1) }
-        ensures no_device { IfErr result IsNotDevice }
+        ensures { JudgesLine K.holds line.now (as_record L.as_record (judged_as L.LEN L.reading line.now)) self.old result self.new }
     {
         match judge_line::<L>(line, is_clean) {
             Ok(found) => self.add(found),
@@ -102,13 +93,7 @@ impl<K: Collector> LoaderFor<K> {
         requires parts { self.old.parts < u64.MAX }
         requires begins { take 1 line.now ≡ L.RTYPE ∷ [] }
         requires clean { IsTrue is_clean → AreAllowed line.now }
-        ensures judges { Lifts K.holds (JudgesAs line.now (as_record L.as_record (judged_as L.LEN L.reading line.now))) self.old result self.new }
-        ensures short { OnOk result (length line.now ≤ longest_line) }
-        ensures same_part { IsSamePart self.old self.new }
-        ensures unfinished { self.new.unfinished ≡ self.old.unfinished }
-        ensures judged { OnOk result (self.new.judged ≡ self.old.judged + 1) }
-        ensures one_more { OnOk result (total self.new.counts ≡ total self.old.counts + 1) }
-        ensures no_device { IfErr result IsNotDevice }
+        ensures { JudgesLine K.holds line.now (as_record L.as_record (judged_as L.LEN L.reading line.now)) self.old result self.new }
     {
         if !is_full_line::<L>(line, is_clean) {
             return self.read_unusual::<L>(line, is_clean);
@@ -124,13 +109,7 @@ impl<K: Collector> LoaderFor<K> {
         requires parts { self.old.parts < u64.MAX }
         requires begins { take 1 line.now ≡ L.RTYPE ∷ [] }
         requires clean { IsTrue is_clean → AreAllowed line.now }
-        ensures judges { Lifts K.holds (JudgesAs line.now (as_record L.as_record (judged_as L.LEN L.reading line.now))) self.old result self.new }
-        ensures short { OnOk result (length line.now ≤ longest_line) }
-        ensures same_part { IsSamePart self.old self.new }
-        ensures unfinished { self.new.unfinished ≡ self.old.unfinished }
-        ensures judged { OnOk result (self.new.judged ≡ self.old.judged + 1) }
-        ensures one_more { OnOk result (total self.new.counts ≡ total self.old.counts + 1) }
-        ensures no_device { IfErr result IsNotDevice }
+        ensures { JudgesLine K.holds line.now (as_record L.as_record (judged_as L.LEN L.reading line.now)) self.old result self.new }
     {
         match self.push_unread::<L>(line, is_clean) {
             Ok(true) => Ok(()),
@@ -143,10 +122,7 @@ impl<K: Collector> LoaderFor<K> {
     fn refuse_unknown(&mut self, line: &[u8]) -> Result<(), LoadFault>
         requires parts { self.old.parts < u64.MAX }
         requires unknown { judged line.now ≡ Err UnknownType }
-        ensures judges { Lifts K.holds (Judges line.now) self.old result self.new }
-        ensures refused { IsErr result }
-        ensures unchanged { self.new ≡ self.old }
-        ensures no_device { IfErr result IsNotDevice }
+        ensures { JudgesLine K.holds line.now (judged line.now) self.old result self.new }
     {
         Err(LineFault::UnknownType.at(self.parts + 1, self.judged + 1))
     }
@@ -157,13 +133,7 @@ impl<K: Collector> LoaderFor<K> {
     pub(super) fn judge_next(&mut self, line: &[u8], is_clean: bool) -> Result<(), LoadFault>
         requires parts { self.old.parts < u64.MAX }
         requires clean { IsTrue is_clean → AreAllowed line.now }
-        ensures judges { Lifts K.holds (Judges line.now) self.old result self.new }
-        ensures short { OnOk result (length line.now ≤ longest_line) }
-        ensures same_part { IsSamePart self.old self.new }
-        ensures unfinished { self.new.unfinished ≡ self.old.unfinished }
-        ensures judged { OnOk result (self.new.judged ≡ self.old.judged + 1) }
-        ensures one_more { OnOk result (total self.new.counts ≡ total self.old.counts + 1) }
-        ensures no_device { IfErr result IsNotDevice }
+        ensures { JudgesLine K.holds line.now (judged line.now) self.old result self.new }
     {
         match line {
             [b'1', ..] => self.judge_as::<Rec1>(line, is_clean),

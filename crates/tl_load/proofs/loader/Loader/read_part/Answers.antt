@@ -4,7 +4,7 @@ use Rattle.tl_load.proofs.Listed.{Records, holds_list, listed, into_of, of_into}
 use Rattle.tl_load.proofs.loader.Loader.read_part.Given as given
 use Rattle.tl_load.proofs.loader.Loader.read_part.Goals as goal
 
-fed : (g : given.Over) (c : goal.After-read_part g) (limit : ℕ) (closed : List (List ℕ)) (open_part : List ℕ)
+fed : (g : given.Over) (c : goal.After-read_part_by g) (limit : ℕ) (closed : List (List ℕ)) (open_part : List ℕ)
     → WasFed limit c.args.self.now closed open_part → WasFedInto holds_list limit c.self.inside.inner closed open_part
 fed g c limit closed open_part w = into_of limit c.self.inside.inner closed open_part c.self.invariant (rw (← c.self.view_is) at w)
 
@@ -19,10 +19,10 @@ read limit l at_end closed part (Err f) (inr h) = inr (of_into limit l closed pa
 
 pub returns-clause-fed : goal.returns-clause-fed
 returns-clause-fed g c =
-    let r = c.read_part.ensures.fed in (
+    let r = c.read_part_by.ensures.fed in (
       r.0,
       r.1,
       r.2,
-      λ limit closed open_part w. read limit c.read_part.new.self _ closed (open_part ++ r.0) c.read_part.result
+      λ limit closed open_part w. read limit c.read_part_by.new.self _ closed (open_part ++ r.0) c.read_part_by.result
           (r.3 limit closed open_part (fed g c limit closed open_part w)),
     )

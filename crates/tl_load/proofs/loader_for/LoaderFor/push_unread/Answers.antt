@@ -28,7 +28,10 @@ returns-in-Ok-true-clause-kept g c always =
         ap (after_verdict tiger s.limit records (record { part = s.parts + 1; line = s.judged + 1; bytes = c.args.line.now })) verdict
             ∙ adds_below s.counts records s.limit added c.RTYPE-rtype.result held.counted is (omega arith),
       );
+      short = omega (arith, full.text.len, g.met.L.Layout.bounded.1);
       judged = refl;
       one_more = total_up s.counts added c.RTYPE-rtype.result c.self.invariant.counts_len is;
-      short = omega (arith, full.text.len, g.met.L.Layout.bounded.1);
+      same_part = record { parts = refl; limit = refl; fault = refl };
+      unfinished = refl;
+      no_device = tt;
     })
