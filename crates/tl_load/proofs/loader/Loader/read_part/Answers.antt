@@ -4,7 +4,7 @@ use Rattle.tl_load.proofs.Listed.{Records, holds_list, listed, into_of, of_into}
 use Rattle.tl_load.proofs.loader.Loader.read_part.Given as given
 use Rattle.tl_load.proofs.loader.Loader.read_part.Goals as goal
 
-fed : (g : given.Over) (c : goal.After-read_part_by g) (limit : ℕ) (closed : List (List ℕ)) (open_part : List ℕ)
+fed : (g : given.Over) (c : goal.After-buffer-2-1 g) (limit : ℕ) (closed : List (List ℕ)) (open_part : List ℕ)
     → WasFed limit c.args.self.now closed open_part → WasFedInto holds_list limit c.self.inside.inner closed open_part
 fed g c limit closed open_part w = into_of limit c.self.inside.inner closed open_part c.self.invariant (rw (← c.self.view_is) at w)
 
