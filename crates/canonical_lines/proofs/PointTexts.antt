@@ -9,9 +9,14 @@ use Rattle.tl_layout.specs.FieldTexts.{coordinate_text, digits_text}
 use lib.Lanes.{chunk}
 
 -- bytes that are all digits
-pub all_at : (bytes : List ℕ) → ((k : ℕ) → k < length bytes → is_digit (get_or bytes k 0) ≡ true) → list_all is_digit bytes ≡ true
+all_at : (bytes : List ℕ) → ((k : ℕ) → k < length bytes → is_digit (get_or bytes k 0) ≡ true) → list_all is_digit bytes ≡ true
 all_at [] h = refl
 all_at (byte ∷ bytes) h = and_from _ _ (h 0 (omega arith)) (all_at bytes (λ k lt. h (suc k) (omega arith)))
+
+-- eight bytes that are all digits
+all_eight : (eight bytes : List ℕ) → eight ≡ bytes → length bytes ≡ 8 → ((k : ℕ) → k < 8 → is_digit (get_or eight k 0) ≡ true)
+    → list_all is_digit bytes ≡ true
+all_eight eight bytes same l d = all_at bytes (λ k lt. subst (λ (b : List ℕ). is_digit (get_or b k 0) ≡ true) same (d k (omega arith)))
 
 -- the digits of a number with one more digit
 one_digit : (width n digit : ℕ) → 48 ≤ digit → digit ≤ 57 → digits_text (suc width) (10 * n + (digit - 48)) ≡ digits_text width n ++ digit ∷ []
@@ -86,7 +91,7 @@ coordinate_text_of width sign columns digits e l d (inr s) =
 
 -- a longitude: a sign, a digit and eight more
 pub nine_digits : (columns : List ℕ) → length columns ≡ 10 → 48 ≤ get_or columns 1 0 → get_or columns 1 0 ≤ 57
-    → list_all is_digit (chunk 0 8 (slice_range columns 2 (length columns))) ≡ true
+    → ((k : ℕ) → k < 8 → is_digit (get_or (chunk 0 8 (slice_range columns 2 (length columns))) k 0) ≡ true)
     → list_all is_digit (slice_range columns 1 (length columns)) ≡ true
 nine_digits [] l low high d = absurd (omega arith)
 nine_digits (x ∷ []) l low high d = absurd (omega arith)
@@ -94,14 +99,14 @@ nine_digits (x ∷ y ∷ xs) l low high d =
     let eight : chunk 0 8 (slice_range (x ∷ y ∷ xs) 2 (length (x ∷ y ∷ xs))) ≡ xs =
     ap (take 8) (take_all (length (x ∷ y ∷ xs) - 2) xs (omega arith)) ∙ take_all 8 xs (omega arith) in
     ap (list_all is_digit) (take_all (length (x ∷ y ∷ xs) - 1) (y ∷ xs) (omega arith))
-    ∙ and_from _ _ (and_from _ _ (le-leb 48 _ low) (le-leb _ 57 high)) (sym (ap (list_all is_digit) eight) ∙ d)
+    ∙ and_from _ _ (and_from _ _ (le-leb 48 _ low) (le-leb _ 57 high)) (all_eight _ xs eight (omega arith) d)
 
 -- a latitude: a sign and eight digits
-pub eight_digits : (columns : List ℕ) → length columns ≡ 9 → list_all is_digit (chunk 1 8 columns) ≡ true
+pub eight_digits : (columns : List ℕ) → length columns ≡ 9 → ((k : ℕ) → k < 8 → is_digit (get_or (chunk 1 8 columns) k 0) ≡ true)
     → list_all is_digit (slice_range columns 1 (length columns)) ≡ true
 eight_digits [] l d = absurd (omega arith)
 eight_digits (x ∷ xs) l d =
-    ap (list_all is_digit) (take_all (length (x ∷ xs) - 1) xs (omega arith) ∙ sym (take_all 8 xs (omega arith))) ∙ d
+    ap (list_all is_digit) (take_all (length (x ∷ xs) - 1) xs (omega arith)) ∙ all_eight _ xs (take_all 8 xs (omega arith)) (omega arith) d
 
 -- how many columns follow the first one
 pub length_behind : (columns : List ℕ) (width : ℕ) → length columns ≡ width + 1 → length (slice_range columns 1 (length columns)) ≡ width

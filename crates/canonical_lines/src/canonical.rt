@@ -4,10 +4,10 @@ ghost use Rattle.canonical_lines.specs.SpeltLine.{IsSpeltLine};
 ghost use Rattle.std.specs.Prelude.{◌<◌, IsTrue};
 ghost use Rattle.tl_layout.specs.Bytes.{IsLine};
 
-use crate::number::{are_numbers_or_none, is_blank, is_number};
+use crate::number::{are_numbers_or_none, is_number};
 use crate::places::{NumberPlaces, PointPlaces, are_places};
 use crate::point::{is_point, is_point_or_none};
-use tl_layout::{Rec1, Rec2, Rec4, Rec5, Rec6, Rec7, Rec8, RecI, RecP, Tabled};
+use tl_layout::{Rec1, Rec2, Rec4, Rec5, Rec6, Rec7, Rec8, RecI, RecP, Tabled, is_blank};
 
 /// A record type that can recognise lines in canonical spelling, whatever their version, without reading them.
 pub trait CanonicalLine: Tabled {

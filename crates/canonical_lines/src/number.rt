@@ -3,7 +3,7 @@
 ghost use Rattle.canonical_lines.specs.Texts.{IsNumberOrNoneText, IsNumberText, IsNumeral, IsNumeralOrNone};
 ghost use Rattle.std.specs.List.{list_all};
 ghost use Rattle.std.specs.Prelude.{IsTrue, ◌≡◌};
-ghost use Rattle.tl_layout.specs.{NumberField.is_blank, NumberField.is_digit, NumberReading.drop_blanks};
+ghost use Rattle.tl_layout.specs.{NumberField.is_digit, NumberReading.drop_blanks};
 
 use std::simd::prelude::*;
 use tl_layout::trim_start;
@@ -14,14 +14,6 @@ fn are_digits(bytes: &[u8]) -> bool
     ensures { result ≡ list_all is_digit bytes.now }
 {
     bytes.iter().all(|byte| *byte >= b'0' && *byte <= b'9')
-}
-
-/// Whether the columns are blank.
-#[inline(always)]
-pub(crate) fn is_blank(columns: &[u8]) -> bool
-    ensures { result ≡ list_all is_blank columns.now }
-{
-    columns.iter().all(|byte| *byte == b' ')
 }
 
 /// Whether the bytes are one digit or more, the first of them not a zero.

@@ -3,8 +3,9 @@
 ghost use Rattle.canonical_lines.specs.Texts.{IsPlacesText, IsUsedText};
 ghost use Rattle.std.specs.Prelude.{◌≡◌, ◌*◌, ℕ, List, Option, None, length, IsTrue};
 
-use crate::number::{is_blank, is_number};
+use crate::number::is_number;
 use crate::point::{is_point, is_unused};
+use tl_layout::is_blank;
 
 /// Places of one kind, side by side.
 pub(crate) trait LinePlaces {

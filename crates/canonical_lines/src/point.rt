@@ -1,24 +1,14 @@
 //! Columns that hold the canonical text of a point.
 
 ghost use Rattle.canonical_lines.specs.Texts.{IsCoordinateText, IsPointOrNoneText, IsPointText};
-ghost use Rattle.std.specs.List.{list_all};
-ghost use Rattle.std.specs.Prelude.{IsTrue, None, length, true, ◌≡◌, ◌⊎◌};
-ghost use Rattle.tl_layout.specs.{FieldTexts.point_place_text, NumberField.is_digit};
+ghost use Rattle.std.specs.Prelude.{IsTrue, None, length, ◌≡◌, ◌⊎◌};
+ghost use Rattle.tl_layout.specs.{FieldTexts.point_place_text};
 
-use crate::number::is_blank;
 use std::simd::prelude::*;
+use tl_layout::{are_digits, is_blank};
 
 /// The text of an unused place: a pair of zeros.
 const UNUSED: [u8; 19] = *b"+000000000+00000000";
-
-/// Whether each of eight bytes is a digit.
-#[inline(always)]
-fn are_digits(bytes: u8x8) -> bool
-    ensures { IsTrue result → list_all is_digit bytes ≡ true }
-{
-    let values = bytes - u8x8::splat(b'0');
-    values.simd_lt(u8x8::splat(10)).to_bitmask() == 0xff
-}
 
 /// Whether a canonical coordinate can have this sign before these digits: a plus, or a minus unless the digits are zeros.
 #[inline(always)]

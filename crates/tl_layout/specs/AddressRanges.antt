@@ -1,6 +1,7 @@
 -- Address ranges and ZIP codes, 58 bytes.
 use Rattle.std.specs.Prelude.{List, ℕ, ◌+◌, ◌∷◌}
-use Rattle.tl_layout.specs.{Bytes.IsText, Bytes.columns, Pairs.FitsPair, Pairs.pair_at, Pairs.pair_texts, declared.ranges.Ranges.Ranges}
+use Rattle.tl_layout.specs.{Bytes.IsText, Bytes.columns, Pairs.FitsPair, Pairs.pair_at, Pairs.pair_of, Pairs.pair_texts}
+use Rattle.tl_layout.specs.declared.ranges.Ranges.{Ranges}
 
 -- each field of the ranges has its width
 pub record FitsRanges (ranges : Ranges) : Type 0 where
@@ -26,7 +27,7 @@ ranges_of fraddl toaddl fraddr toaddr friaddl toiaddl friaddr toiaddr zipl zipr 
       toiaddl = toiaddl;
       friaddr = friaddr;
       toiaddr = toiaddr;
-      zip = record { left = zipl; right = zipr };
+      zip = pair_of zipl zipr;
     }
 
 -- the ranges that begin at this column of a line

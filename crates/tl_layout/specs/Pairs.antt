@@ -7,6 +7,10 @@ pub record FitsPair (N : ℕ) (pair : LeftRight N) : Type 0 where
   pub left : IsText N pair.left
   pub right : IsText N pair.right
 
+-- the pair of these fields
+abbrev pub pair_of : {N : ℕ} → List ℕ → List ℕ → LeftRight N
+pair_of left right = record { left = left; right = right }
+
 -- the pair of that width that begins at this column of a line
 abbrev pub pair_at : (N : ℕ) → ℕ → List ℕ → LeftRight N
 pair_at N first line = record { left = columns first (first + N - 1) line; right = columns (first + N) (first + 2 * N - 1) line }

@@ -5,7 +5,7 @@ use Rattle.tl_layout.specs.ColumnTable.{FitsRows, Row, SpellsRows}
 use Rattle.tl_layout.specs.Fields.{Fields1, Fields2, Fields4, Fields5, Fields6, Fields7, Fields8, FieldsI, FieldsP}
 use Rattle.tl_layout.specs.RecordTables.{table_1, table_2, table_4, table_5, table_6, table_7, table_8, table_i, table_p}
 use Rattle.tl_layout.specs.declared.record_type.Record.TheVariants.{Eight, Five, Four, I, One, P, Seven, Six, Two}
-use Rattle.tl_layout.specs.{AddressRanges.ranges_of, FieldTexts.rows_spelling, TableReading.Makes, TableReading.rows_reading}
+use Rattle.tl_layout.specs.{AddressRanges.ranges_of, FieldTexts.rows_spelling, Pairs.pair_of, TableReading.Makes, TableReading.rows_reading}
 use Rattle.tl_layout.specs.{declared.fault.FieldFault.FieldFault, declared.record_type.Record.Record}
 
 -- the record types of this project
@@ -90,20 +90,17 @@ make_of Type1 = λ tlid side1 source fedirp fename fetype fedirs cfcc
         name = record { fedirp = fedirp; fename = fename; fetype = fetype; fedirs = fedirs };
         cfcc = cfcc;
         ranges = ranges_of fraddl toaddl fraddr toaddr friaddl toiaddl friaddr toiaddr zipl zipr;
-        native_areas = record {
-          aianhhfp = record { left = aianhhfpl; right = aianhhfpr };
-          aihhtli = record { left = aihhtlil; right = aihhtlir };
-        };
+        native_areas = record { aianhhfp = pair_of aianhhfpl aianhhfpr; aihhtli = pair_of aihhtlil aihhtlir };
         census1 = census1;
         census2 = census2;
         entities = record {
-          state = record { left = statel; right = stater };
-          county = record { left = countyl; right = countyr };
-          cousub = record { left = cousubl; right = cousubr };
-          submcd = record { left = submcdl; right = submcdr };
-          place = record { left = placel; right = placer };
-          tract = record { left = tractl; right = tractr };
-          block = record { left = blockl; right = blockr };
+          state = pair_of statel stater;
+          county = pair_of countyl countyr;
+          cousub = pair_of cousubl cousubr;
+          submcd = pair_of submcdl submcdr;
+          place = pair_of placel placer;
+          tract = pair_of tractl tractr;
+          block = pair_of blockl blockr;
         };
       };
       start = start;

@@ -49,7 +49,7 @@ pub use laws::{
 pub use layout::{LONGEST_LINE, Layout};
 pub use mask::Mask;
 pub use name::FeatureName;
-pub use number::trim_start;
+pub use number::{are_digits, is_blank, trim_start};
 pub use number_or_none::NumberOrNone;
 pub use pair::LeftRight;
 pub use point::Point;

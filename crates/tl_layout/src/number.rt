@@ -23,6 +23,7 @@ pub fn trim_start(field: &[u8]) -> &[u8]
 }
 
 /// Whether the field has only blanks.
+#[inline(always)]
 pub fn is_blank(field: &[u8]) -> bool
     ensures { result ≡ list_all is_blank field.now }
 {
@@ -31,7 +32,7 @@ pub fn is_blank(field: &[u8]) -> bool
 
 /// Whether each of eight bytes is a digit.
 #[inline(always)]
-fn are_digits(bytes: u8x8) -> bool
+pub fn are_digits(bytes: u8x8) -> bool
     ensures { IsTrue result → (k : ℕ) → k < 8 → is_digit (slice_index bytes k) ≡ true }
 {
     let values = bytes - u8x8::splat(b'0');
