@@ -33,8 +33,9 @@ pub use Rattle.canonical_form.proofs.{Lists.Counting.flat_map-map, Lists.Countin
 pub use Rattle.canonical_form.proofs.{Lists.ListPlaces.get_dropped, Lists.ListPlaces.then_assoc, Numbering.SeenKeys.place_found}
 pub use Rattle.canonical_form.proofs.{Unique.SameNames.name_key_keys, Views.ArrangedViews.whole_arrangement, Views.ChainPlaces.chain_there}
 pub use Rattle.canonical_form.proofs.{Views.ChainPlaces.node_from_one, Views.DirectedChains.among-get, Views.DirectedChains.feats_placed}
-pub use Rattle.canonical_form.specs.EndsAndSides.{changed_both, ends_among, ends_of, keys_at, node_among, nodes_at, polygon_among}
-pub use Rattle.canonical_form.specs.EndsAndSides.{polygons_at, side_among, sides_among, sides_of}
+pub use Rattle.canonical_form.specs.EndsAndSides.{changed_both, ends_among, keys_at, node_among, nodes_at, polygon_among, polygons_at}
+pub use Rattle.canonical_form.specs.EndsAndSides.{side_among, sides_among}
+pub use Rattle.county_chart.specs.ChartWords.{ends_of, sides_of}
 pub use Rattle.canonical_form.specs.WholeArrangements.{AreReadAt, link_bounds, links_up_to}
 pub use Rattle.county_chart.proofs.Common.{PolygonSide, bodies_at, links_at, links_with, ranks_by, set, slice_cmp, unwrap_or}
 pub use Rattle.county_chart.proofs.Common.{YieldsList-from_map, YieldsList-from_range, YieldsList-from_slice, in_order-from_sorted, tests}

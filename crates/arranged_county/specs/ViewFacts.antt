@@ -1,11 +1,11 @@
 -- Facts about the tables of a county in an arrangement.
 use Rattle.std.specs.Prelude.{List, length, map, ◌<◌, ◌^◌, ◌≡◌}
+use Rattle.county_chart.specs.ChartWords.{ends_of, sides_of}
 use Rattle.county_chart.specs.{County.County, CountyRules.polygon_keys, declared.directed_chain.DirectedChain.DirectedChain}
 use Rattle.ordered_lists.specs.Entries.{entry_keys, entry_values}
 use Rattle.canonical_form.specs.Arrangement.{landmarks_in_order, names_in_order, nodes_in_order, polygons_in_order}
 use Rattle.canonical_form.specs.WholeArrangements.{AreReadAt, arranged_by, link_bounds}
-use Rattle.canonical_form.specs.{ByNumber.polygons_by_number, ByNumber.under_number, DirectedChains.arrangement_of, EndsAndSides.ends_of}
-use Rattle.canonical_form.specs.{EndsAndSides.sides_of, Growth.numbered}
+use Rattle.canonical_form.specs.{ByNumber.polygons_by_number, ByNumber.under_number, DirectedChains.arrangement_of, Growth.numbered}
 use Rattle.arranged_county.specs.{declared.arranged_tables.LandmarkTables.LandmarkTables, declared.arranged_tables.NameTables.NameTables}
 use Rattle.arranged_county.specs.{declared.arranged_tables.NodeTables.NodeTables, declared.arranged_tables.PolygonTables.PolygonTables}
 

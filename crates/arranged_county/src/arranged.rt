@@ -5,7 +5,7 @@ ghost use Rattle.std.specs.{Option.option_and_then, Ordering.nat_cmp};
 ghost use Rattle.county_chart.specs.CountyRules.{AllKeysContained, polygon_keys, polygons_along};
 ghost use Rattle.county_chart.specs.{ChartWords.chain_at, ChartWords.polygon_under, DirectedChains.directed_chain, Renumbering.renumbered};
 ghost use Rattle.ordered_lists.specs.{Entries.entry_values, Pairs.image};
-ghost use Rattle.canonical_form.specs.{Arrangement.renaming_of, EndsAndSides.ends_of, EndsAndSides.sides_of, WholeArrangements.AreWhole};
+ghost use Rattle.canonical_form.specs.{Arrangement.renaming_of, WholeArrangements.AreWhole};
 ghost use Rattle.canonical_form.specs.{ByNumber.polygons_by_number, DirectedChains.arrangement_of, WholeArrangements.arranged_by};
 ghost use Rattle.arranged_county.specs.ViewFacts.{MatchesLandmarks, MatchesNames, MatchesNodes, MatchesPolygons};
 ghost use Rattle.arranged_county.specs.ViewProps.{AreWhole-prop, MatchesLandmarks-prop, MatchesNames-prop, MatchesNodes-prop};
@@ -64,16 +64,9 @@ pub(crate) fn old_place(places: &[u32], place: usize) -> Option<usize>
     }
 }
 
-/// The sides at a place, or `None` past the last one.
-fn sides_there(sides: &[Sides], place: usize) -> Option<Sides>
-    ensures { result ≡ slice_get sides.now place }
-{
-    sides.get(place).copied()
-}
-
 impl<C: Chart, S: Evidence> Arranged<C, S> {
     /// The directed chain at a place in the new order, or `None` past the last one.
-    pub(crate) fn directed_at(&self, place: usize) -> Option<DirectedChain>
+    fn directed_at(&self, place: usize) -> Option<DirectedChain>
         ensures { result ≡ slice_get self.now.arrangement.items place }
     {
         self.arrangement.as_slice().get(place).copied()
@@ -81,9 +74,11 @@ impl<C: Chart, S: Evidence> Arranged<C, S> {
 
     /// The directed chain at a place in the new order. Past the last one it's one that the source county doesn't have.
     pub(crate) fn directed_or_past(&self, place: usize) -> DirectedChain
-        ensures { chain_at (arranged_by (C.county self.now.chart) self.now.arrangement.items) place
+        ensures chain { chain_at (arranged_by (C.county self.now.chart) self.now.arrangement.items) place
             ≡ option_map (renumbered (renaming_of (C.county self.now.chart) (arrangement_of (C.county self.now.chart) self.now.arrangement.items)))
             (directed_chain (C.county self.now.chart) result) }
+        ensures there { place < length (arranged_by (C.county self.now.chart) self.now.arrangement.items).chains
+            → result.place < length (C.county self.now.chart).chains }
     {
         match self.directed_at(place) {
             Some(directed) => directed,
@@ -94,38 +89,11 @@ impl<C: Chart, S: Evidence> Arranged<C, S> {
         }
     }
 
-    /// The start node and the end node of the chain at a place, or `None` past the last chain.
-    pub(crate) fn ends_at(&self, place: usize) -> Option<Ends>
-        ensures { result ≡ option_map ends_of (chain_at (arranged_by (C.county self.now.chart) self.now.arrangement.items) place) }
+    /// A further name with its new FEAT.
+    pub(crate) fn renumbered_feat(&self, feat: u32) -> u32
+        ensures { result ≡ image nat_cmp (renaming_of (C.county self.now.chart) (arrangement_of (C.county self.now.chart) self.now.arrangement.items)).names feat }
     {
-        self.nodes.ends.as_slice().get(place).copied()
-    }
-
-    /// The left and the right side of the chain at a place, or `None` past the last chain.
-    pub(crate) fn sides_at(&self, place: usize) -> Option<Sides>
-        ensures { result ≡ option_map sides_of (chain_at (arranged_by (C.county self.now.chart) self.now.arrangement.items) place) }
-    {
-        sides_there(&self.polygons.sides, place)
-    }
-
-    /// A further name with its new FEAT, if there is one.
-    pub(crate) fn renumbered_feat(&self, feat: Option<u32>) -> Option<u32>
-        ensures { result ≡ option_map (image nat_cmp (renaming_of (C.county self.now.chart) (arrangement_of (C.county self.now.chart) self.now.arrangement.items)).names) feat }
-    {
-        match feat {
-            Some(number) => Some(new_feat(&self.names.feats, number)),
-            None => None,
-        }
-    }
-
-    /// The content of the type P record of the polygon at a place in the order of the new keys, or `None` past the last one.
-    pub(crate) fn polygon_body_at_key(&self, place: usize) -> Option<Option<BodyP>>
-        ensures { result ≡ slice_get (entry_values (arranged_by (C.county self.now.chart) self.now.arrangement.items).polygons) place }
-    {
-        match old_place(&self.polygons.places, place) {
-            Some(old) => self.chart.polygon_body_at(old),
-            None => None,
-        }
+        new_feat(&self.names.feats, feat)
     }
 
     /// The content of the type P record of the polygon at a place in the order of the new numbers, if it has one. If all
@@ -139,7 +107,7 @@ impl<C: Chart, S: Evidence> Arranged<C, S> {
         if !is_at(&self.polygons.keys, place, new) {
             return self.chart.polygon_body_of(old);
         }
-        self.polygon_body_at_key(place).flatten()
+        self.polygon_body_there(place)
     }
 
     /// The polygon at a place in the order of the new numbers, or `None` past the last one: its new key, and the content of its

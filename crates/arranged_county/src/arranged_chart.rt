@@ -4,25 +4,22 @@
 //! aren't copied: chains are read through the source county, and turned and renumbered as they are read.
 
 ghost use Rattle.std.specs.Ordering.{nat_cmp};
-ghost use Rattle.std.specs.Prelude.{◌≡◌, IfSome, Some, is_some, slice_get};
+ghost use Rattle.std.specs.Prelude.{◌<◌, ◌≡◌, IfSome, Some, is_some, slice_get};
 ghost use Rattle.ordered_lists.specs.Orders.{contains};
 ghost use Rattle.canonical_form.specs.Growth.{up_to};
 
 use crate::arranged::{Arranged, Evidence, old_place};
-use crate::landmark_links::{link_at, links_of_landmark};
+use crate::landmark_links::links_of_landmark;
 use county_chart::{Chart, Listed, PolygonKey};
 use ordered_lists::place_of;
 use tl_layout::{Body1, Body5, Body7, BodyI, BodyP, Point, Ranges, Rec8, Side};
 
-/// The number at a place, counted from 0, or `None` past the last one.
-pub(crate) fn number_of_place(count: usize, place: usize) -> Option<u64>
-    ensures { result ≡ slice_get (up_to count) place }
+/// The number at a place, counted from 0, of so many numbers.
+fn number_of_place(_count: usize, place: usize) -> u64
+    requires { place < _count }
+    ensures { Some result ≡ slice_get (up_to _count) place }
 {
-    if place < count {
-        Some(place as u64 + 1)
-    } else {
-        None
-    }
+    place as u64 + 1
 }
 
 /// The place of a number, counted from 0, or `None` if it isn't one of them.
@@ -47,7 +44,7 @@ impl<C: Chart, S: Evidence> Chart for Arranged<C, S> {
         self.arrangement.as_slice().len()
     }
 
-    fn tlid_at(&self, place: usize) -> Option<u64> {
+    fn tlid_there(&self, place: usize) -> u64 {
         number_of_place(self.arrangement.as_slice().len(), place)
     }
 
@@ -59,11 +56,8 @@ impl<C: Chart, S: Evidence> Chart for Arranged<C, S> {
         self.names.feats.len()
     }
 
-    fn feat_at(&self, place: usize) -> Option<u32> {
-        match number_of_place(self.names.feats.len(), place) {
-            Some(feat) => Some(feat as u32),
-            None => None,
-        }
+    fn feat_there(&self, place: usize) -> u32 {
+        number_of_place(self.names.feats.len(), place) as u32
     }
 
     fn name_place(&self, feat: u32) -> Option<usize> {
@@ -74,8 +68,8 @@ impl<C: Chart, S: Evidence> Chart for Arranged<C, S> {
         self.polygons.keys.as_slice().len()
     }
 
-    fn polygon_key_at(&self, place: usize) -> Option<PolygonKey> {
-        self.polygons.keys.as_slice().get(place).copied()
+    fn polygon_key_there(&self, place: usize) -> PolygonKey {
+        self.polygons.keys.as_slice().item(place)
     }
 
     fn polygon_place(&self, key: PolygonKey) -> Option<usize> {
@@ -86,7 +80,7 @@ impl<C: Chart, S: Evidence> Chart for Arranged<C, S> {
         self.landmarks.places.as_slice().len()
     }
 
-    fn land_at(&self, place: usize) -> Option<u64> {
+    fn land_there(&self, place: usize) -> u64 {
         number_of_place(self.landmarks.places.as_slice().len(), place)
     }
 
@@ -98,7 +92,7 @@ impl<C: Chart, S: Evidence> Chart for Arranged<C, S> {
         self.nodes.numbers.len()
     }
 
-    fn node_at(&self, place: usize) -> Option<u64> {
+    fn node_there(&self, place: usize) -> u64 {
         number_of_place(self.nodes.numbers.len(), place)
     }
 
@@ -106,92 +100,66 @@ impl<C: Chart, S: Evidence> Chart for Arranged<C, S> {
         place_of_number(self.nodes.numbers.len(), node)
     }
 
-    fn chain_body_at(&self, place: usize) -> Option<Body1> {
+    fn chain_body_there(&self, place: usize) -> Body1 {
         self.directed_or_past(place).body(&self.chart)
     }
 
     fn put_chain_body(&self, place: usize, turned: bool, out: &mut [u8]) {
-        match self.directed_at(place) {
-            Some(directed) => directed.put_body(&self.chart, turned, out),
-            None => {}
-        }
+        let directed = self.directed_or_past(place);
+        directed.put_body(&self.chart, turned, out);
     }
 
     fn chain_byte(&self, place: usize) -> u8 {
-        match self.directed_at(place) {
-            Some(directed) => self.chart.chain_byte(directed.place as usize),
-            None => 0,
-        }
+        let directed = self.directed_or_past(place);
+        self.chart.chain_byte(directed.place as usize)
     }
 
     fn point_count_at(&self, place: usize) -> usize {
         self.directed_or_past(place).points(&self.chart).count()
     }
 
-    fn point_at(&self, place: usize, point: usize) -> Option<Point> {
-        self.directed_or_past(place).points(&self.chart).get(point)
+    fn point_there(&self, place: usize, point: usize) -> Point {
+        self.directed_or_past(place).points(&self.chart).item(point)
     }
 
     fn feat_count_at(&self, place: usize) -> usize {
         self.directed_or_past(place).feats(&self.chart).count()
     }
 
-    fn chain_feat_at(&self, place: usize, name: usize) -> Option<u32> {
+    fn chain_feat_there(&self, place: usize, name: usize) -> u32 {
         let feats = self.directed_or_past(place).feats(&self.chart);
-        self.renumbered_feat(feats.get(name))
+        self.renumbered_feat(feats.item(name))
     }
 
     fn range_count_at(&self, place: usize) -> usize {
-        let ranges = self.directed_or_past(place).ranges(&self.chart);
-        ranges.count()
+        self.directed_or_past(place).ranges(&self.chart).count()
     }
 
-    fn range_at(&self, place: usize, range: usize) -> Option<Ranges> {
-        let ranges = self.directed_or_past(place).ranges(&self.chart);
-        ranges.get(range)
+    fn range_there(&self, place: usize, range: usize) -> Ranges {
+        self.directed_or_past(place).ranges(&self.chart).item(range)
     }
 
-    fn topology_at(&self, place: usize) -> Option<BodyI> {
+    fn topology_there(&self, place: usize) -> BodyI {
         self.directed_or_past(place).topology(&self.chart)
     }
 
-    fn start_node_at(&self, place: usize) -> Option<Option<u64>> {
-        match self.ends_at(place) {
-            Some(pair) => Some(pair.0.get()),
-            None => None,
-        }
+    fn ends_there(&self, place: usize) -> (Option<u64>, Option<u64>) {
+        let (start, end) = self.nodes.ends.as_slice().item(place);
+        (start.get(), end.get())
     }
 
-    fn end_node_at(&self, place: usize) -> Option<Option<u64>> {
-        match self.ends_at(place) {
-            Some(pair) => Some(pair.1.get()),
-            None => None,
-        }
+    fn sides_there(&self, place: usize) -> (Side, Side) {
+        self.polygons.sides.as_slice().item(place)
     }
 
-    fn left_at(&self, place: usize) -> Option<Side> {
-        match self.sides_at(place) {
-            Some(pair) => Some(pair.0),
-            None => None,
-        }
+    fn name_body_there(&self, place: usize) -> Body5 {
+        let old = self.names.places.as_slice().item(place);
+        self.chart.name_body_there(old as usize)
     }
 
-    fn right_at(&self, place: usize) -> Option<Side> {
-        match self.sides_at(place) {
-            Some(pair) => Some(pair.1),
-            None => None,
-        }
-    }
-
-    fn name_body_at(&self, place: usize) -> Option<Body5> {
-        match old_place(&self.names.places, place) {
-            Some(old) => self.chart.name_body_at(old),
-            None => None,
-        }
-    }
-
-    fn polygon_body_at(&self, place: usize) -> Option<Option<BodyP>> {
-        self.polygon_body_at_key(place)
+    fn polygon_body_there(&self, place: usize) -> Option<BodyP> {
+        let old = self.polygons.places.as_slice().item(place);
+        self.chart.polygon_body_there(old as usize)
     }
 
     fn body_count_at(&self, place: usize) -> usize {
@@ -201,20 +169,18 @@ impl<C: Chart, S: Evidence> Chart for Arranged<C, S> {
         }
     }
 
-    fn landmark_body_at(&self, place: usize, body: usize) -> Option<Body7> {
-        match old_place(&self.landmarks.places, place) {
-            Some(old) => self.chart.landmark_body_at(old, body),
-            None => None,
-        }
+    fn landmark_body_there(&self, place: usize, body: usize) -> Body7 {
+        let old = self.landmarks.places.as_slice().item(place);
+        self.chart.landmark_body_there(old as usize, body)
     }
 
     fn link_count_at(&self, place: usize) -> usize {
         links_of_landmark(&self.landmarks.links, &self.landmarks.bounds, place).len()
     }
 
-    fn landmark_link_at(&self, place: usize, link: usize) -> Option<Rec8> {
+    fn landmark_link_there(&self, place: usize, link: usize) -> Rec8 {
         let links = links_of_landmark(&self.landmarks.links, &self.landmarks.bounds, place);
-        link_at(links, link)
+        links.item(link)
     }
 
     ghost is_county = { λ view. view.whole.is_county };

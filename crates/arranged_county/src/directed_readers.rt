@@ -1,8 +1,7 @@
 //! The ends and the sides of a directed chain, in its direction.
 
 ghost use Rattle.std.specs.Prelude.{◌≡◌, ◌<◌, Some, length, option_map};
-ghost use Rattle.canonical_form.specs.EndsAndSides.{ends_of, sides_of};
-ghost use Rattle.county_chart.specs.DirectedChains.{directed_chain};
+ghost use Rattle.county_chart.specs.{ChartWords.ends_of, ChartWords.sides_of, DirectedChains.directed_chain};
 
 use crate::arranged_tables::{Ends, Sides};
 use county_chart::{Chart, DirectedChain};
@@ -13,9 +12,9 @@ pub(crate) fn ends_of_directed<C: Chart>(chart: &C, directed: DirectedChain) -> 
     requires { directed.place < length (C.county chart.now).chains }
     ensures { Some result ≡ option_map ends_of (directed_chain (C.county chart.now) directed) }
 {
-    let place = directed.place as usize;
-    let start = NumberOrNone::new(chart.start_node_there(place));
-    let end = NumberOrNone::new(chart.end_node_there(place));
+    let (start, end) = chart.ends_there(directed.place as usize);
+    let start = NumberOrNone::new(start);
+    let end = NumberOrNone::new(end);
     if directed.turned {
         (end, start)
     } else {
@@ -28,9 +27,7 @@ pub(crate) fn sides_of_directed<C: Chart>(chart: &C, directed: DirectedChain) ->
     requires { directed.place < length (C.county chart.now).chains }
     ensures { Some result ≡ option_map sides_of (directed_chain (C.county chart.now) directed) }
 {
-    let place = directed.place as usize;
-    let left = chart.left_there(place);
-    let right = chart.right_there(place);
+    let (left, right) = chart.sides_there(directed.place as usize);
     if directed.turned {
         (right, left)
     } else {

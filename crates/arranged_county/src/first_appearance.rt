@@ -6,7 +6,8 @@
 
 ghost use Rattle.std.specs.Prelude.{IfOk, OnOk, Some, [], flat_map, length, map, option_map, ◌≡◌};
 ghost use Rattle.ordered_lists.specs.Entries.{entry_values};
-ghost use Rattle.canonical_form.specs.EndsAndSides.{changed_both, ends_of, keys_at, sides_of};
+ghost use Rattle.county_chart.specs.ChartWords.{ends_of, sides_of};
+ghost use Rattle.canonical_form.specs.EndsAndSides.{changed_both, keys_at};
 ghost use Rattle.canonical_form.specs.{Arrangement.polygons_in_order, DirectedChains.HasChainsOf, DirectedChains.arrangement_of};
 ghost use Rattle.canonical_form.specs.{Growth.first_seen, WholeArrangements.AreWhole, WholeArrangements.arranged_by};
 ghost use Rattle.county_chart.specs.DirectedChains.{directed_chain};

@@ -157,10 +157,3 @@ pub(crate) fn links_of_landmark<'a>(links: &'a [Rec8], bounds: &[usize], place: 
     let (own, _) = rest.split_at(end - start);
     own
 }
-
-/// A link of a list, or `None` past the last one.
-pub(crate) fn link_at(links: &[Rec8], link: usize) -> Option<Rec8>
-    ensures { result ≡ slice_get links.now link }
-{
-    links.get(link).copied()
-}

@@ -3,18 +3,9 @@ use Rattle.std.specs.Prelude.{List, None, Option, Some, map, option_map, option_
 use Rattle.std.specs.Ordering.{nat_cmp}
 use Rattle.std.proofs.Common.{arith}
 use Rattle.tl_layout.specs.PolygonSide.{PolygonSide}
-use Rattle.tl_shape.specs.Chain.{Chain}
 use Rattle.county_chart.specs.{PolygonKeys.PolygonKey, PolygonKeys.key_cmp, PolygonKeys.key_on, Renumbering.side_of}
 use Rattle.ordered_lists.specs.Pairs.{image}
 use Rattle.canonical_form.specs.{Arrangement.under_cenid, Growth.numbered}
-
--- the start node and the end node of a chain
-abbrev pub ends_of : Chain → Option ℕ × Option ℕ
-ends_of chain = (chain.start_node, chain.end_node)
-
--- its left side and its right side
-abbrev pub sides_of : Chain → PolygonSide × PolygonSide
-sides_of chain = (chain.left, chain.right)
 
 -- the keys of two ends or sides, first before second
 abbrev pub keys_at : {K X : Type 0} → (X → List K) → X × X → List K

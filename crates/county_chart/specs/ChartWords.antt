@@ -1,8 +1,9 @@
 -- The part of a county at a place of its ascending lists, or under a number.
 use Rattle.std.specs.Prelude.{List, None, Option, Some, [], slice_get, unwrap_or, ℕ}
 use Rattle.std.specs.Ordering.{nat_cmp}
-use Rattle.tl_layout.specs.{ByType.of_number, Coordinates.Coordinates, Fields.Fields8, declared.ranges.Ranges.Ranges}
-use Rattle.tl_layout.specs.{declared.type5.Body5.Body5, declared.type7.Body7.Body7, declared.type_p.BodyP.BodyP}
+use Rattle.tl_layout.specs.{ByType.of_number, Coordinates.Coordinates, Fields.Fields8, PolygonSide.PolygonSide}
+use Rattle.tl_layout.specs.{declared.ranges.Ranges.Ranges, declared.type5.Body5.Body5, declared.type7.Body7.Body7}
+use Rattle.tl_layout.specs.declared.type_p.BodyP.{BodyP}
 use Rattle.tl_shape.specs.Chain.{Chain}
 use Rattle.county_chart.specs.{County.County, County.eight_land, CountyRules.lands, PolygonKeys.PolygonKey, PolygonKeys.key_cmp}
 use Rattle.ordered_lists.specs.Entries.{entry_values, value_under}
@@ -23,6 +24,14 @@ feats_of (Some chain) = chain.feats
 abbrev pub ranges_of : Option Chain → List Ranges
 ranges_of None = []
 ranges_of (Some chain) = chain.ranges
+
+-- its start node and its end node
+abbrev pub ends_of : Chain → Option ℕ × Option ℕ
+ends_of chain = (chain.start_node, chain.end_node)
+
+-- its left side and its right side
+abbrev pub sides_of : Chain → PolygonSide × PolygonSide
+sides_of chain = (chain.left, chain.right)
 
 -- the name at a place
 abbrev pub name_at : County → ℕ → Option Body5

@@ -2,8 +2,8 @@
 
 ghost use Rattle.std.specs.Prelude.{IfSome, Some, false, is_some, length, option_map, slice_get, take, true, ◌<◌, ◌≡◌, ◌≤◌};
 ghost use Rattle.std.specs.{Option.option_and_then, Ordering.nat_cmp};
-ghost use Rattle.county_chart.specs.ChartWords.{bodies_at, bodies_under, chain_at, chain_under, feats_of, links_at, links_under, name_at};
-ghost use Rattle.county_chart.specs.ChartWords.{name_under, points_of, polygon_at, polygon_under, ranges_of};
+ghost use Rattle.county_chart.specs.ChartWords.{bodies_at, bodies_under, chain_at, chain_under, ends_of, feats_of, links_at, links_under};
+ghost use Rattle.county_chart.specs.ChartWords.{name_at, name_under, points_of, polygon_at, polygon_under, ranges_of, sides_of};
 ghost use Rattle.county_chart.specs.CountyRules.{IsCounty, feats, lands, nodes, polygon_keys, tlids};
 ghost use Rattle.county_chart.specs.{County.County, Limits.IsWithinLimits, Limits.most_records, PolygonKeys.key_cmp};
 ghost use Rattle.ordered_lists.specs.Orders.{contains};
@@ -12,10 +12,10 @@ ghost use Rattle.tl_layout.specs.{Columns.joined, Turned.body_towards, Type1Grou
 use crate::keys::record_keys::PolygonKey;
 use tl_layout::{Body1, Body5, Body7, BodyI, BodyP, Point, Ranges, Rec8, Side};
 
-/// A county, whatever its storage. Places count from 0 along the ascending lists of TLIDs, FEATs, polygons, LANDs and nodes. If a
-/// place or a number isn't in the county, a call returns `None`, and a count is 0. Calls whose names end in `_there` require a
-/// place that exists, and return no `Option`. TLIDs, LANDs, POLYIDs and nodes are from 1 to 9,999,999,999, and FEATs from 1 to
-/// 99,999,999. A coordinate is in millionths of a degree. No call allocates memory.
+/// A county, whatever its storage. Places count from 0 along the ascending lists of TLIDs, FEATs, polygons, LANDs and nodes. Calls
+/// whose names end in `_there` require a place that exists, and return no `Option`; a chart writes these. From them are made the
+/// calls that return `None` if a place or a number isn't in the county. A count is 0 then. TLIDs, LANDs, POLYIDs and nodes are from
+/// 1 to 9,999,999,999, and FEATs from 1 to 99,999,999. A coordinate is in millionths of a degree. No call allocates memory.
 pub trait Chart {
     /// The county.
     ghost county: { Self → County };
@@ -24,9 +24,10 @@ pub trait Chart {
     fn chain_count(&self) -> usize
         ensures { result ≡ length (county self.now).chains };
 
-    /// The TLID of the chain at a place (record type 1).
-    fn tlid_at(&self, place: usize) -> Option<u64>
-        ensures { result ≡ slice_get (tlids (county self.now)) place };
+    /// The TLID of the chain at a place, which must be less than the number of chains.
+    fn tlid_there(&self, place: usize) -> u64
+        requires { place < length (county self.now).chains }
+        ensures { Some result ≡ slice_get (tlids (county self.now)) place };
 
     /// The place of the chain with this TLID, or `None` if no chain has it.
     fn chain_place(&self, tlid: u64) -> Option<usize>
@@ -37,9 +38,10 @@ pub trait Chart {
     fn name_count(&self) -> usize
         ensures { result ≡ length (county self.now).names };
 
-    /// The FEAT of the name at a place (record type 5).
-    fn feat_at(&self, place: usize) -> Option<u32>
-        ensures { result ≡ slice_get (feats (county self.now)) place };
+    /// The FEAT of the name at a place, which must be less than the number of names.
+    fn feat_there(&self, place: usize) -> u32
+        requires { place < length (county self.now).names }
+        ensures { Some result ≡ slice_get (feats (county self.now)) place };
 
     /// The place of the name with this FEAT, or `None` if no name has it.
     fn name_place(&self, feat: u32) -> Option<usize>
@@ -50,9 +52,10 @@ pub trait Chart {
     fn polygon_count(&self) -> usize
         ensures { result ≡ length (county self.now).polygons };
 
-    /// The key of the polygon at a place: its CENID and POLYID (record types I, P and 8).
-    fn polygon_key_at(&self, place: usize) -> Option<PolygonKey>
-        ensures { result ≡ slice_get (polygon_keys (county self.now)) place };
+    /// The key of the polygon at a place, which must be less than the number of polygons.
+    fn polygon_key_there(&self, place: usize) -> PolygonKey
+        requires { place < length (county self.now).polygons }
+        ensures { Some result ≡ slice_get (polygon_keys (county self.now)) place };
 
     /// The place of the polygon with this key, or `None` if no polygon has it.
     fn polygon_place(&self, key: PolygonKey) -> Option<usize>
@@ -63,9 +66,10 @@ pub trait Chart {
     fn landmark_count(&self) -> usize
         ensures { result ≡ length (county self.now).landmarks };
 
-    /// The LAND of the landmark at a place (record type 7).
-    fn land_at(&self, place: usize) -> Option<u64>
-        ensures { result ≡ slice_get (lands (county self.now)) place };
+    /// The LAND of the landmark at a place, which must be less than the number of landmarks.
+    fn land_there(&self, place: usize) -> u64
+        requires { place < length (county self.now).landmarks }
+        ensures { Some result ≡ slice_get (lands (county self.now)) place };
 
     /// The place of the landmark with this LAND, or `None` if no landmark has it.
     fn landmark_place(&self, land: u64) -> Option<usize>
@@ -76,18 +80,20 @@ pub trait Chart {
     fn node_count(&self) -> usize
         ensures { result ≡ length (nodes (county self.now)) };
 
-    /// The number of the node at a place (record type I, TZIDS and TZIDE).
-    fn node_at(&self, place: usize) -> Option<u64>
-        ensures { result ≡ slice_get (nodes (county self.now)) place };
+    /// The number of the node at a place, which must be less than the number of nodes.
+    fn node_there(&self, place: usize) -> u64
+        requires { place < length (nodes (county self.now)) }
+        ensures { Some result ≡ slice_get (nodes (county self.now)) place };
 
     /// The place of a node, or `None` if no chain starts or ends there.
     fn node_place(&self, node: u64) -> Option<usize>
         ensures found { IfSome result (λ place. slice_get (nodes (county self.now)) place ≡ Some node) }
         ensures known { is_some result ≡ contains nat_cmp node (nodes (county self.now)) };
 
-    /// The content of the type 1 record of the chain at a place.
-    fn chain_body_at(&self, place: usize) -> Option<Body1>
-        ensures { result ≡ option_map (λ c. c.body) (chain_at (county self.now) place) };
+    /// The content of the type 1 record of the chain at a place, which must be less than the number of chains.
+    fn chain_body_there(&self, place: usize) -> Body1
+        requires { place < length (county self.now).chains }
+        ensures { Some result ≡ option_map (λ c. c.body) (chain_at (county self.now) place) };
 
     /// Writes the content of the type 1 record of the chain at a place into columns 16 to 190 of `out`, a line of at least 190
     /// bytes; columns 1 to 15 stay. If `turned`, the content is written as seen from the chain's other end. `place` must be less
@@ -98,7 +104,7 @@ pub trait Chart {
         ensures { Some (take 190 out.new)
             ≡ option_map (λ c. joined (take 15 out.old) (body_1_texts (body_towards turned c.body))) (chain_at (county self.now) place) }
     {
-        let body = self.chain_body_at(place).unwrap();
+        let body = self.chain_body_there(place);
         body.put_towards(turned, out);
     }
 
@@ -111,69 +117,74 @@ pub trait Chart {
     fn point_count_at(&self, place: usize) -> usize
         ensures { result ≡ length (points_of (chain_at (county self.now) place)) };
 
-    /// A point of the chain at a place (record types 1 and 2). Point 0 is at the start node.
-    fn point_at(&self, place: usize, point: usize) -> Option<Point>
-        ensures { result ≡ slice_get (points_of (chain_at (county self.now) place)) point };
+    /// A point of the chain at a place. Point 0 is at the start node; `point` must be less than the number of the chain's points.
+    fn point_there(&self, place: usize, point: usize) -> Point
+        requires { point < length (points_of (chain_at (county self.now) place)) }
+        ensures { Some result ≡ slice_get (points_of (chain_at (county self.now) place)) point };
 
     /// The number of further names (record type 4) of the chain at a place.
     fn feat_count_at(&self, place: usize) -> usize
         ensures { result ≡ length (feats_of (chain_at (county self.now) place)) };
 
-    /// The FEAT of a further name (record type 4) of the chain at a place.
-    fn chain_feat_at(&self, place: usize, name: usize) -> Option<u32>
-        ensures { result ≡ slice_get (feats_of (chain_at (county self.now) place)) name };
+    /// The FEAT of a further name (record type 4) of the chain at a place. `name` must be less than the number of its further
+    /// names.
+    fn chain_feat_there(&self, place: usize, name: usize) -> u32
+        requires { name < length (feats_of (chain_at (county self.now) place)) }
+        ensures { Some result ≡ slice_get (feats_of (chain_at (county self.now) place)) name };
 
     /// The number of further address ranges (record type 6) of the chain at a place.
     fn range_count_at(&self, place: usize) -> usize
         ensures { result ≡ length (ranges_of (chain_at (county self.now) place)) };
 
-    /// A further address range (record type 6) of the chain at a place.
-    fn range_at(&self, place: usize, range: usize) -> Option<Ranges>
-        ensures { result ≡ slice_get (ranges_of (chain_at (county self.now) place)) range };
+    /// A further address range (record type 6) of the chain at a place. `range` must be less than the number of its further ranges.
+    fn range_there(&self, place: usize, range: usize) -> Ranges
+        requires { range < length (ranges_of (chain_at (county self.now) place)) }
+        ensures { Some result ≡ slice_get (ranges_of (chain_at (county self.now) place)) range };
 
-    /// The content of the type I record of the chain at a place.
-    fn topology_at(&self, place: usize) -> Option<BodyI>
-        ensures { result ≡ option_map (λ c. c.topology) (chain_at (county self.now) place) };
+    /// The content of the type I record of the chain at a place, which must be less than the number of chains.
+    fn topology_there(&self, place: usize) -> BodyI
+        requires { place < length (county self.now).chains }
+        ensures { Some result ≡ option_map (λ c. c.topology) (chain_at (county self.now) place) };
 
-    /// The start node of the chain at a place (record type I, TZIDS), or none.
-    fn start_node_at(&self, place: usize) -> Option<Option<u64>>
-        ensures { result ≡ option_map (λ c. c.start_node) (chain_at (county self.now) place) };
+    /// The start node and the end node of the chain at a place (record type I, TZIDS and TZIDE), each if it has one. The place must
+    /// be less than the number of chains.
+    fn ends_there(&self, place: usize) -> (Option<u64>, Option<u64>)
+        requires { place < length (county self.now).chains }
+        ensures { Some result ≡ option_map ends_of (chain_at (county self.now) place) };
 
-    /// The end node of the chain at a place (record type I, TZIDE), or none.
-    fn end_node_at(&self, place: usize) -> Option<Option<u64>>
-        ensures { result ≡ option_map (λ c. c.end_node) (chain_at (county self.now) place) };
+    /// The left and the right side of the chain at a place, which must be less than the number of chains.
+    fn sides_there(&self, place: usize) -> (Side, Side)
+        requires { place < length (county self.now).chains }
+        ensures { Some result ≡ option_map sides_of (chain_at (county self.now) place) };
 
-    /// The left side of the chain at a place (record type I, CENIDL and POLYIDL).
-    fn left_at(&self, place: usize) -> Option<Side>
-        ensures { result ≡ option_map (λ c. c.left) (chain_at (county self.now) place) };
+    /// The content of the name at a place (record type 5), which must be less than the number of names.
+    fn name_body_there(&self, place: usize) -> Body5
+        requires { place < length (county self.now).names }
+        ensures { Some result ≡ name_at (county self.now) place };
 
-    /// The right side of the chain at a place (record type I, CENIDR and POLYIDR).
-    fn right_at(&self, place: usize) -> Option<Side>
-        ensures { result ≡ option_map (λ c. c.right) (chain_at (county self.now) place) };
-
-    /// The content of the name at a place (record type 5).
-    fn name_body_at(&self, place: usize) -> Option<Body5>
-        ensures { result ≡ name_at (county self.now) place };
-
-    /// The content of the type P record of the polygon at a place, or none if the polygon has no such record.
-    fn polygon_body_at(&self, place: usize) -> Option<Option<BodyP>>
-        ensures { result ≡ polygon_at (county self.now) place };
+    /// The content of the type P record of the polygon at a place, or none if the polygon has no such record. The place must be
+    /// less than the number of polygons.
+    fn polygon_body_there(&self, place: usize) -> Option<BodyP>
+        requires { place < length (county self.now).polygons }
+        ensures { Some result ≡ polygon_at (county self.now) place };
 
     /// The number of type 7 records of the landmark at a place.
     fn body_count_at(&self, place: usize) -> usize
         ensures { result ≡ length (bodies_at (county self.now) place) };
 
-    /// The content of a type 7 record of the landmark at a place.
-    fn landmark_body_at(&self, place: usize, body: usize) -> Option<Body7>
-        ensures { result ≡ slice_get (bodies_at (county self.now) place) body };
+    /// The content of a type 7 record of the landmark at a place. `body` must be less than the number of its type 7 records.
+    fn landmark_body_there(&self, place: usize, body: usize) -> Body7
+        requires { body < length (bodies_at (county self.now) place) }
+        ensures { Some result ≡ slice_get (bodies_at (county self.now) place) body };
 
     /// The number of type 8 records of the landmark at a place.
     fn link_count_at(&self, place: usize) -> usize
         ensures { result ≡ length (links_at (county self.now) place) };
 
-    /// A type 8 record of the landmark at a place.
-    fn landmark_link_at(&self, place: usize, link: usize) -> Option<Rec8>
-        ensures { result ≡ slice_get (links_at (county self.now) place) link };
+    /// A type 8 record of the landmark at a place. `link` must be less than the number of its type 8 records.
+    fn landmark_link_there(&self, place: usize, link: usize) -> Rec8
+        requires { link < length (links_at (county self.now) place) }
+        ensures { Some result ≡ slice_get (links_at (county self.now) place) link };
 
     /// The county is well-formed, as linking makes it.
     ghost is_county: { (chart : Self) → IsCounty (county chart) };
@@ -181,150 +192,130 @@ pub trait Chart {
     /// The county is within its limits, as one made from records within theirs is.
     ghost within_limits: { (chart : Self) → IsWithinLimits most_records (county chart) };
 
-    /// The TLID of the chain at a place, which must be less than the number of chains.
-    final fn tlid_there(&self, place: usize) -> u64
-        requires { place < length (county self.now).chains }
-        ensures { Some result ≡ slice_get (tlids (county self.now)) place }
+    /// The TLID of the chain at a place (record type 1).
+    final fn tlid_at(&self, place: usize) -> Option<u64>
+        ensures { result ≡ slice_get (tlids (county self.now)) place }
     {
-        self.tlid_at(place).unwrap()
+        (place < self.chain_count()).then(|| self.tlid_there(place))
     }
 
-    /// The FEAT of the name at a place, which must be less than the number of names.
-    final fn feat_there(&self, place: usize) -> u32
-        requires { place < length (county self.now).names }
-        ensures { Some result ≡ slice_get (feats (county self.now)) place }
+    /// The FEAT of the name at a place (record type 5).
+    final fn feat_at(&self, place: usize) -> Option<u32>
+        ensures { result ≡ slice_get (feats (county self.now)) place }
     {
-        self.feat_at(place).unwrap()
+        (place < self.name_count()).then(|| self.feat_there(place))
     }
 
-    /// The key of the polygon at a place, which must be less than the number of polygons.
-    final fn polygon_key_there(&self, place: usize) -> PolygonKey
-        requires { place < length (county self.now).polygons }
-        ensures { Some result ≡ slice_get (polygon_keys (county self.now)) place }
+    /// The key of the polygon at a place: its CENID and POLYID (record types I, P and 8).
+    final fn polygon_key_at(&self, place: usize) -> Option<PolygonKey>
+        ensures { result ≡ slice_get (polygon_keys (county self.now)) place }
     {
-        self.polygon_key_at(place).unwrap()
+        (place < self.polygon_count()).then(|| self.polygon_key_there(place))
     }
 
-    /// The LAND of the landmark at a place, which must be less than the number of landmarks.
-    final fn land_there(&self, place: usize) -> u64
-        requires { place < length (county self.now).landmarks }
-        ensures { Some result ≡ slice_get (lands (county self.now)) place }
+    /// The LAND of the landmark at a place (record type 7).
+    final fn land_at(&self, place: usize) -> Option<u64>
+        ensures { result ≡ slice_get (lands (county self.now)) place }
     {
-        self.land_at(place).unwrap()
+        (place < self.landmark_count()).then(|| self.land_there(place))
     }
 
-    /// The number of the node at a place, which must be less than the number of nodes.
-    final fn node_there(&self, place: usize) -> u64
-        requires { place < length (nodes (county self.now)) }
-        ensures { Some result ≡ slice_get (nodes (county self.now)) place }
+    /// The number of the node at a place (record type I, TZIDS and TZIDE).
+    final fn node_at(&self, place: usize) -> Option<u64>
+        ensures { result ≡ slice_get (nodes (county self.now)) place }
     {
-        self.node_at(place).unwrap()
+        (place < self.node_count()).then(|| self.node_there(place))
     }
 
-    /// The content of the type 1 record of the chain at a place, which must be less than the number of chains.
-    final fn chain_body_there(&self, place: usize) -> Body1
-        requires { place < length (county self.now).chains }
-        ensures { Some result ≡ option_map (λ c. c.body) (chain_at (county self.now) place) }
+    /// The content of the type 1 record of the chain at a place.
+    final fn chain_body_at(&self, place: usize) -> Option<Body1>
+        ensures { result ≡ option_map (λ c. c.body) (chain_at (county self.now) place) }
     {
-        self.chain_body_at(place).unwrap()
+        (place < self.chain_count()).then(|| self.chain_body_there(place))
     }
 
-    /// The content of the type I record of the chain at a place, which must be less than the number of chains.
-    final fn topology_there(&self, place: usize) -> BodyI
-        requires { place < length (county self.now).chains }
-        ensures { Some result ≡ option_map (λ c. c.topology) (chain_at (county self.now) place) }
+    /// The content of the type I record of the chain at a place.
+    final fn topology_at(&self, place: usize) -> Option<BodyI>
+        ensures { result ≡ option_map (λ c. c.topology) (chain_at (county self.now) place) }
     {
-        self.topology_at(place).unwrap()
+        (place < self.chain_count()).then(|| self.topology_there(place))
     }
 
-    /// The start node of the chain at a place (record type I, TZIDS), or none. The place must be less than the number of chains.
-    final fn start_node_there(&self, place: usize) -> Option<u64>
-        requires { place < length (county self.now).chains }
-        ensures { Some result ≡ option_map (λ c. c.start_node) (chain_at (county self.now) place) }
+    /// The start node of the chain at a place (record type I, TZIDS), or none.
+    final fn start_node_at(&self, place: usize) -> Option<Option<u64>>
+        ensures { result ≡ option_map (λ c. c.start_node) (chain_at (county self.now) place) }
     {
-        self.start_node_at(place).unwrap()
+        (place < self.chain_count()).then(|| self.ends_there(place).0)
     }
 
-    /// The end node of the chain at a place (record type I, TZIDE), or none. The place must be less than the number of chains.
-    final fn end_node_there(&self, place: usize) -> Option<u64>
-        requires { place < length (county self.now).chains }
-        ensures { Some result ≡ option_map (λ c. c.end_node) (chain_at (county self.now) place) }
+    /// The end node of the chain at a place (record type I, TZIDE), or none.
+    final fn end_node_at(&self, place: usize) -> Option<Option<u64>>
+        ensures { result ≡ option_map (λ c. c.end_node) (chain_at (county self.now) place) }
     {
-        self.end_node_at(place).unwrap()
+        (place < self.chain_count()).then(|| self.ends_there(place).1)
     }
 
-    /// The left side of the chain at a place, which must be less than the number of chains.
-    final fn left_there(&self, place: usize) -> Side
-        requires { place < length (county self.now).chains }
-        ensures { Some result ≡ option_map (λ c. c.left) (chain_at (county self.now) place) }
+    /// The left side of the chain at a place (record type I, CENIDL and POLYIDL).
+    final fn left_at(&self, place: usize) -> Option<Side>
+        ensures { result ≡ option_map (λ c. c.left) (chain_at (county self.now) place) }
     {
-        self.left_at(place).unwrap()
+        (place < self.chain_count()).then(|| self.sides_there(place).0)
     }
 
-    /// The right side of the chain at a place, which must be less than the number of chains.
-    final fn right_there(&self, place: usize) -> Side
-        requires { place < length (county self.now).chains }
-        ensures { Some result ≡ option_map (λ c. c.right) (chain_at (county self.now) place) }
+    /// The right side of the chain at a place (record type I, CENIDR and POLYIDR).
+    final fn right_at(&self, place: usize) -> Option<Side>
+        ensures { result ≡ option_map (λ c. c.right) (chain_at (county self.now) place) }
     {
-        self.right_at(place).unwrap()
+        (place < self.chain_count()).then(|| self.sides_there(place).1)
     }
 
-    /// A point of the chain at a place. Point 0 is at the start node; `point` must be less than the number of the chain's points.
-    final fn point_there(&self, place: usize, point: usize) -> Point
-        requires { point < length (points_of (chain_at (county self.now) place)) }
-        ensures { Some result ≡ slice_get (points_of (chain_at (county self.now) place)) point }
+    /// A point of the chain at a place (record types 1 and 2). Point 0 is at the start node.
+    final fn point_at(&self, place: usize, point: usize) -> Option<Point>
+        ensures { result ≡ slice_get (points_of (chain_at (county self.now) place)) point }
     {
-        self.point_at(place, point).unwrap()
+        (point < self.point_count_at(place)).then(|| self.point_there(place, point))
     }
 
-    /// The FEAT of a further name (record type 4) of the chain at a place. `name` must be less than the number of its further
-    /// names.
-    final fn chain_feat_there(&self, place: usize, name: usize) -> u32
-        requires { name < length (feats_of (chain_at (county self.now) place)) }
-        ensures { Some result ≡ slice_get (feats_of (chain_at (county self.now) place)) name }
+    /// The FEAT of a further name (record type 4) of the chain at a place.
+    final fn chain_feat_at(&self, place: usize, name: usize) -> Option<u32>
+        ensures { result ≡ slice_get (feats_of (chain_at (county self.now) place)) name }
     {
-        self.chain_feat_at(place, name).unwrap()
+        (name < self.feat_count_at(place)).then(|| self.chain_feat_there(place, name))
     }
 
-    /// A further address range (record type 6) of the chain at a place. `range` must be less than the number of its further ranges.
-    final fn range_there(&self, place: usize, range: usize) -> Ranges
-        requires { range < length (ranges_of (chain_at (county self.now) place)) }
-        ensures { Some result ≡ slice_get (ranges_of (chain_at (county self.now) place)) range }
+    /// A further address range (record type 6) of the chain at a place.
+    final fn range_at(&self, place: usize, range: usize) -> Option<Ranges>
+        ensures { result ≡ slice_get (ranges_of (chain_at (county self.now) place)) range }
     {
-        self.range_at(place, range).unwrap()
+        (range < self.range_count_at(place)).then(|| self.range_there(place, range))
     }
 
-    /// The content of the name at a place (record type 5), which must be less than the number of names.
-    final fn name_body_there(&self, place: usize) -> Body5
-        requires { place < length (county self.now).names }
-        ensures { Some result ≡ name_at (county self.now) place }
+    /// The content of the name at a place (record type 5).
+    final fn name_body_at(&self, place: usize) -> Option<Body5>
+        ensures { result ≡ name_at (county self.now) place }
     {
-        self.name_body_at(place).unwrap()
+        (place < self.name_count()).then(|| self.name_body_there(place))
     }
 
-    /// The content of the type P record of the polygon at a place, or none if the polygon has no such record. The place must be
-    /// less than the number of polygons.
-    final fn polygon_body_there(&self, place: usize) -> Option<BodyP>
-        requires { place < length (county self.now).polygons }
-        ensures { Some result ≡ polygon_at (county self.now) place }
+    /// The content of the type P record of the polygon at a place, or none if the polygon has no such record.
+    final fn polygon_body_at(&self, place: usize) -> Option<Option<BodyP>>
+        ensures { result ≡ polygon_at (county self.now) place }
     {
-        self.polygon_body_at(place).unwrap()
+        (place < self.polygon_count()).then(|| self.polygon_body_there(place))
     }
 
-    /// The content of a type 7 record of the landmark at a place. `body` must be less than the number of its type 7 records.
-    final fn landmark_body_there(&self, place: usize, body: usize) -> Body7
-        requires { body < length (bodies_at (county self.now) place) }
-        ensures { Some result ≡ slice_get (bodies_at (county self.now) place) body }
+    /// The content of a type 7 record of the landmark at a place.
+    final fn landmark_body_at(&self, place: usize, body: usize) -> Option<Body7>
+        ensures { result ≡ slice_get (bodies_at (county self.now) place) body }
     {
-        self.landmark_body_at(place, body).unwrap()
+        (body < self.body_count_at(place)).then(|| self.landmark_body_there(place, body))
     }
 
-    /// A type 8 record of the landmark at a place. `link` must be less than the number of its type 8 records.
-    final fn landmark_link_there(&self, place: usize, link: usize) -> Rec8
-        requires { link < length (links_at (county self.now) place) }
-        ensures { Some result ≡ slice_get (links_at (county self.now) place) link }
+    /// A type 8 record of the landmark at a place.
+    final fn landmark_link_at(&self, place: usize, link: usize) -> Option<Rec8>
+        ensures { result ≡ slice_get (links_at (county self.now) place) link }
     {
-        self.landmark_link_at(place, link).unwrap()
+        (link < self.link_count_at(place)).then(|| self.landmark_link_there(place, link))
     }
 
     /// The place of the chain with this TLID, or the number of chains if no chain has it.

@@ -26,19 +26,15 @@ impl Same for DirectedChain {
 /// What a county has of the chain, as read in its direction. There is nothing past the county's last chain.
 impl DirectedChain {
     /// The content of its type 1 record.
-    pub fn body<C: Chart>(self, chart: &C) -> Option<Body1>
-        ensures { result ≡ option_map (λ c. c.body) (directed_chain (C.county chart.now) self) }
+    pub fn body<C: Chart>(self, chart: &C) -> Body1
+        requires { self.place < length (C.county chart.now).chains }
+        ensures { Some result ≡ option_map (λ c. c.body) (directed_chain (C.county chart.now) self) }
     {
-        match chart.chain_body_at(self.place as usize) {
-            Some(body) => {
-                let mut body = body;
-                if self.turned {
-                    body.turn();
-                }
-                Some(body)
-            }
-            None => None,
+        let mut body = chart.chain_body_there(self.place as usize);
+        if self.turned {
+            body.turn();
         }
+        body
     }
 
     /// Writes the content of its type 1 record into columns 16 to 190 of a line, as read in its direction, or against it if
@@ -54,10 +50,11 @@ impl DirectedChain {
     }
 
     /// The content of its type I record.
-    pub fn topology<C: Chart>(self, chart: &C) -> Option<BodyI>
-        ensures { result ≡ option_map (λ c. c.topology) (directed_chain (C.county chart.now) self) }
+    pub fn topology<C: Chart>(self, chart: &C) -> BodyI
+        requires { self.place < length (C.county chart.now).chains }
+        ensures { Some result ≡ option_map (λ c. c.topology) (directed_chain (C.county chart.now) self) }
     {
-        chart.topology_at(self.place as usize)
+        chart.topology_there(self.place as usize)
     }
 
     /// The node where it starts (record type I, TZIDS, or TZIDE if it's turned).

@@ -58,20 +58,18 @@ impl<C: Chart + Drop> Masked<C> {
 }
 
 /// The county of the chart that it was made from, under the mask.
+#[tactic(auto, using(crate::proofs::Masks::MaskedReads::masked_reads))]
 impl<C: Chart> Chart for Masked<C> {
     ghost county = { λ m. masked m.mask (C.county m.chart) };
 
-    #[tactic(auto, using(crate::proofs::Masks::MaskedReads::chain_count_masked))]
     fn chain_count(&self) -> usize {
         self.chart.chain_count()
     }
 
-    #[tactic(auto, using(crate::specs::Laws::MaskedCounties::tlids_masked))]
-    fn tlid_at(&self, place: usize) -> Option<u64> {
-        self.chart.tlid_at(place)
+    fn tlid_there(&self, place: usize) -> u64 {
+        self.chart.tlid_there(place)
     }
 
-    #[tactic(auto, using(crate::specs::Laws::MaskedCounties::tlids_masked))]
     fn chain_place(&self, tlid: u64) -> Option<usize> {
         self.chart.chain_place(tlid)
     }
@@ -80,8 +78,8 @@ impl<C: Chart> Chart for Masked<C> {
         self.chart.name_count()
     }
 
-    fn feat_at(&self, place: usize) -> Option<u32> {
-        self.chart.feat_at(place)
+    fn feat_there(&self, place: usize) -> u32 {
+        self.chart.feat_there(place)
     }
 
     fn name_place(&self, feat: u32) -> Option<usize> {
@@ -92,144 +90,108 @@ impl<C: Chart> Chart for Masked<C> {
         self.chart.polygon_count()
     }
 
-    fn polygon_key_at(&self, place: usize) -> Option<PolygonKey> {
-        self.chart.polygon_key_at(place)
+    fn polygon_key_there(&self, place: usize) -> PolygonKey {
+        self.chart.polygon_key_there(place)
     }
 
     fn polygon_place(&self, key: PolygonKey) -> Option<usize> {
         self.chart.polygon_place(key)
     }
 
-    #[tactic(auto, using(crate::proofs::Masks::MaskedReads::landmark_count_masked))]
     fn landmark_count(&self) -> usize {
         self.chart.landmark_count()
     }
 
-    #[tactic(auto, using(crate::specs::Laws::MaskedCounties::lands_masked))]
-    fn land_at(&self, place: usize) -> Option<u64> {
-        self.chart.land_at(place)
+    fn land_there(&self, place: usize) -> u64 {
+        self.chart.land_there(place)
     }
 
-    #[tactic(auto, using(crate::specs::Laws::MaskedCounties::lands_masked))]
     fn landmark_place(&self, land: u64) -> Option<usize> {
         self.chart.landmark_place(land)
     }
 
-    #[tactic(auto, using(crate::specs::Laws::MaskedCounties::nodes_masked))]
     fn node_count(&self) -> usize {
         self.chart.node_count()
     }
 
-    #[tactic(auto, using(crate::specs::Laws::MaskedCounties::nodes_masked))]
-    fn node_at(&self, place: usize) -> Option<u64> {
-        self.chart.node_at(place)
+    fn node_there(&self, place: usize) -> u64 {
+        self.chart.node_there(place)
     }
 
-    #[tactic(auto, using(crate::specs::Laws::MaskedCounties::nodes_masked))]
     fn node_place(&self, node: u64) -> Option<usize> {
         self.chart.node_place(node)
     }
 
-    #[tactic(auto, using(crate::proofs::Masks::MaskedReads::body_masked))]
-    fn chain_body_at(&self, place: usize) -> Option<Body1> {
-        match self.chart.chain_body_at(place) {
-            Some(body) => Some(content_masked(body, self.mask)),
-            None => None,
-        }
+    fn chain_body_there(&self, place: usize) -> Body1 {
+        content_masked(self.chart.chain_body_there(place), self.mask)
     }
 
     fn chain_byte(&self, place: usize) -> u8 {
         self.chart.chain_byte(place)
     }
 
-    #[tactic(auto, using(crate::proofs::Masks::MaskedReads::points_masked))]
     fn point_count_at(&self, place: usize) -> usize {
         self.chart.point_count_at(place)
     }
 
-    #[tactic(auto, using(crate::proofs::Masks::MaskedReads::points_masked))]
-    fn point_at(&self, place: usize, point: usize) -> Option<Point> {
-        self.chart.point_at(place, point)
+    fn point_there(&self, place: usize, point: usize) -> Point {
+        self.chart.point_there(place, point)
     }
 
-    #[tactic(auto, using(crate::proofs::Masks::MaskedReads::feats_masked))]
     fn feat_count_at(&self, place: usize) -> usize {
         self.chart.feat_count_at(place)
     }
 
-    #[tactic(auto, using(crate::proofs::Masks::MaskedReads::feats_masked))]
-    fn chain_feat_at(&self, place: usize, name: usize) -> Option<u32> {
-        self.chart.chain_feat_at(place, name)
+    fn chain_feat_there(&self, place: usize, name: usize) -> u32 {
+        self.chart.chain_feat_there(place, name)
     }
 
-    #[tactic(auto, using(crate::proofs::Masks::MaskedReads::ranges_masked))]
     fn range_count_at(&self, place: usize) -> usize {
         self.chart.range_count_at(place)
     }
 
-    #[tactic(auto, using(crate::proofs::Masks::MaskedReads::ranges_masked))]
-    fn range_at(&self, place: usize, range: usize) -> Option<Ranges> {
-        self.chart.range_at(place, range)
+    fn range_there(&self, place: usize, range: usize) -> Ranges {
+        self.chart.range_there(place, range)
     }
 
-    #[tactic(auto, using(crate::proofs::Masks::MaskedReads::topology_masked))]
-    fn topology_at(&self, place: usize) -> Option<BodyI> {
-        match self.chart.topology_at(place) {
-            Some(link) => Some(content_masked(link, self.mask)),
-            None => None,
-        }
+    fn topology_there(&self, place: usize) -> BodyI {
+        content_masked(self.chart.topology_there(place), self.mask)
     }
 
-    #[tactic(auto, using(crate::proofs::Masks::MaskedReads::start_node_masked))]
-    fn start_node_at(&self, place: usize) -> Option<Option<u64>> {
-        self.chart.start_node_at(place)
+    fn ends_there(&self, place: usize) -> (Option<u64>, Option<u64>) {
+        self.chart.ends_there(place)
     }
 
-    #[tactic(auto, using(crate::proofs::Masks::MaskedReads::end_node_masked))]
-    fn end_node_at(&self, place: usize) -> Option<Option<u64>> {
-        self.chart.end_node_at(place)
+    fn sides_there(&self, place: usize) -> (Side, Side) {
+        self.chart.sides_there(place)
     }
 
-    #[tactic(auto, using(crate::proofs::Masks::MaskedReads::left_masked))]
-    fn left_at(&self, place: usize) -> Option<Side> {
-        self.chart.left_at(place)
+    fn name_body_there(&self, place: usize) -> Body5 {
+        self.chart.name_body_there(place)
     }
 
-    #[tactic(auto, using(crate::proofs::Masks::MaskedReads::right_masked))]
-    fn right_at(&self, place: usize) -> Option<Side> {
-        self.chart.right_at(place)
+    fn polygon_body_there(&self, place: usize) -> Option<BodyP> {
+        self.chart.polygon_body_there(place)
     }
 
-    fn name_body_at(&self, place: usize) -> Option<Body5> {
-        self.chart.name_body_at(place)
-    }
-
-    fn polygon_body_at(&self, place: usize) -> Option<Option<BodyP>> {
-        self.chart.polygon_body_at(place)
-    }
-
-    #[tactic(auto, using(crate::proofs::Masks::MaskedReads::body_count_masked))]
     fn body_count_at(&self, place: usize) -> usize {
         self.chart.body_count_at(place)
     }
 
-    #[tactic(auto, using(crate::proofs::Masks::MaskedReads::bodies_unmasked))]
-    fn landmark_body_at(&self, place: usize, body: usize) -> Option<Body7> {
+    fn landmark_body_there(&self, place: usize, body: usize) -> Body7 {
         if self.mask.sources {
-            self.bodies.at(place).get(body).copied()
+            self.bodies.at(place)[body]
         } else {
-            self.chart.landmark_body_at(place, body)
+            self.chart.landmark_body_there(place, body)
         }
     }
 
-    #[tactic(auto, using(crate::proofs::Masks::MaskedReads::links_masked))]
     fn link_count_at(&self, place: usize) -> usize {
         self.chart.link_count_at(place)
     }
 
-    #[tactic(auto, using(crate::proofs::Masks::MaskedReads::links_masked))]
-    fn landmark_link_at(&self, place: usize, link: usize) -> Option<Rec8> {
-        self.chart.landmark_link_at(place, link)
+    fn landmark_link_there(&self, place: usize, link: usize) -> Rec8 {
+        self.chart.landmark_link_there(place, link)
     }
 
     ghost is_county = { λ m. masked_is_county m.mask (C.county m.chart) (C.is_county m.chart) };

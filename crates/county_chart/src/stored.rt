@@ -1,6 +1,6 @@
 //! A county: chains, names, polygons and landmarks under their numbers, in each of the ways to store them.
 
-ghost use Rattle.std.specs.Prelude.{[], option_map, unwrap_or, ◌≡◌};
+ghost use Rattle.std.specs.Prelude.{[], Some, length, option_map, unwrap_or, ◌<◌, ◌≡◌};
 ghost use Rattle.std.specs.{Option.option_and_then, Option.option_copied, Ordering.nat_cmp};
 ghost use Rattle.county_chart.specs.CountyRules.{IsCounty, feats, lands, nodes as nodes_in_order, polygon_keys, tlids};
 ghost use Rattle.county_chart.specs.{ChartWords.bodies_at, CountyProps.IsCounty-prop, Limits.IsWithinLimits, StoredCounty.county_with};
@@ -125,6 +125,14 @@ impl<C: StoredChain, N: StoredName, L: StoredLandmark> StoredCounty<C, N, L> {
         ensures { option_map C.chain (option_copied result) ≡ chain_at (⟦<StoredCounty<C, N, L> as Chart>⟧.county self.now) place }
     {
         self.chains.value_at(place)
+    }
+
+    /// The chain at a place, which must be less than the number of chains.
+    pub(crate) fn chain_there(&self, place: usize) -> &C
+        requires { place < length (⟦<StoredCounty<C, N, L> as Chart>⟧.county self.now).chains }
+        ensures { Some (C.chain result.now) ≡ chain_at (⟦<StoredCounty<C, N, L> as Chart>⟧.county self.now) place }
+    {
+        self.chains.value_there(place)
     }
 
     /// The contents of the landmark at a place, or an empty list after the last one.

@@ -286,25 +286,18 @@ impl<C: Chart> RecordGroups for TopologyRecords<'_, C> {
     }
 
     fn record(&self, group: usize, _head: u8, _place: usize) -> RecI {
-        RecI::new(
-            chain_tlid(self.chart, group),
-            self.chart.topology_there(group),
-            self.chart.start_node_there(group),
-            self.chart.end_node_there(group),
-            self.chart.left_there(group),
-            self.chart.right_there(group),
-        )
+        let tlid = chain_tlid(self.chart, group);
+        let body = self.chart.topology_there(group);
+        let (start, end) = self.chart.ends_there(group);
+        let (left, right) = self.chart.sides_there(group);
+        RecI::new(tlid, body, start, end, left, right)
     }
 
     fn put(&self, group: usize, _head: u8, _place: usize, out: &mut [u8]) {
-        RecI::put_fields(
-            chain_tlid(self.chart, group),
-            &self.chart.topology_there(group),
-            self.chart.start_node_there(group),
-            self.chart.end_node_there(group),
-            &self.chart.left_there(group),
-            &self.chart.right_there(group),
-            out,
-        );
+        let tlid = chain_tlid(self.chart, group);
+        let body = self.chart.topology_there(group);
+        let (start, end) = self.chart.ends_there(group);
+        let (left, right) = self.chart.sides_there(group);
+        RecI::put_fields(tlid, &body, start, end, &left, &right, out);
     }
 }

@@ -23,7 +23,7 @@ fn record_of_directed<C: Chart>(chart: &C, directed: DirectedChain, place: usize
 {
     let points = directed.points(chart);
     let last = points.count() - 1;
-    let body = directed.body(chart).unwrap();
+    let body = directed.body(chart);
     Rec1::new(place as u64 + 1, body, points.item(0), points.item(last))
 }
 

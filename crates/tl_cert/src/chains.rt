@@ -1,6 +1,6 @@
 //! Whether a county has the chains of another under their new numbers, turned where the renaming turns them.
 
-ghost use Rattle.std.specs.Prelude.{map, option_map, ◌≡◌};
+ghost use Rattle.std.specs.Prelude.{length, map, option_map, ◌<◌, ◌≡◌};
 ghost use Rattle.std.specs.{Bool.Decides, Ordering.nat_cmp};
 ghost use Rattle.tl_cert.specs.PartsThere.{chain_carried};
 ghost use Rattle.county_chart.specs.SameParts.{HaveSameContent, HaveSameEnds, HaveSameLists};
@@ -100,14 +100,16 @@ pub(crate) struct Chains<'a, A, B> {
 impl<'a, A: Chart, B: Chart> Chains<'a, A, B> {
     /// Whether it has the content of the chain's records of types 1 and I.
     fn has_same_content(&self, directed: DirectedChain, other: usize) -> bool
+        requires { directed.place < length (A.county self.now.a.now).chains }
         ensures { Decides result (HaveSameContent (chain_at (B.county self.now.b.now) other)
             (chain_carried self.now.tables.now (A.county self.now.a.now) directed)) }
     {
-        let body = self.b.chain_body_at(other).is_same(directed.body(self.a));
-        if !body {
+        let body = Some(directed.body(self.a));
+        if !self.b.chain_body_at(other).is_same(body) {
             return false;
         }
-        self.b.topology_at(other).is_same(directed.topology(self.a))
+        let topology = Some(directed.topology(self.a));
+        self.b.topology_at(other).is_same(topology)
     }
 
     /// Whether it has the chain's nodes and sides under their new numbers.
@@ -176,6 +178,7 @@ impl<'a, A: Chart, B: Chart> Chains<'a, A, B> {
 
     /// Whether it is the chain under its new numbers.
     fn is_same_chain(&self, directed: DirectedChain, other: usize) -> bool
+        requires { directed.place < length (A.county self.now.a.now).chains }
         ensures { Decides result (chain_at (B.county self.now.b.now) other ≡ chain_carried self.now.tables.now (A.county self.now.a.now) directed) }
     {
         let content = self.has_same_content(directed, other);

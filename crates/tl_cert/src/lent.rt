@@ -28,8 +28,8 @@ impl<'a, C: Chart> Chart for Lent<'a, C> {
         self.chart.chain_count()
     }
 
-    fn tlid_at(&self, place: usize) -> Option<u64> {
-        self.chart.tlid_at(place)
+    fn tlid_there(&self, place: usize) -> u64 {
+        self.chart.tlid_there(place)
     }
 
     fn chain_place(&self, tlid: u64) -> Option<usize> {
@@ -40,8 +40,8 @@ impl<'a, C: Chart> Chart for Lent<'a, C> {
         self.chart.name_count()
     }
 
-    fn feat_at(&self, place: usize) -> Option<u32> {
-        self.chart.feat_at(place)
+    fn feat_there(&self, place: usize) -> u32 {
+        self.chart.feat_there(place)
     }
 
     fn name_place(&self, feat: u32) -> Option<usize> {
@@ -52,8 +52,8 @@ impl<'a, C: Chart> Chart for Lent<'a, C> {
         self.chart.polygon_count()
     }
 
-    fn polygon_key_at(&self, place: usize) -> Option<PolygonKey> {
-        self.chart.polygon_key_at(place)
+    fn polygon_key_there(&self, place: usize) -> PolygonKey {
+        self.chart.polygon_key_there(place)
     }
 
     fn polygon_place(&self, key: PolygonKey) -> Option<usize> {
@@ -64,8 +64,8 @@ impl<'a, C: Chart> Chart for Lent<'a, C> {
         self.chart.landmark_count()
     }
 
-    fn land_at(&self, place: usize) -> Option<u64> {
-        self.chart.land_at(place)
+    fn land_there(&self, place: usize) -> u64 {
+        self.chart.land_there(place)
     }
 
     fn landmark_place(&self, land: u64) -> Option<usize> {
@@ -76,84 +76,76 @@ impl<'a, C: Chart> Chart for Lent<'a, C> {
         self.chart.node_count()
     }
 
-    fn node_at(&self, place: usize) -> Option<u64> {
-        self.chart.node_at(place)
+    fn node_there(&self, place: usize) -> u64 {
+        self.chart.node_there(place)
     }
 
     fn node_place(&self, node: u64) -> Option<usize> {
         self.chart.node_place(node)
     }
 
-    fn chain_body_at(&self, place: usize) -> Option<Body1> {
-        self.chart.chain_body_at(place)
+    fn chain_body_there(&self, place: usize) -> Body1 {
+        self.chart.chain_body_there(place)
     }
 
     fn point_count_at(&self, place: usize) -> usize {
         self.chart.point_count_at(place)
     }
 
-    fn point_at(&self, place: usize, point: usize) -> Option<Point> {
-        self.chart.point_at(place, point)
+    fn point_there(&self, place: usize, point: usize) -> Point {
+        self.chart.point_there(place, point)
     }
 
     fn feat_count_at(&self, place: usize) -> usize {
         self.chart.feat_count_at(place)
     }
 
-    fn chain_feat_at(&self, place: usize, name: usize) -> Option<u32> {
-        self.chart.chain_feat_at(place, name)
+    fn chain_feat_there(&self, place: usize, name: usize) -> u32 {
+        self.chart.chain_feat_there(place, name)
     }
 
     fn range_count_at(&self, place: usize) -> usize {
         self.chart.range_count_at(place)
     }
 
-    fn range_at(&self, place: usize, range: usize) -> Option<Ranges> {
-        self.chart.range_at(place, range)
+    fn range_there(&self, place: usize, range: usize) -> Ranges {
+        self.chart.range_there(place, range)
     }
 
-    fn topology_at(&self, place: usize) -> Option<BodyI> {
-        self.chart.topology_at(place)
+    fn topology_there(&self, place: usize) -> BodyI {
+        self.chart.topology_there(place)
     }
 
-    fn start_node_at(&self, place: usize) -> Option<Option<u64>> {
-        self.chart.start_node_at(place)
+    fn ends_there(&self, place: usize) -> (Option<u64>, Option<u64>) {
+        self.chart.ends_there(place)
     }
 
-    fn end_node_at(&self, place: usize) -> Option<Option<u64>> {
-        self.chart.end_node_at(place)
+    fn sides_there(&self, place: usize) -> (Side, Side) {
+        self.chart.sides_there(place)
     }
 
-    fn left_at(&self, place: usize) -> Option<Side> {
-        self.chart.left_at(place)
+    fn name_body_there(&self, place: usize) -> Body5 {
+        self.chart.name_body_there(place)
     }
 
-    fn right_at(&self, place: usize) -> Option<Side> {
-        self.chart.right_at(place)
-    }
-
-    fn name_body_at(&self, place: usize) -> Option<Body5> {
-        self.chart.name_body_at(place)
-    }
-
-    fn polygon_body_at(&self, place: usize) -> Option<Option<BodyP>> {
-        self.chart.polygon_body_at(place)
+    fn polygon_body_there(&self, place: usize) -> Option<BodyP> {
+        self.chart.polygon_body_there(place)
     }
 
     fn body_count_at(&self, place: usize) -> usize {
         self.chart.body_count_at(place)
     }
 
-    fn landmark_body_at(&self, place: usize, body: usize) -> Option<Body7> {
-        self.chart.landmark_body_at(place, body)
+    fn landmark_body_there(&self, place: usize, body: usize) -> Body7 {
+        self.chart.landmark_body_there(place, body)
     }
 
     fn link_count_at(&self, place: usize) -> usize {
         self.chart.link_count_at(place)
     }
 
-    fn landmark_link_at(&self, place: usize, link: usize) -> Option<Rec8> {
-        self.chart.landmark_link_at(place, link)
+    fn landmark_link_there(&self, place: usize, link: usize) -> Rec8 {
+        self.chart.landmark_link_there(place, link)
     }
 
     ghost is_county = { λ lent. C.is_county lent.chart.now };

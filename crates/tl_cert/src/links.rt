@@ -33,7 +33,7 @@ impl<'a, C: Chart> Listed for LandmarkLinks<'a, C> {
     }
 
     fn item(&self, place: usize) -> Rec8 {
-        self.chart.landmark_link_at(self.place, place).unwrap()
+        self.chart.landmark_link_there(self.place, place)
     }
 }
 

@@ -1,6 +1,6 @@
 //! A part of a county as a chart. Nothing is copied: each call finds the place in the whole county, and reads it there.
 
-ghost use Rattle.std.specs.Prelude.{cond, get_or, slice_get, ◌≡◌};
+ghost use Rattle.std.specs.Prelude.{cond, get_or, length, slice_get, ◌<◌, ◌≡◌};
 ghost use Rattle.county_chart.specs.ChartWords.{bodies_at, chain_at, links_at, name_at, polygon_at};
 ghost use Rattle.county_chart.specs.CountyRules.{IsCounty, feats, lands, nodes, polygon_keys, tlids};
 ghost use Rattle.county_chart.specs.Limits.{IsWithinLimits, most_records};
@@ -68,21 +68,24 @@ impl<'a, C: Chart> CountyPart<'a, C> {
 
     /// The place of a chain in the whole county.
     fn chain(&self, place: usize) -> usize
-        ensures { chain_at (C.county self.now.chart.now) result ≡ chain_at (part_with (C.county self.now.chart.now) self.now.tables.now) place }
+        ensures chain { chain_at (C.county self.now.chart.now) result ≡ chain_at (part_with (C.county self.now.chart.now) self.now.tables.now) place }
+        ensures there { place < length (part_with (C.county self.now.chart.now) self.now.tables.now).chains → result < length (C.county self.now.chart.now).chains }
     {
         place_there(&self.tables.chains.places, place, self.chart.chain_count())
     }
 
     /// The place of a name in the whole county.
     fn name(&self, place: usize) -> usize
-        ensures { name_at (C.county self.now.chart.now) result ≡ name_at (part_with (C.county self.now.chart.now) self.now.tables.now) place }
+        ensures name { name_at (C.county self.now.chart.now) result ≡ name_at (part_with (C.county self.now.chart.now) self.now.tables.now) place }
+        ensures there { place < length (part_with (C.county self.now.chart.now) self.now.tables.now).names → result < length (C.county self.now.chart.now).names }
     {
         place_there(&self.tables.names.places, place, self.chart.name_count())
     }
 
     /// The place of a polygon in the whole county.
     fn polygon(&self, place: usize) -> usize
-        ensures { polygon_at (C.county self.now.chart.now) result ≡ polygon_at (part_with (C.county self.now.chart.now) self.now.tables.now) place }
+        ensures polygon { polygon_at (C.county self.now.chart.now) result ≡ polygon_at (part_with (C.county self.now.chart.now) self.now.tables.now) place }
+        ensures there { place < length (part_with (C.county self.now.chart.now) self.now.tables.now).polygons → result < length (C.county self.now.chart.now).polygons }
     {
         place_there(
             &self.tables.polygons.places,
@@ -93,6 +96,7 @@ impl<'a, C: Chart> CountyPart<'a, C> {
 
     /// The place of a landmark in the whole county.
     fn landmark(&self, place: usize) -> usize
+        ensures there { place < length (part_with (C.county self.now.chart.now) self.now.tables.now).landmarks → result < length (C.county self.now.chart.now).landmarks }
         ensures land { slice_get (lands (C.county self.now.chart.now)) result
             ≡ slice_get (lands (part_with (C.county self.now.chart.now) self.now.tables.now)) place }
         ensures bodies { bodies_at (C.county self.now.chart.now) result ≡ bodies_at (part_with (C.county self.now.chart.now) self.now.tables.now) place }
@@ -120,8 +124,8 @@ impl<'a, C: Chart> Chart for CountyPart<'a, C> {
         self.tables.chains.keys.len()
     }
 
-    fn tlid_at(&self, place: usize) -> Option<u64> {
-        self.tables.chains.keys.as_slice().get(place).copied()
+    fn tlid_there(&self, place: usize) -> u64 {
+        self.tables.chains.keys[place]
     }
 
     fn chain_place(&self, tlid: u64) -> Option<usize> {
@@ -132,8 +136,8 @@ impl<'a, C: Chart> Chart for CountyPart<'a, C> {
         self.tables.names.keys.len()
     }
 
-    fn feat_at(&self, place: usize) -> Option<u32> {
-        self.tables.names.keys.as_slice().get(place).copied()
+    fn feat_there(&self, place: usize) -> u32 {
+        self.tables.names.keys[place]
     }
 
     fn name_place(&self, feat: u32) -> Option<usize> {
@@ -144,8 +148,8 @@ impl<'a, C: Chart> Chart for CountyPart<'a, C> {
         self.tables.polygons.keys.len()
     }
 
-    fn polygon_key_at(&self, place: usize) -> Option<PolygonKey> {
-        self.tables.polygons.keys.as_slice().get(place).copied()
+    fn polygon_key_there(&self, place: usize) -> PolygonKey {
+        self.tables.polygons.keys[place]
     }
 
     fn polygon_place(&self, key: PolygonKey) -> Option<usize> {
@@ -156,8 +160,8 @@ impl<'a, C: Chart> Chart for CountyPart<'a, C> {
         if_linked(self.tables.kept.linked, self.chart.landmark_count(), 0)
     }
 
-    fn land_at(&self, place: usize) -> Option<u64> {
-        self.chart.land_at(self.landmark(place))
+    fn land_there(&self, place: usize) -> u64 {
+        self.chart.land_there(self.landmark(place))
     }
 
     fn landmark_place(&self, land: u64) -> Option<usize> {
@@ -172,84 +176,76 @@ impl<'a, C: Chart> Chart for CountyPart<'a, C> {
         self.tables.nodes.len()
     }
 
-    fn node_at(&self, place: usize) -> Option<u64> {
-        self.tables.nodes.as_slice().get(place).copied()
+    fn node_there(&self, place: usize) -> u64 {
+        self.tables.nodes[place]
     }
 
     fn node_place(&self, node: u64) -> Option<usize> {
         place_of(self.tables.nodes.as_slice(), node)
     }
 
-    fn chain_body_at(&self, place: usize) -> Option<Body1> {
-        self.chart.chain_body_at(self.chain(place))
+    fn chain_body_there(&self, place: usize) -> Body1 {
+        self.chart.chain_body_there(self.chain(place))
     }
 
     fn point_count_at(&self, place: usize) -> usize {
         self.chart.point_count_at(self.chain(place))
     }
 
-    fn point_at(&self, place: usize, point: usize) -> Option<Point> {
-        self.chart.point_at(self.chain(place), point)
+    fn point_there(&self, place: usize, point: usize) -> Point {
+        self.chart.point_there(self.chain(place), point)
     }
 
     fn feat_count_at(&self, place: usize) -> usize {
         self.chart.feat_count_at(self.chain(place))
     }
 
-    fn chain_feat_at(&self, place: usize, name: usize) -> Option<u32> {
-        self.chart.chain_feat_at(self.chain(place), name)
+    fn chain_feat_there(&self, place: usize, name: usize) -> u32 {
+        self.chart.chain_feat_there(self.chain(place), name)
     }
 
     fn range_count_at(&self, place: usize) -> usize {
         self.chart.range_count_at(self.chain(place))
     }
 
-    fn range_at(&self, place: usize, range: usize) -> Option<Ranges> {
-        self.chart.range_at(self.chain(place), range)
+    fn range_there(&self, place: usize, range: usize) -> Ranges {
+        self.chart.range_there(self.chain(place), range)
     }
 
-    fn topology_at(&self, place: usize) -> Option<BodyI> {
-        self.chart.topology_at(self.chain(place))
+    fn topology_there(&self, place: usize) -> BodyI {
+        self.chart.topology_there(self.chain(place))
     }
 
-    fn start_node_at(&self, place: usize) -> Option<Option<u64>> {
-        self.chart.start_node_at(self.chain(place))
+    fn ends_there(&self, place: usize) -> (Option<u64>, Option<u64>) {
+        self.chart.ends_there(self.chain(place))
     }
 
-    fn end_node_at(&self, place: usize) -> Option<Option<u64>> {
-        self.chart.end_node_at(self.chain(place))
+    fn sides_there(&self, place: usize) -> (Side, Side) {
+        self.chart.sides_there(self.chain(place))
     }
 
-    fn left_at(&self, place: usize) -> Option<Side> {
-        self.chart.left_at(self.chain(place))
+    fn name_body_there(&self, place: usize) -> Body5 {
+        self.chart.name_body_there(self.name(place))
     }
 
-    fn right_at(&self, place: usize) -> Option<Side> {
-        self.chart.right_at(self.chain(place))
-    }
-
-    fn name_body_at(&self, place: usize) -> Option<Body5> {
-        self.chart.name_body_at(self.name(place))
-    }
-
-    fn polygon_body_at(&self, place: usize) -> Option<Option<BodyP>> {
-        self.chart.polygon_body_at(self.polygon(place))
+    fn polygon_body_there(&self, place: usize) -> Option<BodyP> {
+        self.chart.polygon_body_there(self.polygon(place))
     }
 
     fn body_count_at(&self, place: usize) -> usize {
         self.chart.body_count_at(self.landmark(place))
     }
 
-    fn landmark_body_at(&self, place: usize, body: usize) -> Option<Body7> {
-        self.chart.landmark_body_at(self.landmark(place), body)
+    fn landmark_body_there(&self, place: usize, body: usize) -> Body7 {
+        self.chart.landmark_body_there(self.landmark(place), body)
     }
 
     fn link_count_at(&self, place: usize) -> usize {
         self.chart.link_count_at(self.landmark(place))
     }
 
-    fn landmark_link_at(&self, place: usize, link: usize) -> Option<Rec8> {
-        self.chart.landmark_link_at(self.landmark(place), link)
+    fn landmark_link_there(&self, place: usize, link: usize) -> Rec8 {
+        self.chart.landmark_link_there(self.landmark(place), link)
     }
 
     ghost is_county = { λ part. part.is_county };

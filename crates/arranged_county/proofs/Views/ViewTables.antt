@@ -11,6 +11,7 @@ use Rattle.arranged_county.proofs.Common.{None, Some, ap, map, on, suc, sym, ℕ
 use Rattle.canonical_form.proofs.Common.{carried_landmark, carried_name, nodes, nodes_along}
 use Rattle.canonical_form.proofs.Arrangements.Carrying.{feats_arranged, landmarks_arranged, lands_arranged, names_arranged, names_renamed}
 use Rattle.canonical_form.proofs.Arrangements.Carrying.{node_rights, nodes_renamed, paired_nodes, polygons_renamed}
+use Rattle.arranged_county.proofs.Common.{slice_get_within, zero, ◌<◌}
 use Rattle.std.specs.List.Sorted.{IsStrictlySortedBy}
 
 -- a strictly ascending list is in order
@@ -28,6 +29,15 @@ by_land = in_order-weaker link_cmp (on eight_land nat_cmp) (λ l m. then-first (
 pub read_at : {X : Type 0} (xs ys : List X) (places : List ℕ) → AreReadAt xs places ys → (i p : ℕ) → Some p ≡ slice_get places i
     → slice_get xs p ≡ slice_get ys i
 read_at xs ys places e i p h = let y = read_there (slice_get xs) places ys e i p (sym h) in y.2 ∙ sym y.1
+
+pub read_within : {X : Type 0} (xs ys : List X) (places : List ℕ) → AreReadAt xs places ys → (i p : ℕ) → Some p ≡ slice_get places i → p < length xs
+read_within xs ys places e i p h = let y = read_there (slice_get xs) places ys e i p (sym h) in slice_get_within xs p y.0 y.2
+
+-- a place of an element of a list in a list of lists
+listed_within : {X : Type 0} (xs : List (List X)) (i k : ℕ) → k < length (unwrap_or (slice_get xs i) []) → i < length xs
+listed_within [] i k h = absurd (omega (arith, h))
+listed_within (x ∷ xs) zero k h = omega arith
+listed_within (x ∷ xs) (suc i) k h = omega (arith, listed_within xs i k h)
 
 pub read_past : {X : Type 0} (xs ys : List X) (places : List ℕ) → AreReadAt xs places ys → (i : ℕ) → None ≡ slice_get places i
     → None ≡ slice_get ys i
@@ -90,9 +100,11 @@ module _ (county : County) (arrangement : List DirectedChain) (is : IsCounty cou
     name_there i p h = value_at county.names (names_in_order county order) tables.places.items stated.names i p h
         ∙ ap (λ vs. slice_get vs i) (sym name_values)
 
-    pub name_missing : (i : ℕ) → None ≡ slice_get tables.places.items i → None ≡ slice_get (entry_values (arranged_by county arrangement).names) i
-    name_missing i h = value_past county.names (names_in_order county order) tables.places.items stated.names i h
-        ∙ ap (λ vs. slice_get vs i) (sym name_values)
+    pub name_within : (i p : ℕ) → Some p ≡ slice_get tables.places.items i → p < length county.names
+    name_within = read_within county.names (names_in_order county order) tables.places.items stated.names
+
+    pub names_read : length (arranged_by county arrangement).names ≡ length tables.places.items
+    names_read = names_arranged_by ∙ count ∙ read_length (slice_get county.names) tables.places.items (names_in_order county order) stated.names
 
   module _ (tables : LandmarkTables) (stated : MatchesLandmarks county arrangement tables) where
     landmark_values : entry_values (arranged_by county arrangement).landmarks ≡ entry_values (landmarks_in_order county order)
@@ -115,6 +127,15 @@ module _ (county : County) (arrangement : List DirectedChain) (is : IsCounty cou
     landmark_there i p h = ap (λ (o : Option (List Body7)). unwrap_or o [])
         (value_at county.landmarks (landmarks_in_order county order) tables.places.items stated.landmarks i p h
         ∙ ap (λ vs. slice_get vs i) (sym landmark_values))
+
+    pub landmark_within : (i k : ℕ) → k < length (unwrap_or (slice_get (entry_values (arranged_by county arrangement).landmarks) i) [])
+        → i < length tables.places.items
+    landmark_within i k h = omega (
+      arith,
+      listed_within (entry_values (arranged_by county arrangement).landmarks) i k h,
+      length-map (arranged_by county arrangement).landmarks (λ (d : ℕ × List Body7). d.1),
+      landmarks_arranged_by,
+    )
 
     pub landmark_missing : (i : ℕ) → None ≡ slice_get tables.places.items i
         → [] ≡ unwrap_or (slice_get (entry_values (arranged_by county arrangement).landmarks) i) []

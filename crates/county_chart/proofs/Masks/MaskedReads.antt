@@ -4,6 +4,7 @@ use Rattle.county_chart.proofs.Common.{entry_values, false, feats_of, lands_mask
 use Rattle.county_chart.proofs.Common.{links_with, map_values, masked, masked_bodies, masked_body_1, masked_body_i, masked_chain}
 use Rattle.county_chart.proofs.Common.{option_map, points_of, ranges_of, refl, rules, slice_get, slice_get-get_or, slice_get-map, sym}
 use Rattle.county_chart.proofs.Common.{unwrap_or-slice_get, values-map_values, ℕ, ◌<◌, ◌∙◌, ◌≡◌}
+use Rattle.county_chart.specs.{ChartWords.ends_of, ChartWords.sides_of, Laws.MaskedCounties.nodes_masked, Laws.MaskedCounties.tlids_masked}
 
 -- the value at a place after all values are mapped
 value_at_place : {K V W : Type 0} (f : V → W) (entries : List (K × V)) (place : ℕ)
@@ -50,19 +51,11 @@ module _ (mask : Mask) where
     pub ranges_masked : ranges_of (chain_at (masked mask county) place) ≡ ranges_of (chain_at county place)
     ranges_masked = same ranges_of (elim [ None ↦ refl | Some c ↦ refl ])
 
-    pub start_node_masked : option_map (λ c. c.start_node) (chain_at (masked mask county) place) ≡ option_map (λ c. c.start_node)
-        (chain_at county place)
-    start_node_masked = same (option_map (λ (c : Chain). c.start_node)) (read_masked (λ (c : Chain). c.start_node))
+    pub ends_masked : option_map ends_of (chain_at (masked mask county) place) ≡ option_map ends_of (chain_at county place)
+    ends_masked = same (option_map ends_of) (read_masked ends_of)
 
-    pub end_node_masked : option_map (λ c. c.end_node) (chain_at (masked mask county) place) ≡ option_map (λ c. c.end_node)
-        (chain_at county place)
-    end_node_masked = same (option_map (λ (c : Chain). c.end_node)) (read_masked (λ (c : Chain). c.end_node))
-
-    pub left_masked : option_map (λ c. c.left) (chain_at (masked mask county) place) ≡ option_map (λ c. c.left) (chain_at county place)
-    left_masked = same (option_map (λ (c : Chain). c.left)) (read_masked (λ (c : Chain). c.left))
-
-    pub right_masked : option_map (λ c. c.right) (chain_at (masked mask county) place) ≡ option_map (λ c. c.right) (chain_at county place)
-    right_masked = same (option_map (λ (c : Chain). c.right)) (read_masked (λ (c : Chain). c.right))
+    pub both_masked : option_map sides_of (chain_at (masked mask county) place) ≡ option_map sides_of (chain_at county place)
+    both_masked = same (option_map sides_of) (read_masked sides_of)
 
     -- the links of the landmark at a place
     pub links_masked : links_at (masked mask county) place ≡ links_at county place
@@ -90,3 +83,22 @@ masked_value_there mask county place h =
     let values : List (List Body7) = entry_values (masked mask county).landmarks in
     ap Some (sym (bodies_masked mask county place) ∙ unwrap_or-slice_get values place [])
     ∙ sym (slice_get-get_or values place [] (omega (arith, masked_values_count mask county)))
+
+-- what the calls of a county under a mask need
+pub ruleset masked_reads = (
+  chain_count_masked,
+  landmark_count_masked,
+  tlids_masked,
+  lands_masked,
+  nodes_masked,
+  body_masked,
+  topology_masked,
+  points_masked,
+  feats_masked,
+  ranges_masked,
+  ends_masked,
+  both_masked,
+  links_masked,
+  body_count_masked,
+  bodies_unmasked,
+)

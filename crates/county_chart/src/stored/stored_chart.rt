@@ -19,8 +19,8 @@ impl<C: StoredChain, N: StoredName, L: StoredLandmark> Chart for StoredCounty<C,
         self.chains.len()
     }
 
-    fn tlid_at(&self, place: usize) -> Option<u64> {
-        self.chains.key_at(place)
+    fn tlid_there(&self, place: usize) -> u64 {
+        self.chains.key_there(place)
     }
 
     fn chain_place(&self, tlid: u64) -> Option<usize> {
@@ -31,8 +31,8 @@ impl<C: StoredChain, N: StoredName, L: StoredLandmark> Chart for StoredCounty<C,
         self.names.len()
     }
 
-    fn feat_at(&self, place: usize) -> Option<u32> {
-        self.names.key_at(place)
+    fn feat_there(&self, place: usize) -> u32 {
+        self.names.key_there(place)
     }
 
     fn name_place(&self, feat: u32) -> Option<usize> {
@@ -43,8 +43,8 @@ impl<C: StoredChain, N: StoredName, L: StoredLandmark> Chart for StoredCounty<C,
         self.polygons.len()
     }
 
-    fn polygon_key_at(&self, place: usize) -> Option<PolygonKey> {
-        self.polygons.key_at(place)
+    fn polygon_key_there(&self, place: usize) -> PolygonKey {
+        self.polygons.key_there(place)
     }
 
     fn polygon_place(&self, key: PolygonKey) -> Option<usize> {
@@ -55,8 +55,8 @@ impl<C: StoredChain, N: StoredName, L: StoredLandmark> Chart for StoredCounty<C,
         self.landmarks.len()
     }
 
-    fn land_at(&self, place: usize) -> Option<u64> {
-        self.landmarks.key_at(place)
+    fn land_there(&self, place: usize) -> u64 {
+        self.landmarks.key_there(place)
     }
 
     fn landmark_place(&self, land: u64) -> Option<usize> {
@@ -67,25 +67,20 @@ impl<C: StoredChain, N: StoredName, L: StoredLandmark> Chart for StoredCounty<C,
         self.nodes.as_slice().len()
     }
 
-    fn node_at(&self, place: usize) -> Option<u64> {
-        self.nodes.as_slice().get(place).copied()
+    fn node_there(&self, place: usize) -> u64 {
+        self.nodes[place]
     }
 
     fn node_place(&self, node: u64) -> Option<usize> {
         place_of(self.nodes.as_slice(), node)
     }
 
-    fn chain_body_at(&self, place: usize) -> Option<Body1> {
-        match self.chain_of_place(place) {
-            Some(chain) => Some(*chain.body()),
-            None => None,
-        }
+    fn chain_body_there(&self, place: usize) -> Body1 {
+        *self.chain_there(place).body()
     }
 
     fn put_chain_body(&self, place: usize, turned: bool, out: &mut [u8]) {
-        if let Some(chain) = self.chain_of_place(place) {
-            chain.body().put_towards(turned, out);
-        }
+        self.chain_there(place).body().put_towards(turned, out);
     }
 
     fn chain_byte(&self, place: usize) -> u8 {
@@ -116,71 +111,38 @@ impl<C: StoredChain, N: StoredName, L: StoredLandmark> Chart for StoredCounty<C,
         }
     }
 
-    fn point_at(&self, place: usize, point: usize) -> Option<Point> {
-        match self.chain_of_place(place) {
-            Some(chain) => chain.points().get(point).copied(),
-            None => None,
-        }
+    fn point_there(&self, place: usize, point: usize) -> Point {
+        self.chain_there(place).points()[point]
     }
 
-    fn chain_feat_at(&self, place: usize, name: usize) -> Option<u32> {
-        match self.chain_of_place(place) {
-            Some(chain) => chain.feats().get(name).copied(),
-            None => None,
-        }
+    fn chain_feat_there(&self, place: usize, name: usize) -> u32 {
+        self.chain_there(place).feats()[name]
     }
 
-    fn range_at(&self, place: usize, range: usize) -> Option<Ranges> {
-        match self.chain_of_place(place) {
-            Some(chain) => chain.ranges().get(range).copied(),
-            None => None,
-        }
+    fn range_there(&self, place: usize, range: usize) -> Ranges {
+        self.chain_there(place).ranges()[range]
     }
 
-    fn topology_at(&self, place: usize) -> Option<BodyI> {
-        match self.chain_of_place(place) {
-            Some(chain) => Some(*chain.topology()),
-            None => None,
-        }
+    fn topology_there(&self, place: usize) -> BodyI {
+        *self.chain_there(place).topology()
     }
 
-    fn start_node_at(&self, place: usize) -> Option<Option<u64>> {
-        match self.chain_of_place(place) {
-            Some(chain) => Some(chain.start_node()),
-            None => None,
-        }
+    fn ends_there(&self, place: usize) -> (Option<u64>, Option<u64>) {
+        let chain = self.chain_there(place);
+        (chain.start_node(), chain.end_node())
     }
 
-    fn end_node_at(&self, place: usize) -> Option<Option<u64>> {
-        match self.chain_of_place(place) {
-            Some(chain) => Some(chain.end_node()),
-            None => None,
-        }
+    fn sides_there(&self, place: usize) -> (Side, Side) {
+        let chain = self.chain_there(place);
+        (*chain.left(), *chain.right())
     }
 
-    fn left_at(&self, place: usize) -> Option<Side> {
-        match self.chain_of_place(place) {
-            Some(chain) => Some(*chain.left()),
-            None => None,
-        }
+    fn name_body_there(&self, place: usize) -> Body5 {
+        *self.names.value_there(place).content()
     }
 
-    fn right_at(&self, place: usize) -> Option<Side> {
-        match self.chain_of_place(place) {
-            Some(chain) => Some(*chain.right()),
-            None => None,
-        }
-    }
-
-    fn name_body_at(&self, place: usize) -> Option<Body5> {
-        match self.names.value_at(place) {
-            Some(name) => Some(*name.content()),
-            None => None,
-        }
-    }
-
-    fn polygon_body_at(&self, place: usize) -> Option<Option<BodyP>> {
-        self.polygons.value_at(place).copied()
+    fn polygon_body_there(&self, place: usize) -> Option<BodyP> {
+        *self.polygons.value_there(place)
     }
 
     fn body_count_at(&self, place: usize) -> usize {
@@ -191,12 +153,12 @@ impl<C: StoredChain, N: StoredName, L: StoredLandmark> Chart for StoredCounty<C,
         self.links_of_place(place).len()
     }
 
-    fn landmark_body_at(&self, place: usize, body: usize) -> Option<Body7> {
-        self.bodies_of_place(place).get(body).copied()
+    fn landmark_body_there(&self, place: usize, body: usize) -> Body7 {
+        self.bodies_of_place(place)[body]
     }
 
-    fn landmark_link_at(&self, place: usize, link: usize) -> Option<Rec8> {
-        self.links_of_place(place).get(link).copied()
+    fn landmark_link_there(&self, place: usize, link: usize) -> Rec8 {
+        self.links_of_place(place)[link]
     }
 
     ghost is_county = { λ k. k.is_county };

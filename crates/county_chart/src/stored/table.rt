@@ -1,6 +1,6 @@
 //! Tables: values under ascending keys.
 
-ghost use Rattle.std.specs.Prelude.{IfSome, List, Some, is_some, length, slice_get, ◌≡◌};
+ghost use Rattle.std.specs.Prelude.{IfSome, List, Some, is_some, length, slice_get, ◌<◌, ◌≡◌};
 ghost use Rattle.std.specs.{List.Sorted.IsStrictlySortedBy, Option.option_copied};
 ghost use Rattle.ordered_lists.specs.{Entries.entry_keys, Entries.entry_values, Entries.value_under, Orders.contains};
 
@@ -59,11 +59,20 @@ impl<K: Key, V> Table<K, V> {
         self.values.as_slice()
     }
 
-    /// The key at a place, counted from 0, or none past the end.
-    pub(crate) fn key_at(&self, place: usize) -> Option<K>
-        ensures { result ≡ slice_get (entry_keys self.now) place }
+    /// The key at a place, counted from 0, which must be less than the number of keys.
+    pub(crate) fn key_there(&self, place: usize) -> K
+        requires { place < length self.now }
+        ensures { Some result ≡ slice_get (entry_keys self.now) place }
     {
-        self.keys().get(place).copied()
+        self.keys()[place]
+    }
+
+    /// The value at a place, counted from 0, which must be less than the number of keys.
+    pub(crate) fn value_there(&self, place: usize) -> &V
+        requires { place < length self.now }
+        ensures { Some result.now ≡ slice_get (entry_values self.now) place }
+    {
+        &self.values()[place]
     }
 
     /// The value at a place, counted from 0, or none past the end.

@@ -4,6 +4,7 @@ use Rattle.record_groups.proofs.Common.{ChainThere, Coordinates, IsWithinLimits,
 use Rattle.record_groups.proofs.Common.{IsCounty, chain_at, group_at, in_pieces, map, option_map, packed_i, points_of, slice_get, some-same}
 use Rattle.record_groups.proofs.Common.{Some, [], ap, drop, lone, min, suc, sym, take, ◌%◌, ◌*◌, ◌+◌, ◌/◌, ◌<◌, ◌∙◌, ◌∷◌, ◌≡◌, ◌≤◌}
 use Rattle.record_groups.proofs.Records.Grouped.{group_of}
+use Rattle.county_chart.specs.ChartWords.{ends_of, sides_of}
 use Rattle.record_groups.proofs.Records.Pieces.{numbered_list_at, numbered_list_length, piece_begins, pieces_at, pieces_counted}
 
 -- the TLID read at a place belongs to the chain there
@@ -14,17 +15,15 @@ tlid_of {county} {place} there tlid read = some-same (slice_get (tlids county) p
 -- all six parts that a record of type I has
 pub topology_of : {county : County} {place : ℕ} (there : ChainThere county place) (r : FieldsI) → Some r.tlid ≡ slice_get (tlids county) place
     → Some r.body ≡ option_map (λ chain. chain.topology) (chain_at county place)
-    → Some r.start_node ≡ option_map (λ chain. chain.start_node) (chain_at county place)
-    → Some r.end_node ≡ option_map (λ chain. chain.end_node) (chain_at county place)
-    → Some r.left ≡ option_map (λ chain. chain.left) (chain_at county place)
-    → Some r.right ≡ option_map (λ chain. chain.right) (chain_at county place) → r ≡ packed_i there.entry
-topology_of there r tlid body start end left right = λ i. record {
+    → Some (r.start_node, r.end_node) ≡ option_map ends_of (chain_at county place)
+    → Some (r.left, r.right) ≡ option_map sides_of (chain_at county place) → r ≡ packed_i there.entry
+topology_of there r tlid body ends sides = λ i. record {
   tlid = tlid_of there r.tlid tlid i;
   body = part_of (λ chain. chain.topology) there r.body body i;
-  start_node = part_of (λ chain. chain.start_node) there r.start_node start i;
-  end_node = part_of (λ chain. chain.end_node) there r.end_node end i;
-  left = part_of (λ chain. chain.left) there r.left left i;
-  right = part_of (λ chain. chain.right) there r.right right i;
+  start_node = (part_of ends_of there (r.start_node, r.end_node) ends i).0;
+  end_node = (part_of ends_of there (r.start_node, r.end_node) ends i).1;
+  left = (part_of sides_of there (r.left, r.right) sides i).0;
+  right = (part_of sides_of there (r.left, r.right) sides i).1;
 }
 
 module _ {Y : Type 0} (f : ℕ × Chain → List Y) (county : County) (is : IsCounty county) (within : IsWithinLimits most_records county)

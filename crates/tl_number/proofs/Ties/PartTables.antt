@@ -8,6 +8,7 @@ use Rattle.tl_number.proofs.Common.{Fields8, chain_feats, chain_nodes, cons_opti
 use Rattle.tl_number.proofs.Common.{IsCounty, IsPicked, Ordering, at_places, bodies_at, grouped, part_with, slice_get, turned_if, unwrap_or}
 use Rattle.tl_number.proofs.Common.{None, Some, ap₂, cond, map, refl, suc, sym, true, zero, ℕ, ◌++◌, ◌+◌, ◌||◌, ◌∙◌, ◌∷◌, ◌≡◌}
 use Rattle.tl_number.proofs.Common.{[], chain_polygons, contains_alike, distinct-in_order, from_first_seen, in_order-strict, option_to_list}
+use Rattle.tl_number.proofs.Common.{slice_get_within, ◌<◌}
 use Rattle.tl_number.specs.CountyParts.{part_of}
 
 -- what is read at places is read at one of them
@@ -26,6 +27,13 @@ value_there {K} {V} es places picked e place there is =
     slice_get-map (λ (entry : K × V). entry.1) es there
     ∙ ap (option_map (λ (entry : K × V). entry.1)) (ap (slice_get es) is ∙ read_there es places picked e place)
     ∙ sym (slice_get-map (λ (entry : K × V). entry.1) picked place)
+
+-- and of one that is there
+pub read_within : {E X : Type 0} (f : E → X) (es picked : List E) (there place : ℕ)
+    → slice_get (map f es) there ≡ slice_get (map f picked) place → place < length picked → there < length es
+read_within f es [] there place e h = absurd (omega (arith, h))
+read_within f es (x ∷ picked) there zero e h = omega (arith, slice_get_within (map f es) there (f x) e, length-map es f)
+read_within f es (x ∷ picked) there (suc place) e h = read_within f es picked there place e (omega (arith, h))
 
 -- what is read at each place is collected
 all_read : {P X : Type 0} (read : P → Option X) (ps : List P) (xs : List X) → map read ps ≡ map Some xs → filter_map read ps ≡ xs

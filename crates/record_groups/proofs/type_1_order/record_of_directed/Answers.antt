@@ -1,4 +1,4 @@
-use Rattle.record_groups.proofs.Common.{Some, ap, arith, few_chains, first_at, first_point, is_some, last_at, last_point, length}
+use Rattle.record_groups.proofs.Common.{Some, ap, arith, few_chains, first_at, first_point, last_at, last_point, length}
 use Rattle.record_groups.proofs.Common.{option_map, packed_one, points_of, slice_get, some-same, sym, ◌+◌, ◌-◌, ◌∙◌, ◌≡◌}
 use Rattle.record_groups.proofs.Texts.TypeOnes.{directed_there}
 use Rattle.record_groups.proofs.type_1_order.record_of_directed.Goals as goal
@@ -8,12 +8,6 @@ overflow_sub-last g c =
     let chart = c.args.chart.now in
     let there = directed_there (g.C.Chart.county chart) (g.met.C.Chart.is_county chart) (g.met.C.Chart.within_limits chart) c.args.directed c.requires.directed in
     omega (arith, c.count-last.ensures, ap length (c.points-points.ensures ∙ ap points_of there.there), there.two)
-
-pub unwrap-body-requires : goal.unwrap-body-requires
-unwrap-body-requires g c =
-    let chart = c.args.chart.now in
-    let there = directed_there (g.C.Chart.county chart) (g.met.C.Chart.is_county chart) (g.met.C.Chart.within_limits chart) c.args.directed c.requires.directed in
-    ap is_some (c.body.ensures ∙ ap (option_map (λ chain. chain.body)) there.there)
 
 pub item-requires : goal.item-requires
 item-requires g c =
@@ -37,9 +31,8 @@ returns g c =
     let there = directed_there (g.C.Chart.county chart) (g.met.C.Chart.is_county chart) (g.met.C.Chart.within_limits chart) c.args.directed c.requires.directed in
     let points = there.chain.points in
     let along = c.points-points.ensures ∙ ap points_of there.there in
-    let body_is : c.unwrap-body.result ≡ there.chain.body =
-    some-same c.body.result c.unwrap-body.result there.chain.body (sym c.unwrap-body.ensures)
-    (c.body.ensures ∙ ap (option_map (λ chain. chain.body)) there.there) in
+    let body_is : c.body-body.result ≡ there.chain.body =
+    some-same _ c.body-body.result there.chain.body c.body-body.ensures (ap (option_map (λ chain. chain.body)) there.there) in
     let start_is : c.item.result ≡ first_point points =
     some-same _ c.item.result (first_point points) c.item.ensures
     (ap (λ ps. slice_get ps 0) along ∙ first_at points (omega (arith, there.two))) in

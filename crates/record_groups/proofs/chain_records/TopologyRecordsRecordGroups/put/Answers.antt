@@ -8,7 +8,7 @@ returns g c =
     let chart = c.args.self.now.chart.now in
     let there = chain_of_group (λ entry. packed_i entry ∷ []) (g.C.Chart.county chart) (g.met.C.Chart.is_county chart)
     (g.met.C.Chart.within_limits chart) c.args.group c.requires.group in
-    ap Some (c.put_fields.ensures ∙ ap type_i_spelling (topology_of there _ c.chain_tlid.ensures.tlid c.topology_there.ensures c.start_node_there.ensures
-    c.end_node_there.ensures c.left_there.ensures c.right_there.ensures))
+    ap Some (c.put_fields.ensures ∙ ap type_i_spelling (topology_of there _ c.chain_tlid-tlid.ensures.tlid c.topology_there-body.ensures
+    c.ends_there-start.ensures c.sides_there-left.ensures))
     ∙ sym (ap (option_map type_i_spelling) (lone_of packed_i (g.C.Chart.county chart) (g.met.C.Chart.is_county chart)
     (g.met.C.Chart.within_limits chart) c.args.group c.requires.group c.args._place c.requires.place))

@@ -1,5 +1,5 @@
 use Rattle.tl_number.proofs.Common.{◌∙◌, ap, cond}
-use Rattle.tl_number.proofs.Ties.PartTables.{bodies_read, land_read, links_read}
+use Rattle.tl_number.proofs.Ties.PartTables.{bodies_read, land_read, links_read, read_within}
 use Rattle.tl_number.proofs.county_part.CountyPart.landmark.Goals as goal
 
 pub returns-clause-land : goal.returns-clause-land
@@ -13,3 +13,6 @@ returns-clause-bodies g c = bodies_read (g.C.Chart.county c.args.self.now.chart.
 pub returns-clause-links : goal.returns-clause-links
 returns-clause-links g c = links_read (g.C.Chart.county c.args.self.now.chart.now) c.args.self.now.tables.now c.args.place c.if_linked.result
     (c.if_linked.ensures ∙ ap (cond c.args.self.now.tables.now.kept.linked c.args.place) c.landmark_count.ensures)
+
+pub returns-clause-there : goal.returns-clause-there
+returns-clause-there g c = read_within (λ entry. entry.0) _ _ _ _ (returns-clause-land g c)
