@@ -9,7 +9,7 @@ use Rattle.tl_layout.specs.FieldTexts.{coordinate_text, digits_text}
 use lib.Lanes.{chunk}
 
 -- bytes that are all digits
-all_at : (bytes : List ℕ) → ((k : ℕ) → k < length bytes → is_digit (get_or bytes k 0) ≡ true) → list_all is_digit bytes ≡ true
+pub all_at : (bytes : List ℕ) → ((k : ℕ) → k < length bytes → is_digit (get_or bytes k 0) ≡ true) → list_all is_digit bytes ≡ true
 all_at [] h = refl
 all_at (byte ∷ bytes) h = and_from _ _ (h 0 (omega arith)) (all_at bytes (λ k lt. h (suc k) (omega arith)))
 
