@@ -8,56 +8,17 @@
 //! the time of the checker.
 #![tactic(auto)]
 
-use std::alloc::{AllocError, Global};
+use std::alloc::Global;
 use std::io::Write;
 use std::process::ExitCode;
 use std::{env, fs, io};
-use tigercanon::{CompareFault, Fault, Verdict, compare};
-use tl_cert::{Renaming, check};
-use tl_county::{County, LinkFault, link};
-use tl_load::{LoadFault, Loader};
-
-/// Why the bench has no result.
-#[derive(Drop)]
-enum Trouble {
-    /// The arguments name no job of this program, or the files are different maps.
-    Words,
-    /// A file can't be read or is rejected, or an allocation failed.
-    Input,
-}
-
-impl From<io::Error> for Trouble {
-    fn from(_error: io::Error) -> Trouble {
-        Trouble::Input
-    }
-}
-
-impl From<AllocError> for Trouble {
-    fn from(_error: AllocError) -> Trouble {
-        Trouble::Input
-    }
-}
-
-impl From<LoadFault> for Trouble {
-    fn from(_fault: LoadFault) -> Trouble {
-        Trouble::Input
-    }
-}
-
-impl From<LinkFault> for Trouble {
-    fn from(_fault: LinkFault) -> Trouble {
-        Trouble::Input
-    }
-}
-
-impl From<CompareFault> for Trouble {
-    fn from(_fault: CompareFault) -> Trouble {
-        Trouble::Input
-    }
-}
+use tigercanon::{Fault, Verdict, compare};
+use tl_cert::check;
+use tl_county::{County, link};
+use tl_load::Loader;
 
 /// The county of a file's records.
-fn county_of(alloc: Global, file: &[u8]) -> Result<County, Trouble> {
+fn county_of(alloc: Global, file: &[u8]) -> Result<County, Fault> {
     let mut loader = Loader::new(alloc);
     loader.feed(file)?;
     loader.end_part()?;
@@ -65,38 +26,36 @@ fn county_of(alloc: Global, file: &[u8]) -> Result<County, Trouble> {
     Ok(link(alloc, records)?)
 }
 
-/// Whether the renaming between the files carries; it is checked only if `is_checked`.
-fn carries(alloc: Global, file: &[u8], other: &[u8], is_checked: bool) -> Result<bool, Trouble> {
-    let renaming = match compare(alloc, &[file], &[other])? {
-        Verdict::Same(renaming) => renaming,
-        Verdict::Different => return Err(Trouble::Words),
+/// Whether the renaming between the files carries; it is checked only if `is_checked`. `false` also if the files aren't one map, or
+/// if an allocation failed.
+fn carries(alloc: Global, file: &[u8], other: &[u8], is_checked: bool) -> bool {
+    let Ok(Verdict::Same(renaming)) = compare(alloc, &[file], &[other]) else {
+        return false;
     };
-    let from = county_of(alloc, file)?;
-    let onto = county_of(alloc, other)?;
-    if is_checked {
-        return Ok(check(alloc, &from, &onto, &renaming)?);
-    }
-    Ok(true)
+    let Ok(from) = county_of(alloc, file) else {
+        return false;
+    };
+    let Ok(onto) = county_of(alloc, other) else {
+        return false;
+    };
+    !is_checked || check(alloc, &from, &onto, &renaming) == Ok(true)
 }
 
 /// The result of the job that the command line asks for.
-fn outcome(rt: &HostRuntime) -> Result<bool, Trouble> {
+fn outcome(rt: &HostRuntime) -> io::Result<bool> {
     let mut words = env::args(rt)?.skip(1);
     let (Some(job), Some(file), Some(other)) = (words.next(), words.next(), words.next()) else {
-        return Err(Trouble::Words);
+        return Ok(false);
     };
     let file = fs::read(rt, file.as_str())?;
     let other = fs::read(rt, other.as_str())?;
-    carries(rt.alloc(), &file, &other, job.as_str() == "check")
+    Ok(carries(rt.alloc(), &file, &other, job.as_str() == "check"))
 }
 
 fn main(rt: HostRuntime) -> ExitCode {
-    match outcome(&rt) {
-        Ok(true) => {
-            let _ = rt.stdout().write_all(b"carried\n");
-            ExitCode::SUCCESS
-        }
-        Ok(false) | Err(Trouble::Words) => ExitCode::from(1),
-        Err(Trouble::Input) => ExitCode::from(2),
+    if let Ok(true) = outcome(&rt) {
+        let _ = rt.stdout().write_all(b"carried\n");
+        return ExitCode::SUCCESS;
     }
+    ExitCode::from(1)
 }

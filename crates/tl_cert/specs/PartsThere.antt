@@ -7,6 +7,11 @@ use Rattle.county_chart.specs.ChartWords.{bodies_under, chain_under, name_under,
 use Rattle.county_chart.specs.{County.County, PolygonKeys.PolygonKey, PolygonKeys.key_cmp, Renumbering.renumbered, Renumbering.turns}
 use Rattle.county_chart.specs.{DirectedChains.directed_chain, Renumbering.Renumbering, declared.directed_chain.DirectedChain.DirectedChain}
 use Rattle.ordered_lists.specs.Pairs.{image}
+use Rattle.tl_cert.specs.declared.renaming_tables.RenamingTables.{RenamingTables}
+
+-- the renaming that these tables have
+abbrev pub tabled : RenamingTables → Renumbering
+tabled t = record { chains = t.chains; names = t.names; polygons = t.polygons; lands = t.lands; nodes = t.nodes; turned = t.turned }
 
 -- a directed chain under its new numbers
 abbrev pub chain_carried : Renumbering → County → DirectedChain → Option Chain

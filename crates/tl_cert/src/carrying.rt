@@ -6,7 +6,7 @@
 
 ghost use Rattle.std.specs.{Bool.Decides, Prelude.IfOk};
 ghost use Rattle.county_chart.specs.{MaskedCounty.masked, Renumbering.Carries, Renumbering.NumbersArePaired};
-ghost use Rattle.tl_cert.specs.PartsThere.{ArePartsThere};
+ghost use Rattle.tl_cert.specs.PartsThere.{ArePartsThere, tabled};
 
 use crate::chains::Chains;
 use crate::lent::Lent;
@@ -21,7 +21,7 @@ use tl_layout::Mask;
 
 /// Whether `b` has each chain, name, polygon and landmark of `a` under its new number, with the chains turned that the renaming turns.
 fn are_parts_there<A: Chart, B: Chart>(a: &A, b: &B, tables: &RenamingTables) -> bool
-    ensures { Decides result (ArePartsThere tables.now (A.county a.now) (B.county b.now)) }
+    ensures { Decides result (ArePartsThere (tabled tables.now) (A.county a.now) (B.county b.now)) }
 {
     all_hold(&Chains { a, b, tables })
         && all_hold(&Names { a, b, tables })
@@ -36,15 +36,10 @@ fn carries_parts<A: Chart, B: Chart>(
     b: &B,
     tables: &RenamingTables,
 ) -> Result<bool, AllocError>
-    requires { NumbersArePaired tables.now (A.county a.now) (B.county b.now) }
-    ensures { IfOk result (λ yes. Decides yes (Carries tables.now (A.county a.now) (B.county b.now))) }
+    requires { NumbersArePaired (tabled tables.now) (A.county a.now) (B.county b.now) }
+    ensures { IfOk result (λ yes. Decides yes (Carries (tabled tables.now) (A.county a.now) (B.county b.now))) }
 {
-    let there = are_parts_there(a, b, tables);
-    if !there {
-        return Ok(false);
-    }
-    let links = are_links_there(alloc, a, b, tables)?;
-    Ok(links)
+    Ok(are_parts_there(a, b, tables) && are_links_there(alloc, a, b, tables)?)
 }
 
 /// Whether the renaming carries `a` onto `b`: its lists name each number of `a` once on the left and each of `b` once

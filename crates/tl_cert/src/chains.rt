@@ -2,7 +2,7 @@
 
 ghost use Rattle.std.specs.Prelude.{length, map, option_map, ◌<◌, ◌≡◌};
 ghost use Rattle.std.specs.{Bool.Decides, Ordering.nat_cmp};
-ghost use Rattle.tl_cert.specs.PartsThere.{chain_carried};
+ghost use Rattle.tl_cert.specs.PartsThere.{chain_carried, tabled};
 ghost use Rattle.county_chart.specs.SameParts.{HaveSameContent, HaveSameEnds, HaveSameLists};
 ghost use Rattle.county_chart.specs.{ChartWords.chain_at, ChartWords.feats_of, DirectedChains.directed_chain, Renumbering.renumbered_side};
 ghost use Rattle.ordered_lists.specs.Pairs.{image};
@@ -18,7 +18,7 @@ fn new_node(tables: &RenamingTables, node: Option<u64>) -> Option<u64>
     ensures { result ≡ option_map (image nat_cmp tables.now.nodes) node }
 {
     match node {
-        Some(node) => Some(tables.node(node)),
+        Some(node) => Some(tables.nodes.image(node)),
         None => None,
     }
 }
@@ -39,11 +39,11 @@ fn is_node_there(
 
 /// Whether a side is another with its polygon under its new key.
 fn is_side_renumbered(tables: &RenamingTables, old: Side, new: Side) -> bool
-    ensures { Decides result (new ≡ renumbered_side tables.now old) }
+    ensures { Decides result (new ≡ renumbered_side (tabled tables.now) old) }
 {
     match old.polyid() {
         Some(polyid) => match new.polyid() {
-            Some(other) => (new.cenid(), other) == tables.polygon((old.cenid(), polyid)),
+            Some(other) => (new.cenid(), other) == tables.polygons.image((old.cenid(), polyid)),
             None => false,
         },
         None => new.polyid().is_none() && new.cenid() == old.cenid(),
@@ -52,7 +52,7 @@ fn is_side_renumbered(tables: &RenamingTables, old: Side, new: Side) -> bool
 
 /// Whether the side of a chain, if there is such a chain, is the other with its polygon under its new key.
 fn is_side_there(tables: &RenamingTables, old: Option<Side>, new: Option<Side>) -> bool
-    ensures { Decides result (new ≡ option_map (renumbered_side tables.now) old) }
+    ensures { Decides result (new ≡ option_map (renumbered_side (tabled tables.now)) old) }
 {
     match old {
         Some(old) => match new {
@@ -84,7 +84,7 @@ impl<'a, C: Chart> Listed for NewFeats<'a, C> {
     }
 
     fn item(&self, place: usize) -> u32 {
-        self.tables.feat(self.feats.item(place))
+        self.tables.names.image(self.feats.item(place))
     }
 }
 
@@ -102,36 +102,28 @@ impl<'a, A: Chart, B: Chart> Chains<'a, A, B> {
     fn has_same_content(&self, directed: DirectedChain, other: usize) -> bool
         requires { directed.place < length (A.county self.now.a.now).chains }
         ensures { Decides result (HaveSameContent (chain_at (B.county self.now.b.now) other)
-            (chain_carried self.now.tables.now (A.county self.now.a.now) directed)) }
+            (chain_carried (tabled self.now.tables.now) (A.county self.now.a.now) directed)) }
     {
-        let body = Some(directed.body(self.a));
-        if !self.b.chain_body_at(other).is_same(body) {
-            return false;
-        }
-        let topology = Some(directed.topology(self.a));
-        self.b.topology_at(other).is_same(topology)
+        self.b
+            .chain_body_at(other)
+            .is_same(Some(directed.body(self.a)))
+            && self
+                .b
+                .topology_at(other)
+                .is_same(Some(directed.topology(self.a)))
     }
 
     /// Whether it has the chain's nodes and sides under their new numbers.
     fn has_same_ends(&self, directed: DirectedChain, other: usize) -> bool
         ensures { Decides result (HaveSameEnds (chain_at (B.county self.now.b.now) other)
-            (chain_carried self.now.tables.now (A.county self.now.a.now) directed)) }
+            (chain_carried (tabled self.now.tables.now) (A.county self.now.a.now) directed)) }
     {
-        let old = directed.start_node(self.a);
-        let start = is_node_there(self.tables, old, self.b.start_node_at(other));
-        if !start {
-            return false;
-        }
-        let old = directed.end_node(self.a);
-        let end = is_node_there(self.tables, old, self.b.end_node_at(other));
-        if !end {
-            return false;
-        }
-        let left = is_side_there(self.tables, directed.left(self.a), self.b.left_at(other));
-        if !left {
-            return false;
-        }
-        is_side_there(self.tables, directed.right(self.a), self.b.right_at(other))
+        let start = directed.start_node(self.a);
+        let end = directed.end_node(self.a);
+        is_node_there(self.tables, start, self.b.start_node_at(other))
+            && is_node_there(self.tables, end, self.b.end_node_at(other))
+            && is_side_there(self.tables, directed.left(self.a), self.b.left_at(other))
+            && is_side_there(self.tables, directed.right(self.a), self.b.right_at(other))
     }
 
     /// Whether it has the chain's further names under their new FEATs.
@@ -153,56 +145,44 @@ impl<'a, A: Chart, B: Chart> Chains<'a, A, B> {
     /// Whether it has the chain's points, further names and further address ranges under their new numbers.
     fn has_same_lists(&self, directed: DirectedChain, other: usize) -> bool
         ensures { Decides result (HaveSameLists (chain_at (B.county self.now.b.now) other)
-            (chain_carried self.now.tables.now (A.county self.now.a.now) directed)) }
+            (chain_carried (tabled self.now.tables.now) (A.county self.now.a.now) directed)) }
     {
-        let others = ChainPoints {
+        let points = ChainPoints {
             chart: self.b,
             place: other,
             turned: false,
         };
-        let points = are_same(&directed.points(self.a), &others);
-        if !points {
-            return false;
-        }
-        let feats = self.has_same_feats(directed, other);
-        if !feats {
-            return false;
-        }
-        let others = ChainRanges {
+        let ranges = ChainRanges {
             chart: self.b,
             place: other,
             turned: false,
         };
-        are_same(&directed.ranges(self.a), &others)
+        are_same(&directed.points(self.a), &points)
+            && self.has_same_feats(directed, other)
+            && are_same(&directed.ranges(self.a), &ranges)
     }
 
     /// Whether it is the chain under its new numbers.
     fn is_same_chain(&self, directed: DirectedChain, other: usize) -> bool
         requires { directed.place < length (A.county self.now.a.now).chains }
-        ensures { Decides result (chain_at (B.county self.now.b.now) other ≡ chain_carried self.now.tables.now (A.county self.now.a.now) directed) }
+        ensures { Decides result (chain_at (B.county self.now.b.now) other ≡ chain_carried (tabled self.now.tables.now) (A.county self.now.a.now) directed) }
     {
-        let content = self.has_same_content(directed, other);
-        if !content {
-            return false;
-        }
-        let ends = self.has_same_ends(directed, other);
-        if !ends {
-            return false;
-        }
-        self.has_same_lists(directed, other)
+        self.has_same_content(directed, other)
+            && self.has_same_ends(directed, other)
+            && self.has_same_lists(directed, other)
     }
 }
 
 impl<'a, A: Chart, B: Chart> Tested for Chains<'a, A, B> {
     ghost use Rattle.std.specs.Prelude.{ℕ};
-    ghost use Rattle.tl_cert.specs.PartsThere.{IsChainThere};
+    ghost use Rattle.tl_cert.specs.PartsThere.{IsChainThere, tabled};
     ghost use Rattle.tl_shape.specs.Chain.{Chain};
 
     ghost Entry = { ℕ × Chain };
 
     ghost entries = { λ t. (A.county t.a.now).chains };
 
-    ghost Holds = { λ t. IsChainThere t.tables.now (B.county t.b.now) };
+    ghost Holds = { λ t. IsChainThere (tabled t.tables.now) (B.county t.b.now) };
 
     fn count(&self) -> usize {
         self.a.chain_count()
@@ -210,10 +190,10 @@ impl<'a, A: Chart, B: Chart> Tested for Chains<'a, A, B> {
 
     fn holds(&self, place: usize) -> bool {
         let tlid = self.a.tlid_there(place);
-        let other = self.b.chain_place_or_end(self.tables.tlid(tlid));
+        let other = self.b.chain_place_or_end(self.tables.chains.image(tlid));
         let directed = DirectedChain {
             place: place as u32,
-            turned: self.tables.is_turned(tlid),
+            turned: self.tables.turned.contains(tlid),
         };
         self.is_same_chain(directed, other)
     }

@@ -8,9 +8,9 @@
 
 mod carrying;
 mod chains;
-mod county_numbers;
 mod lent;
 mod links;
+mod lists;
 mod numbers_paired;
 mod pairing;
 mod parts;

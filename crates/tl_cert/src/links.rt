@@ -2,17 +2,14 @@
 
 ghost use Rattle.std.specs.Bool.{Decides};
 ghost use Rattle.std.specs.Prelude.{◌≡◌, IfOk, IsPermutation, map};
-ghost use Rattle.tl_cert.specs.LinkFields.{link_fields};
-ghost use Rattle.county_chart.specs.Renumbering.{carried_link};
+ghost use Rattle.tl_cert.specs.PartsThere.{tabled};
+ghost use Rattle.county_chart.specs.{Renumbering.carried_link, SequenceKeys.link_sequence};
 
 use crate::pairing::are_reordered;
 use crate::renaming_tables::RenamingTables;
-use county_chart::{Chart, Listed, push_all};
+use county_chart::{Chart, Keyed, LinkKey, Listed, push_all};
 use std::alloc::{AllocError, Global};
 use tl_layout::Rec8;
-
-/// The fields of a link in the order in which links are compared: LAND, POLYID, CENID, FILE.
-type LinkFields = (u64, (u64, ([u8; 5], [u8; 5])));
 
 /// The links of the landmark at a place, as a list that is read by place.
 #[derive(Drop)]
@@ -49,65 +46,34 @@ fn links_of<C: Chart>(alloc: Global, chart: &C) -> Result<Vec<Rec8>, AllocError>
     Ok(links)
 }
 
-/// The fields of a link.
-fn fields_of_link(link: &Rec8) -> LinkFields
-    ensures { result ≡ link_fields link.now }
+/// The key of a link under its new numbers.
+fn new_key_of(tables: &RenamingTables, link: &Rec8) -> LinkKey
+    ensures { result ≡ link_sequence (carried_link (tabled tables.now) link.now) }
 {
-    (link.land(), (link.polyid(), (link.cenid(), link.file())))
+    let (cenid, polyid) = tables.polygons.image((link.cenid(), link.polyid()));
+    let land = tables.lands.image(link.land());
+    (land, (polyid, (cenid, link.file())))
 }
 
-/// The fields of a link under its new numbers.
-fn new_fields_of(tables: &RenamingTables, link: &Rec8) -> LinkFields
-    ensures { result ≡ link_fields (carried_link tables.now link.now) }
-{
-    let old_cenid = link.cenid();
-    let key = tables.polygon((old_cenid, link.polyid()));
-    let cenid = key.0;
-    (tables.land(link.land()), (key.1, (cenid, link.file())))
-}
-
-/// The fields of links.
-fn all_fields(alloc: Global, links: &[Rec8]) -> Result<Vec<LinkFields>, AllocError>
-    ensures { IfOk result (λ fields. fields.items ≡ map link_fields links.now) }
-{
-    links.iter().map(|link| fields_of_link(link)).collect(alloc)
-}
-
-/// The fields of links under their new numbers.
-fn all_new_fields(
+/// The keys of links under their new numbers.
+fn new_keys(
     alloc: Global,
     tables: &RenamingTables,
     links: &[Rec8],
-) -> Result<Vec<LinkFields>, AllocError>
-    ensures { IfOk result (λ fields. fields.items ≡ map (λ link. link_fields (carried_link tables.now link)) links.now) }
+) -> Result<Vec<LinkKey>, AllocError>
+    ensures { IfOk result (λ keys. keys.items ≡ map (λ link. link_sequence (carried_link (tabled tables.now) link)) links.now) }
 {
     links
         .iter()
-        .map(|link| new_fields_of(tables, link))
+        .map(|link| new_key_of(tables, link))
         .collect(alloc)
 }
 
-/// The fields of a county's links.
-fn known_links<C: Chart>(alloc: Global, chart: &C) -> Result<Vec<LinkFields>, AllocError>
-    ensures { IfOk result (λ fields. IsPermutation fields.items (map link_fields (C.county chart.now).links)) }
+/// The keys of links.
+fn keys_of(alloc: Global, links: &[Rec8]) -> Result<Vec<LinkKey>, AllocError>
+    ensures { IfOk result (λ keys. keys.items ≡ map link_sequence links.now) }
 {
-    let links = links_of(alloc, chart)?;
-    let fields = all_fields(alloc, &links)?;
-    Ok(fields)
-}
-
-/// The fields of a county's links under their new numbers.
-fn renumbered_links<C: Chart>(
-    alloc: Global,
-    chart: &C,
-    tables: &RenamingTables,
-) -> Result<Vec<LinkFields>, AllocError>
-    ensures { IfOk result (λ fields.
-        IsPermutation fields.items (map (λ link. link_fields (carried_link tables.now link)) (C.county chart.now).links)) }
-{
-    let links = links_of(alloc, chart)?;
-    let fields = all_new_fields(alloc, tables, &links)?;
-    Ok(fields)
+    links.iter().map(|link| link.key()).collect(alloc)
 }
 
 /// Whether the links of `b` are those of `a` under their new numbers, each the same number of times.
@@ -118,10 +84,12 @@ pub(crate) fn are_links_there<A: Chart, B: Chart>(
     tables: &RenamingTables,
 ) -> Result<bool, AllocError>
     ensures { IfOk result (λ yes. Decides yes
-        (IsPermutation (map (carried_link tables.now) (A.county a.now).links) (B.county b.now).links)) }
+        (IsPermutation (map (carried_link (tabled tables.now)) (A.county a.now).links) (B.county b.now).links)) }
 {
-    let fields = renumbered_links(alloc, a, tables)?;
-    let known = known_links(alloc, b)?;
-    let there = are_reordered(fields, known)?;
+    let links = links_of(alloc, a)?;
+    let keys = new_keys(alloc, tables, &links)?;
+    let others = links_of(alloc, b)?;
+    let known = keys_of(alloc, &others)?;
+    let there = are_reordered(keys, known)?;
     Ok(there)
 }

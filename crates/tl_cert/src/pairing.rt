@@ -1,42 +1,52 @@
 //! Whether a list of numbers is a permutation of another.
 
 ghost use Rattle.std.specs.Bool.{Decides};
-ghost use Rattle.std.specs.Prelude.{◌≡◌, IfOk, IsPermutation, map};
-ghost use Rattle.ordered_lists.specs.Orders.{IsInOrder};
+ghost use Rattle.std.specs.Prelude.{IfOk, IsPermutation, ◌≡◌};
+ghost use Rattle.ordered_lists.specs.Pairs.{ArePaired};
 
+use county_chart::{Listed, push_all, sort_by_keys};
 use ordered_lists::Key;
 use std::alloc::{AllocError, Global};
-
-/// The numbers on the left of pairs.
-pub(crate) fn old_numbers<K: Key>(alloc: Global, pairs: &[(K, K)]) -> Result<Vec<K>, AllocError>
-    ensures { IfOk result (λ numbers. numbers.items ≡ map (λ pair. pair.0) pairs.now) }
-{
-    pairs.iter().map(|pair| pair.0).collect(alloc)
-}
-
-/// The numbers on the right of pairs.
-pub(crate) fn new_numbers<K: Key>(alloc: Global, pairs: &[(K, K)]) -> Result<Vec<K>, AllocError>
-    ensures { IfOk result (λ numbers. numbers.items ≡ map (λ pair. pair.1) pairs.now) }
-{
-    pairs.iter().map(|pair| pair.1).collect(alloc)
-}
-
-/// Whether the numbers are a permutation of the known ones, which are in order.
-pub(crate) fn are_known<K: Key>(numbers: Vec<K>, known: &[K]) -> Result<bool, AllocError>
-    requires { IsInOrder K.cmp known.now }
-    ensures { IfOk result (λ yes. Decides yes (IsPermutation numbers.items known.now)) }
-{
-    let mut sorted = numbers;
-    sorted.sort()?;
-    Ok(sorted.as_slice().cmp(known).is_eq())
-}
 
 /// Whether the ones are a permutation of the others.
 pub(crate) fn are_reordered<K: Key>(ones: Vec<K>, others: Vec<K>) -> Result<bool, AllocError>
     ensures { IfOk result (λ yes. Decides yes (IsPermutation ones.items others.items)) }
 {
+    let mut sorted = ones;
+    sorted.sort()?;
     let mut known = others;
-    known.sort()?;
-    let yes = are_known(ones, &known)?;
-    Ok(yes)
+    sort_by_keys::<K, K>(&mut known)?;
+    Ok(sorted.as_slice().cmp(known.as_slice()).is_eq())
+}
+
+/// Whether the numbers are a permutation of the items of a list.
+fn are_items_of<K: Key, L: Listed<Item = K>>(
+    alloc: Global,
+    numbers: Vec<K>,
+    list: &L,
+) -> Result<bool, AllocError>
+    ensures { IfOk result (λ yes. Decides yes (IsPermutation numbers.items (L.items list.now))) }
+{
+    let mut items = Vec::with_capacity(alloc, list.count())?;
+    push_all(&mut items, list)?;
+    are_reordered(numbers, items)
+}
+
+/// Whether the pairs have each of the olds once on the left, each of the news once on the right, and no other.
+pub(crate) fn are_paired<K: Key, A: Listed<Item = K>, B: Listed<Item = K>>(
+    alloc: Global,
+    pairs: &[(K, K)],
+    olds: &A,
+    news: &B,
+) -> Result<bool, AllocError>
+    ensures { IfOk result (λ yes. Decides yes (ArePaired pairs.now (A.items olds.now) (B.items news.now))) }
+{
+    let lefts = pairs.iter().map(|pair| pair.0).collect(alloc)?;
+    let left = are_items_of(alloc, lefts, olds)?;
+    if !left {
+        return Ok(false);
+    }
+    let rights = pairs.iter().map(|pair| pair.1).collect(alloc)?;
+    let right = are_items_of(alloc, rights, news)?;
+    Ok(right)
 }

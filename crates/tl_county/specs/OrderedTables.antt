@@ -23,16 +23,9 @@ typed_of tables = record {
 
 -- the records of ordered tables, type by type: those of types 1 and I at their places, and the others as they lie
 abbrev pub ordered_of : OrderedTables → Typed
-ordered_of tables = record {
+ordered_of tables = record (typed_of tables.records) {
   of_type_1 = at_places tables.records.type_1.items tables.all_basics.items;
-  of_type_2 = tables.records.type_2.items;
-  of_type_4 = tables.records.type_4.items;
-  of_type_5 = tables.records.type_5.items;
-  of_type_6 = tables.records.type_6.items;
-  of_type_7 = tables.records.type_7.items;
-  of_type_8 = tables.records.type_8.items;
   of_type_i = at_places tables.records.type_i.items tables.topologies.items;
-  of_type_p = tables.records.type_p.items;
 }
 
 -- each table is in the order of its records' numbers: types 1 and I by TLID, 2, 4 and 6 by TLID and RTSQ, 5 by FEAT, 7 by

@@ -1,7 +1,7 @@
 -- Lists of records that differ only in things that aren't part of the map: the packing of types 2 and 4, and the RTSQs.
 use Rattle.std.specs.Prelude.{IsPermutation, IsTrue, List, [], ℕ, ◌++◌, ◌<◌, ◌∷◌, ◌≡◌, ◌⊎◌}
 use Rattle.std.specs.{List.AllByRecursion, Ordering.nat_cmp}
-use Rattle.tl_layout.specs.declared.record_type.Record.TheVariants.{Eight, Five, Four, I, One, P, Seven, Six, Two}
+use Rattle.tl_layout.specs.declared.record_type.Record.TheVariants.{Four, Six, Two}
 use Rattle.tl_layout.specs.ByType.{of_number, of_type_2, of_type_4}
 use Rattle.tl_layout.specs.{Fields.Fields2, Fields.Fields4, declared.record_type.Record.Record}
 use Rattle.county_chart.specs.County.{four_rtsq, four_tlid, two_rtsq, two_tlid}
@@ -58,12 +58,7 @@ abbrev pub resequenced : Sequence → Record → Record
 resequenced sequence (Two r) = Two (record r { rtsq = sequence sequenced.Two r.tlid r.rtsq })
 resequenced sequence (Four r) = Four (record r { rtsq = sequence sequenced.Four r.tlid r.rtsq })
 resequenced sequence (Six r) = Six (record r { rtsq = sequence sequenced.Six r.tlid r.rtsq })
-resequenced sequence (One r) = One r
-resequenced sequence (Five r) = Five r
-resequenced sequence (Seven r) = Seven r
-resequenced sequence (Eight r) = Eight r
-resequenced sequence (I r) = I r
-resequenced sequence (P r) = P r
+resequenced sequence other = other
 
 -- the new RTSQs of a chain's records of a type have the order of the old ones
 abbrev pub KeepsSequence : Sequence → List Record → Type 0

@@ -28,7 +28,7 @@ mod table_order;
 
 use crate::keys::repeated::keys_of;
 use crate::linking::building::{
-    ChainBuilder, LandmarkBuilder, chains_of_records, landmarks_of, lands_of, nodes_of,
+    ChainBuilder, Details, LandmarkBuilder, chains_of_records, landmarks_of, lands_of, nodes_of,
     polygon_bodies,
 };
 use crate::linking::chain_records::{all_basics_at, topologies_at};
@@ -46,32 +46,6 @@ use county_chart::{
 use std::alloc::{AllocError, Global};
 use tl_layout::{BodyP, Rec5, Record, Tables};
 
-/// What records refer to: the least use of a FEAT that has no record of type 5, as TLID and FEAT, and the polygons of the type 8
-/// records, in order.
-#[derive(Drop)]
-struct References {
-    unnamed: Option<(u64, u32)>,
-    polygons: Vec<PolygonKey>,
-}
-
-/// What the records of tables in order refer to. `feats` are the FEATs of the tables' names.
-fn gather_references(
-    alloc: Global,
-    tables: &OrderedTables,
-    feats: &[u32],
-) -> Result<References, AllocError>
-    requires tables { AreInOrder (ordered_of tables.now) }
-    requires feats { feats.now ≡ map five_feat tables.now.records.type_5.items }
-    ensures unnamed { IfOk result (λ references. IsLeastPassing sequence_cmp
-        (is_unnamed (flat_map uses_of tables.now.records.type_4.items) (map five_feat tables.now.records.type_5.items)) references.unnamed) }
-    ensures in_order { IfOk result (λ references. IsInOrder key_cmp references.polygons.items) }
-    ensures polygons { IfOk result (λ references. IsPermutation (map link_key tables.now.records.type_8.items) references.polygons.items) }
-{
-    let unnamed = unnamed_use(alloc, &tables.records.type_4, feats)?;
-    let polygons = linked_polygons(alloc, &tables.records.type_8)?;
-    Ok(References { unnamed, polygons })
-}
-
 /// The polygons of tables in order.
 fn polygons_of(alloc: Global, tables: &OrderedTables) -> Result<Polygons, AllocError>
     requires tables { AreInOrder (ordered_of tables.now) }
@@ -84,11 +58,13 @@ fn polygons_of(alloc: Global, tables: &OrderedTables) -> Result<Polygons, AllocE
     gather_polygons(alloc, &tables.records.type_i, &tables.records.type_p)
 }
 
-/// Checks the ten rules over tables in order, given what the sorting found, what the records refer to, and the polygons in order.
+/// Checks the ten rules over tables in order, given what the sorting found, the least use of a FEAT without a type 5 record, the
+/// polygons of the type 8 records in order, and all polygons in order.
 fn check_rules(
     tables: &OrderedTables,
     ordered: &Ordered,
-    references: &References,
+    unnamed: Option<(u64, u32)>,
+    linked: &[PolygonKey],
     polygons: &[PolygonKey],
 ) -> Result<(), LinkFault>
     requires tables { AreInOrder (ordered_of tables.now) }
@@ -96,23 +72,17 @@ fn check_rules(
     requires topologies { ordered.now.tlids.topologies.items ≡ map i_tlid (ordered_of tables.now).of_type_i }
     requires repeated { AreLeastRepeated ordered.now.repeated (ordered_of tables.now) }
     requires unnamed { IsLeastPassing sequence_cmp
-        (is_unnamed (flat_map uses_of tables.now.records.type_4.items) (map five_feat tables.now.records.type_5.items)) references.now.unnamed }
-    requires linked { IsInOrder key_cmp references.now.polygons.items × IsPermutation (map link_key tables.now.records.type_8.items) references.now.polygons.items }
+        (is_unnamed (flat_map uses_of tables.now.records.type_4.items) (map five_feat tables.now.records.type_5.items)) unnamed }
+    requires linked { IsInOrder key_cmp linked.now × IsPermutation (map link_key tables.now.records.type_8.items) linked.now }
     requires polygons { polygons.now ≡ distinct key_cmp (flat_map side_keys (ordered_of tables.now).of_type_i ++ map p_key tables.now.records.type_p.items) }
     ensures linked { OnOk result ((records : List Record) → by_type records ≡ ordered_of tables.now → IsLinked records) }
     ensures broken { IfErr result (λ fault. (records : List Record) → by_type records ≡ ordered_of tables.now → IsFirstBrokenRule records fault) }
 {
-    let tlids = &ordered.tlids;
-    check_chains(tables, &tlids.chains, &tlids.topologies)?;
+    check_chains(tables, &ordered.tlids)?;
     check_sequences(&ordered.repeated)?;
-    check_topologies(tables, &tlids.chains, &tlids.topologies)?;
-    check_names(tables, references.unnamed)?;
-    check_landmarks(
-        tables,
-        ordered.repeated.type_p,
-        &references.polygons,
-        polygons,
-    )
+    check_topologies(tables, &ordered.tlids)?;
+    check_names(tables, unnamed)?;
+    check_landmarks(tables, ordered.repeated.type_p, linked, polygons)
 }
 
 /// The chains of tables in order, under their TLIDs.
@@ -129,15 +99,12 @@ fn build_chains<'t, C: StoredChain, B: ChainBuilder<'t, C>>(
 {
     let all_basics = all_basics_at(alloc, &tables.records.type_1, &tables.all_basics)?;
     let topologies = topologies_at(alloc, &tables.records.type_i, &tables.topologies)?;
-    let chains = chains_of_records::<C, B>(
-        alloc,
-        builder,
-        &all_basics,
-        &topologies,
-        &tables.records.type_2,
-        &tables.records.type_4,
-        &tables.records.type_6,
-    )?;
+    let details = Details {
+        shapes: &tables.records.type_2,
+        names: &tables.records.type_4,
+        ranges: &tables.records.type_6,
+    };
+    let chains = chains_of_records::<C, B>(alloc, builder, &all_basics, &topologies, details)?;
     Ok(Table::new(tlids, chains))
 }
 
@@ -175,61 +142,6 @@ fn build_landmarks<L: StoredLandmark, B: LandmarkBuilder<L>>(
     Ok(Table::new(lands, landmarks))
 }
 
-/// The nodes and the polygons of tables in order.
-fn build_nodes_and_polygons(
-    alloc: Global,
-    tables: &OrderedTables,
-    keys: Vec<PolygonKey>,
-) -> Result<(Vec<u64>, Table<PolygonKey, Option<BodyP>>), AllocError>
-    requires tables { AreInOrder (ordered_of tables.now) }
-    requires topologies { IsPermutation tables.now.records.type_i.items (ordered_of tables.now).of_type_i }
-    requires keys { keys.items ≡ distinct key_cmp (flat_map side_keys (ordered_of tables.now).of_type_i ++ map p_key tables.now.records.type_p.items) }
-    ensures nodes { IfOk result (λ built. built.0.items ≡ distinct nat_cmp (flat_map topology_nodes (ordered_of tables.now).of_type_i)) }
-    ensures polygons { IfOk result (λ built. built.1 ≡ (county_along (ordered_of tables.now)).polygons) }
-{
-    let nodes = nodes_of(alloc, &tables.records.type_i)?;
-    let polygons = build_polygons(alloc, tables, keys)?;
-    Ok((nodes, polygons))
-}
-
-/// The chains, nodes, polygons and landmarks of a county: all of it except the names.
-#[derive(Drop)]
-struct CountyParts<C: Drop, L: Drop> {
-    chains: Table<u64, C>,
-    nodes: Vec<u64>,
-    polygons: Table<PolygonKey, Option<BodyP>>,
-    landmarks: Table<u64, L>,
-}
-
-/// The parts of the county of linked tables in order, all except the names.
-fn build_parts<'t, C: StoredChain, L: StoredLandmark, B: ChainBuilder<'t, C> + LandmarkBuilder<L>>(
-    alloc: Global,
-    builder: &mut B,
-    tables: &'t OrderedTables,
-    tlids: Vec<u64>,
-    polygons: Vec<PolygonKey>,
-) -> Result<CountyParts<C, L>, AllocError>
-    requires tables { AreInOrder (ordered_of tables.now) }
-    requires topologies { IsPermutation tables.now.records.type_i.items (ordered_of tables.now).of_type_i }
-    requires linked { IsLinked (type_after_type (ordered_of tables.now)) }
-    requires tlids { tlids.items ≡ map one_tlid (ordered_of tables.now).of_type_1 }
-    requires polygons { polygons.items ≡ distinct key_cmp (flat_map side_keys (ordered_of tables.now).of_type_i ++ map p_key tables.now.records.type_p.items) }
-    ensures chains { IfOk result (λ parts. map_values C.chain parts.chains ≡ (county_along (ordered_of tables.now)).chains) }
-    ensures nodes { IfOk result (λ parts. parts.nodes.items ≡ distinct nat_cmp (flat_map topology_nodes (ordered_of tables.now).of_type_i)) }
-    ensures polygons { IfOk result (λ parts. parts.polygons ≡ (county_along (ordered_of tables.now)).polygons) }
-    ensures landmarks { IfOk result (λ parts. map_values L.landmark parts.landmarks ≡ landmarks_along (ordered_of tables.now)) }
-{
-    let chains = build_chains::<C, B>(alloc, builder, tables, tlids)?;
-    let (nodes, polygons) = build_nodes_and_polygons(alloc, tables, polygons)?;
-    let landmarks = build_landmarks::<L, B>(alloc, builder, tables)?;
-    Ok(CountyParts {
-        chains,
-        nodes,
-        polygons,
-        landmarks,
-    })
-}
-
 /// The county of linked tables in order. `names` are the names of its type 5 records, in their order.
 pub(crate) fn build_county<
     't,
@@ -241,30 +153,25 @@ pub(crate) fn build_county<
     alloc: Global,
     builder: &mut B,
     tables: &'t OrderedTables,
-    tlids: Vec<u64>,
-    feats: Vec<u32>,
+    gathered: Gathered,
     names: Vec<N>,
-    polygons: Vec<PolygonKey>,
 ) -> Result<StoredCounty<C, N, L>, AllocError>
     requires tables { AreInOrder (ordered_of tables.now) }
     requires topologies { IsPermutation tables.now.records.type_i.items (ordered_of tables.now).of_type_i }
     requires linked { IsLinked (type_after_type (ordered_of tables.now)) }
-    requires tlids { tlids.items ≡ map one_tlid (ordered_of tables.now).of_type_1 }
-    requires feats { feats.items ≡ map five_feat tables.now.records.type_5.items }
+    requires tlids { gathered.tlids.items ≡ map one_tlid (ordered_of tables.now).of_type_1 }
+    requires feats { gathered.feats.items ≡ map five_feat tables.now.records.type_5.items }
     requires names { map N.name names.items ≡ map (λ (r : Fields5). r.body) tables.now.records.type_5.items }
-    requires polygons { polygons.items ≡ distinct key_cmp (flat_map side_keys (ordered_of tables.now).of_type_i ++ map p_key tables.now.records.type_p.items) }
+    requires polygons { gathered.polygons.keys.items ≡ distinct key_cmp (flat_map side_keys (ordered_of tables.now).of_type_i ++ map p_key tables.now.records.type_p.items) }
     requires limits { IsWithinLimits most_records (county_of (type_after_type (ordered_of tables.now))) }
     ensures { IfOk result (λ county. ⟦<StoredCounty<C, N, L> as Chart>⟧.county county ≡ county_of (type_after_type (ordered_of tables.now))) }
 {
-    let parts = build_parts::<C, L, B>(alloc, builder, tables, tlids, polygons)?;
-    let names = Table::new(feats, names);
-    Ok(StoredCounty::new(
-        parts.chains,
-        names,
-        parts.polygons,
-        parts.landmarks,
-        parts.nodes,
-    ))
+    let chains = build_chains::<C, B>(alloc, builder, tables, gathered.tlids)?;
+    let nodes = nodes_of(alloc, &tables.records.type_i)?;
+    let polygons = build_polygons(alloc, tables, gathered.polygons.keys)?;
+    let landmarks = build_landmarks::<L, B>(alloc, builder, tables)?;
+    let names = Table::new(gathered.feats, names);
+    Ok(StoredCounty::new(chains, names, polygons, landmarks, nodes))
 }
 
 /// What was gathered from tables in order: the TLIDs of chains and the FEATs of names, both in order, and the polygons.
@@ -296,50 +203,14 @@ pub(crate) fn sort_and_check(
     let ordered = order_tables(alloc, tables)?;
     let feats = keys_of::<u32, Rec5>(alloc, &tables.records.type_5)?;
     let polygons = polygons_of(alloc, tables)?;
-    let references = gather_references(alloc, tables, &feats)?;
-    check_rules(tables, &ordered, &references, &polygons.keys)?;
+    let unnamed = unnamed_use(alloc, &tables.records.type_4, &feats)?;
+    let linked = linked_polygons(alloc, &tables.records.type_8)?;
+    check_rules(tables, &ordered, unnamed, &linked, &polygons.keys)?;
     Ok(Gathered {
         tlids: ordered.tlids.chains,
         feats,
         polygons,
     })
-}
-
-/// The county of tables of records. The order within a table has no meaning. A table may hold at most 10,000,000 records.
-///
-/// # Errors
-///
-/// The first rule that the records break, or `LinkFault::Memory` if an allocation failed.
-fn link_tables(alloc: Global, tables: Tables) -> Result<County, LinkFault>
-    requires { HoldsWithinLimits tables }
-    ensures linked { IfOk result (λ county. (records : List Record) →
-        HoldsByType tables records → IsLinked records × (⟦<County as Chart>⟧.county county ≡ county_of records)) }
-    ensures broken { IfErr result (λ fault. fault ≢ Memory → (records : List Record) →
-        HoldsByType tables records → IsFirstBrokenRule records fault) }
-{
-    let linked = link_in_order(alloc, tables)?;
-    Ok(linked.into_county(alloc)?)
-}
-
-/// The county of tables of records, in an arena that outlives it. The order within a table has no meaning. A table may hold at most
-/// 10,000,000 records.
-///
-/// # Errors
-///
-/// The first rule that the records break, or `LinkFault::Memory` if an allocation failed.
-fn link_tables_in<'a>(
-    alloc: Global,
-    arena: &'a Bump,
-    tables: Tables,
-) -> Result<CountyIn<'a>, LinkFault>
-    requires { HoldsWithinLimits tables }
-    ensures linked { IfOk result (λ county. (records : List Record) →
-        HoldsByType tables records → IsLinked records × (⟦<CountyIn<'a> as Chart>⟧.county county ≡ county_of records)) }
-    ensures broken { IfErr result (λ fault. fault ≢ Memory → (records : List Record) →
-        HoldsByType tables records → IsFirstBrokenRule records fault) }
-{
-    let linked = link_in_order(alloc, tables)?;
-    Ok(linked.into_county_in(alloc, arena)?)
 }
 
 /// The county of a list of records. The list's order has no meaning. It may hold at most 10,000,000 records of each type.
@@ -353,7 +224,8 @@ pub fn link(alloc: Global, records: Vec<Record>) -> Result<County, LinkFault>
     ensures broken { IfErr result (λ fault. fault ≢ Memory → IsFirstBrokenRule records.items fault) }
 {
     let tables = Tables::of(alloc, records)?;
-    link_tables(alloc, tables)
+    let linked = link_in_order(alloc, tables)?;
+    Ok(linked.into_county(alloc)?)
 }
 
 /// The county of a list of records, in an arena that outlives it. The list's order has no meaning. It may hold at most 10,000,000
@@ -372,5 +244,6 @@ pub fn link_in<'a>(
     ensures broken { IfErr result (λ fault. fault ≢ Memory → IsFirstBrokenRule records.items fault) }
 {
     let tables = Tables::of(alloc, records)?;
-    link_tables_in(alloc, arena, tables)
+    let linked = link_in_order(alloc, tables)?;
+    Ok(linked.into_county_in(alloc, arena)?)
 }

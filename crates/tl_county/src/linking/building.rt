@@ -146,10 +146,10 @@ pub(crate) trait ChainBuilder<'t, C: StoredChain> {
 
 /// Records of types 2, 4 and 6, with the parts of chains that the records of types 1 and I don't hold.
 #[derive(Drop)]
-struct Details<'r> {
-    shapes: &'r [Rec2],
-    names: &'r [Rec4],
-    ranges: &'r [Rec6],
+pub(crate) struct Details<'r> {
+    pub(crate) shapes: &'r [Rec2],
+    pub(crate) names: &'r [Rec4],
+    pub(crate) ranges: &'r [Rec6],
 }
 
 /// Appends one chain, made from its records of types 1 and I and from the details with its TLID. `details` keeps the records of
@@ -196,22 +196,17 @@ pub(crate) fn chains_of_records<'t, 'r, C: StoredChain, B: ChainBuilder<'t, C>>(
     builder: &mut B,
     all_basics: &[ChainBasics<'t>],
     topologies: &[ChainTopology<'t>],
-    shapes: &'r [Rec2],
-    names: &'r [Rec4],
-    ranges: &'r [Rec6],
+    details: Details<'r>,
 ) -> Result<Vec<C>, AllocError>
     requires all_basics { IsStrictlySortedBy nat_cmp (map one_tlid all_basics.now) }
-    requires shapes { IsInOrder (on two_tlid nat_cmp) shapes.now }
-    requires names { IsInOrder (on four_tlid nat_cmp) names.now }
-    requires ranges { IsInOrder (on six_tlid nat_cmp) ranges.now }
-    ensures { IfOk result (λ chains. map C.chain chains.items ≡ chains_along shapes.now names.now ranges.now all_basics.now topologies.now) }
+    requires shapes { IsInOrder (on two_tlid nat_cmp) details.shapes.now }
+    requires names { IsInOrder (on four_tlid nat_cmp) details.names.now }
+    requires ranges { IsInOrder (on six_tlid nat_cmp) details.ranges.now }
+    ensures { IfOk result (λ chains. map C.chain chains.items
+        ≡ chains_along details.shapes.now details.names.now details.ranges.now all_basics.now topologies.now) }
 {
     let mut chains = Vec::with_capacity(alloc, all_basics.len())?;
-    let mut details = Details {
-        shapes,
-        names,
-        ranges,
-    };
+    let mut details = details;
     for place in 0..all_basics.len().min(topologies.len()) {
         let topology = topologies[place].record();
         push_chain::<C, B>(

@@ -13,7 +13,7 @@ use crate::linking::chain_over::CountyOver;
 use crate::linking::gathering::Polygons;
 use crate::linking::owned::Owned;
 use crate::linking::table_order::OrderedTables;
-use crate::linking::{build_county, sort_and_check};
+use crate::linking::{Gathered, build_county, sort_and_check};
 use bumpalo::Bump;
 use county_chart::{Chart, County, CountyIn, LinkFault, PolygonKey};
 use std::alloc::{AllocError, Global};
@@ -24,9 +24,7 @@ use tl_layout::Tables;
 #[derive(Drop)]
 pub struct LinkedRecords {
     tables: OrderedTables,
-    tlids: Vec<u64>,
-    feats: Vec<u32>,
-    polygons: Polygons,
+    gathered: Gathered,
 }
 
 impl Model for LinkedRecords {
@@ -44,11 +42,11 @@ impl Model for LinkedRecords {
     ghost invariant = { λ l. AreInOrder (ordered_of l.tables)
         × IsLinked (type_after_type (ordered_of l.tables))
         × IsWithinLimits most_records (county_of (type_after_type (ordered_of l.tables)))
-        × (l.tlids.items ≡ map one_tlid (ordered_of l.tables).of_type_1)
-        × (l.feats.items ≡ map five_feat l.tables.records.type_5.items)
-        × (l.polygons.keys.items ≡ distinct key_cmp (flat_map side_keys (ordered_of l.tables).of_type_i ++ map p_key l.tables.records.type_p.items))
+        × (l.gathered.tlids.items ≡ map one_tlid (ordered_of l.tables).of_type_1)
+        × (l.gathered.feats.items ≡ map five_feat l.tables.records.type_5.items)
+        × (l.gathered.polygons.keys.items ≡ distinct key_cmp (flat_map side_keys (ordered_of l.tables).of_type_i ++ map p_key l.tables.records.type_p.items))
         × IsLeastPassing key_cmp (is_unknown key_cmp (map p_key l.tables.records.type_p.items) (flat_map side_keys (ordered_of l.tables).of_type_i))
-        l.polygons.without_side
+        l.gathered.polygons.without_side
         × IsPermutation l.tables.records.type_i.items (ordered_of l.tables).of_type_i };
 }
 
@@ -65,20 +63,17 @@ impl LinkedRecords {
     ) -> Result<CountyOver<'a>, AllocError>
         ensures { IfOk result (λ county. ⟦<CountyOver<'a> as Chart>⟧.county county ≡ county_of (type_after_type self.now)) }
     {
-        let tlids = Vec::from_slice(alloc, &self.tlids)?;
-        let feats = Vec::from_slice(alloc, &self.feats)?;
-        let polygons = Vec::from_slice(alloc, &self.polygons.keys)?;
+        let gathered = Gathered {
+            tlids: Vec::from_slice(alloc, &self.gathered.tlids)?,
+            feats: Vec::from_slice(alloc, &self.gathered.feats)?,
+            polygons: Polygons {
+                keys: Vec::from_slice(alloc, &self.gathered.polygons.keys)?,
+                without_side: self.gathered.polygons.without_side,
+            },
+        };
         let names = names_over(alloc, &self.tables.records.type_5)?;
         let mut builder = InArena::new(alloc, arena);
-        build_county(
-            alloc,
-            &mut builder,
-            &self.tables,
-            tlids,
-            feats,
-            names,
-            polygons,
-        )
+        build_county(alloc, &mut builder, &self.tables, gathered, names)
     }
 
     /// The county of the records, with lists of its own.
@@ -90,12 +85,10 @@ impl LinkedRecords {
         ensures { IfOk result (λ county. ⟦<County as Chart>⟧.county county ≡ county_of (type_after_type self)) }
     {
         let tables = self.tables;
-        let tlids = self.tlids;
-        let feats = self.feats;
-        let polygons = self.polygons.keys;
+        let gathered = self.gathered;
         let names = name_bodies(alloc, &tables.records.type_5)?;
         let mut builder = Owned { alloc };
-        build_county(alloc, &mut builder, &tables, tlids, feats, names, polygons)
+        build_county(alloc, &mut builder, &tables, gathered, names)
     }
 
     /// The county of the records in an arena that outlives it.
@@ -111,12 +104,10 @@ impl LinkedRecords {
         ensures { IfOk result (λ county. ⟦<CountyIn<'a> as Chart>⟧.county county ≡ county_of (type_after_type self)) }
     {
         let tables = self.tables;
-        let tlids = self.tlids;
-        let feats = self.feats;
-        let polygons = self.polygons.keys;
+        let gathered = self.gathered;
         let names = names_in(alloc, arena, &tables.records.type_5)?;
         let mut builder = InArena::new(alloc, arena);
-        build_county(alloc, &mut builder, &tables, tlids, feats, names, polygons)
+        build_county(alloc, &mut builder, &tables, gathered, names)
     }
 
     /// The least polygon that has a type P record and is on no side of a chain, ordered by the bytes of the CENID and then by
@@ -124,7 +115,7 @@ impl LinkedRecords {
     pub fn polygon_without_chain(&self) -> Option<PolygonKey>
         ensures { IsLeastPassing key_cmp (is_without_chain (county_of (type_after_type self.now))) result }
     {
-        self.polygons.without_side
+        self.gathered.polygons.without_side
     }
 }
 
@@ -147,13 +138,5 @@ pub fn link_in_order(alloc: Global, tables: Tables) -> Result<LinkedRecords, Lin
         topologies: Vec::new(alloc),
     };
     let gathered = sort_and_check(alloc, &mut tables)?;
-    let tlids = gathered.tlids;
-    let feats = gathered.feats;
-    let polygons = gathered.polygons;
-    Ok(LinkedRecords {
-        tables,
-        tlids,
-        feats,
-        polygons,
-    })
+    Ok(LinkedRecords { tables, gathered })
 }

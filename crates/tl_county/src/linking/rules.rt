@@ -13,40 +13,37 @@ ghost use Rattle.tl_layout.specs.declared.record_type.Record.{Record};
 use crate::keys::absent::least_absent;
 use crate::keys::repeated::least_repeated;
 use crate::linking::gathering::uses_in_order;
-use crate::linking::table_order::{OrderedTables, Repeated};
+use crate::linking::table_order::{OrderedTables, Repeated, Tlids};
 use county_chart::{LinkFault, LinkedType, PolygonKey, SequencedType, least_unknown};
 use ordered_lists::{is_marked, marks_of, place_of};
 use std::alloc::{AllocError, Global};
 use tl_layout::{Rec2, Rec4, Rec5, Rec6, Rec7, Rec8};
 
-/// Rules 11 and 12: no TLID has two records of type 1, and each record of types 2, 4, 6 and I has its chain. `tlids` are the TLIDs
-/// of the type 1 records, and `linked` those of the type I records; these lists are searched, not the records.
-pub(crate) fn check_chains(
-    tables: &OrderedTables,
-    tlids: &[u64],
-    linked: &[u64],
-) -> Result<(), LinkFault>
+/// Rules 11 and 12: no TLID has two records of type 1, and each record of types 2, 4, 6 and I has its chain. The lists of `tlids`
+/// are searched, not the records.
+pub(crate) fn check_chains(tables: &OrderedTables, tlids: &Tlids) -> Result<(), LinkFault>
     requires tables { AreInOrder (ordered_of tables.now) }
-    requires tlids { tlids.now ≡ map one_tlid (ordered_of tables.now).of_type_1 }
-    requires linked { linked.now ≡ map i_tlid (ordered_of tables.now).of_type_i }
+    requires chains { tlids.now.chains.items ≡ map one_tlid (ordered_of tables.now).of_type_1 }
+    requires topologies { tlids.now.topologies.items ≡ map i_tlid (ordered_of tables.now).of_type_i }
     ensures { (records : List Record) → by_type records ≡ ordered_of tables.now → MatchResult result (λ _. RulesHold records 0 5) (IsFirstFrom records 0) }
 {
-    if let Some(tlid) = least_repeated::<u64, u64>(tlids) {
+    let chains = tlids.chains.as_slice();
+    if let Some(tlid) = least_repeated::<u64, u64>(chains) {
         return Err(LinkFault::ChainTwice { tlid });
     }
-    if let Some(tlid) = least_unknown::<u64, Rec2, u64>(&tables.records.type_2, tlids) {
+    if let Some(tlid) = least_unknown::<u64, Rec2, u64>(&tables.records.type_2, chains) {
         let rtype = LinkedType::Two;
         return Err(LinkFault::NoChain { rtype, tlid });
     }
-    if let Some(tlid) = least_unknown::<u64, Rec4, u64>(&tables.records.type_4, tlids) {
+    if let Some(tlid) = least_unknown::<u64, Rec4, u64>(&tables.records.type_4, chains) {
         let rtype = LinkedType::Four;
         return Err(LinkFault::NoChain { rtype, tlid });
     }
-    if let Some(tlid) = least_unknown::<u64, Rec6, u64>(&tables.records.type_6, tlids) {
+    if let Some(tlid) = least_unknown::<u64, Rec6, u64>(&tables.records.type_6, chains) {
         let rtype = LinkedType::Six;
         return Err(LinkFault::NoChain { rtype, tlid });
     }
-    if let Some(tlid) = least_absent::<u64, u64, u64>(linked, tlids) {
+    if let Some(tlid) = least_absent::<u64, u64, u64>(&tlids.topologies, chains) {
         let rtype = LinkedType::I;
         return Err(LinkFault::NoChain { rtype, tlid });
     }
@@ -73,22 +70,17 @@ pub(crate) fn check_sequences(repeated: &Repeated) -> Result<(), LinkFault>
     Ok(())
 }
 
-/// Rules 14 and 15: each record of type 1 has its record of type I, and no TLID has two. `tlids` are the TLIDs of the type 1
-/// records, and `linked` those of the type I records.
-pub(crate) fn check_topologies(
-    tables: &OrderedTables,
-    tlids: &[u64],
-    linked: &[u64],
-) -> Result<(), LinkFault>
+/// Rules 14 and 15: each record of type 1 has its record of type I, and no TLID has two.
+pub(crate) fn check_topologies(tables: &OrderedTables, tlids: &Tlids) -> Result<(), LinkFault>
     requires tables { AreInOrder (ordered_of tables.now) }
-    requires tlids { tlids.now ≡ map one_tlid (ordered_of tables.now).of_type_1 }
-    requires linked { linked.now ≡ map i_tlid (ordered_of tables.now).of_type_i }
+    requires chains { tlids.now.chains.items ≡ map one_tlid (ordered_of tables.now).of_type_1 }
+    requires topologies { tlids.now.topologies.items ≡ map i_tlid (ordered_of tables.now).of_type_i }
     ensures { (records : List Record) → by_type records ≡ ordered_of tables.now → MatchResult result (λ _. RulesHold records 8 10) (IsFirstFrom records 8) }
 {
-    if let Some(tlid) = least_absent::<u64, u64, u64>(tlids, linked) {
+    if let Some(tlid) = least_absent::<u64, u64, u64>(&tlids.chains, &tlids.topologies) {
         return Err(LinkFault::LinkMissing { tlid });
     }
-    if let Some(tlid) = least_repeated::<u64, u64>(linked) {
+    if let Some(tlid) = least_repeated::<u64, u64>(&tlids.topologies) {
         return Err(LinkFault::LinkTwice { tlid });
     }
     Ok(())

@@ -8,12 +8,12 @@ use Rattle.tl_county.proofs.linking.build_chains.Goals as goal
 pub chains_of_records-requires : goal.chains_of_records-requires
 chains_of_records-requires g c κs =
     let t = ordered_of c.args.tables.now in
-    let all_basics = subst (λ l. IsStrictlySortedBy nat_cmp (map one_tlid l)) (sym (c.deref-5.ensures.value ∙ c.in_ok-all_basics.ensures
+    let all_basics = subst (λ l. IsStrictlySortedBy nat_cmp (map one_tlid l)) (sym (c.deref-8.ensures.value ∙ c.in_ok-all_basics.ensures
     ∙ (λ i. at_places (c.deref.ensures.value i) (c.deref-2.ensures.value i))))
     (tlids-ascend t c.requires.tables c.requires.linked) in
-    let shapes = twos_in_order t c.requires.tables c.deref-7.ensures.value in
-    let names = fours_in_order t c.requires.tables c.deref-8.ensures.value in
-    let ranges = sixes_in_order t c.requires.tables c.deref-9.ensures.value in
+    let shapes = twos_in_order t c.requires.tables c.deref-5.ensures.value in
+    let names = fours_in_order t c.requires.tables c.deref-6.ensures.value in
+    let ranges = sixes_in_order t c.requires.tables c.deref-7.ensures.value in
     ((λ i. κs.1.1.0, tt), (all_basics, (shapes, (names, ranges))))
 
 pub new-requires-clause-ascending : goal.new-requires-clause-ascending
@@ -26,9 +26,9 @@ new-requires-clause-same_length g c =
     let t = ordered_of c.args.tables.now in
     let chains : map g.C.StoredChain.chain c.in_ok-chains.chains.items ≡ chains_along t.of_type_2 t.of_type_4 t.of_type_6 t.of_type_1
     t.of_type_i =
-    c.in_ok-chains.ensures ∙ (λ i. chains_along (c.deref-7.ensures.value i) (c.deref-8.ensures.value i) (c.deref-9.ensures.value i)
-    ((c.deref-5.ensures.value ∙ c.in_ok-all_basics.ensures ∙ (λ j. at_places (c.deref.ensures.value j) (c.deref-2.ensures.value j))) i)
-    ((c.deref-6.ensures.value ∙ c.in_ok-topologies.ensures ∙ (λ j. at_places (c.deref-3.ensures.value j) (c.deref-4.ensures.value j))) i)) in
+    c.in_ok-chains.ensures ∙ (λ i. chains_along (c.deref-5.ensures.value i) (c.deref-6.ensures.value i) (c.deref-7.ensures.value i)
+    ((c.deref-8.ensures.value ∙ c.in_ok-all_basics.ensures ∙ (λ j. at_places (c.deref.ensures.value j) (c.deref-2.ensures.value j))) i)
+    ((c.deref-9.ensures.value ∙ c.in_ok-topologies.ensures ∙ (λ j. at_places (c.deref-3.ensures.value j) (c.deref-4.ensures.value j))) i)) in
     ap length c.requires.tlids
     ∙ length-chains_along t.of_type_2 t.of_type_4 t.of_type_6 t.of_type_1 t.of_type_i (beside t c.requires.tables c.requires.linked)
     ∙ ap length (sym chains) ∙ length-map c.in_ok-chains.chains.items g.C.StoredChain.chain
@@ -38,9 +38,9 @@ returns g c =
     let t = ordered_of c.args.tables.now in
     let chains : map g.C.StoredChain.chain c.in_ok-chains.chains.items ≡ chains_along t.of_type_2 t.of_type_4 t.of_type_6 t.of_type_1
     t.of_type_i =
-    c.in_ok-chains.ensures ∙ (λ i. chains_along (c.deref-7.ensures.value i) (c.deref-8.ensures.value i) (c.deref-9.ensures.value i)
-    ((c.deref-5.ensures.value ∙ c.in_ok-all_basics.ensures ∙ (λ j. at_places (c.deref.ensures.value j) (c.deref-2.ensures.value j))) i)
-    ((c.deref-6.ensures.value ∙ c.in_ok-topologies.ensures ∙ (λ j. at_places (c.deref-3.ensures.value j) (c.deref-4.ensures.value j))) i)) in
+    c.in_ok-chains.ensures ∙ (λ i. chains_along (c.deref-5.ensures.value i) (c.deref-6.ensures.value i) (c.deref-7.ensures.value i)
+    ((c.deref-8.ensures.value ∙ c.in_ok-all_basics.ensures ∙ (λ j. at_places (c.deref.ensures.value j) (c.deref-2.ensures.value j))) i)
+    ((c.deref-9.ensures.value ∙ c.in_ok-topologies.ensures ∙ (λ j. at_places (c.deref-3.ensures.value j) (c.deref-4.ensures.value j))) i)) in
     let same_length = length-chains_along t.of_type_2 t.of_type_4 t.of_type_6 t.of_type_1 t.of_type_i
     (beside t c.requires.tables c.requires.linked) in
     let f = g.C.StoredChain.chain in

@@ -1,6 +1,6 @@
 use Rattle.tl_county.proofs.Common.{Fields5, IsCounty, IsStrictlySortedBy, IsWithinLimits, LinksUnderLands, ap, county_along, county_with}
-use Rattle.tl_county.proofs.Common.{five_feat, length, length-map, map, map_values, most_records, nat_cmp, nodes, ordered_of, subst, sym}
-use Rattle.tl_county.proofs.Common.{◌∙◌, ◌≡◌}
+use Rattle.tl_county.proofs.Common.{distinct, distinct_same, five_feat, flat_map, from_permutation, length, length-map, map, map_values}
+use Rattle.tl_county.proofs.Common.{most_records, nat_cmp, nat_keys, nodes, ordered_of, pieces_alike, subst, sym, topology_nodes, ◌∙◌, ◌≡◌}
 use Rattle.tl_county.proofs.Rules.BuiltTables.{as_built, built-is_county, feats-ascend, links_under_lands-along, names-built, nodes-built}
 use Rattle.tl_county.proofs.linking.build_county.Given.{Over}
 use Rattle.tl_county.proofs.linking.build_county.Goals as goal
@@ -19,15 +19,14 @@ new-names-requires-clause-same_length g c =
 
 -- the tables hold the county of the records
 same : (g : Over) (c : After-new-names g)
-    → county_with (map_values g.C.StoredChain.chain c.in_ok-parts.parts.chains) (map_values g.N.StoredName.name c.new-names.result)
-    c.in_ok-parts.parts.polygons (map_values g.L.StoredLandmark.landmark c.in_ok-parts.parts.landmarks)
+    → county_with (map_values g.C.StoredChain.chain c.in_ok-chains.chains) (map_values g.N.StoredName.name c.new-names.result)
+    c.in_ok-polygons.polygons (map_values g.L.StoredLandmark.landmark c.in_ok-landmarks.landmarks)
     ≡ county_along (ordered_of c.args.tables.now)
 same g c =
-    let stated = c.in_ok-parts.ensures in
     let name = g.N.StoredName.name in
     let names = names-built name c.new-names.result (ordered_of c.args.tables.now) (c.new-names.ensures.keys ∙ c.requires.feats)
     (ap (map name) c.new-names.ensures.values ∙ c.requires.names) in
-    λ i. county_with (stated.chains i) (names i) (stated.polygons i) (stated.landmarks i)
+    λ i. county_with (c.in_ok-chains.ensures i) (names i) (c.in_ok-polygons.ensures i) (c.in_ok-landmarks.ensures i)
 
 pub new-requires-clause-county : goal.new-requires-clause-county
 new-requires-clause-county g c =
@@ -42,11 +41,16 @@ new-requires-clause-limits g c =
 
 pub new-requires-clause-links : goal.new-requires-clause-links
 new-requires-clause-links g c =
-    subst LinksUnderLands (sym c.in_ok-parts.ensures.landmarks) (links_under_lands-along (ordered_of c.args.tables.now))
+    subst LinksUnderLands (sym c.in_ok-landmarks.ensures) (links_under_lands-along (ordered_of c.args.tables.now))
 
 pub new-requires-clause-nodes : goal.new-requires-clause-nodes
 new-requires-clause-nodes g c =
-    c.in_ok-parts.ensures.nodes ∙ sym (nodes-built (ordered_of c.args.tables.now) c.requires.tables c.requires.linked)
+    let lying = c.args.tables.now.records.type_i.items in
+    let ordered = (ordered_of c.args.tables.now).of_type_i in
+    c.in_ok-nodes.ensures ∙ ap (λ topologies. distinct nat_cmp (flat_map topology_nodes topologies)) c.deref.ensures.value
+    ∙ distinct_same nat_keys (flat_map topology_nodes lying) (flat_map topology_nodes ordered)
+    (pieces_alike nat_keys topology_nodes lying ordered (from_permutation lying ordered c.requires.topologies))
+    ∙ sym (nodes-built (ordered_of c.args.tables.now) c.requires.tables c.requires.linked)
     ∙ ap nodes (sym (same g (goal.at.new-requires-clause-nodes g c).After-new-names))
 
 pub returns : goal.returns

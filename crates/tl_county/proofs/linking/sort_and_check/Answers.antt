@@ -1,7 +1,10 @@
-use Rattle.tl_county.proofs.Common.{HoldsByType, IsFirstBrokenRule, List, Memory, Record, by_type_of, exit_with, ordered_of}
-use Rattle.tl_county.proofs.Common.{type_after_type, typed_of, ◌≢◌}
+use Rattle.tl_county.proofs.Common.{HoldsByType, IsFirstBrokenRule, List, Memory, Record, by_type_of, exit_with, in_order-map}
+use Rattle.tl_county.proofs.Common.{ordered_of, rules, type_after_type, typed_of, ◌≢◌}
 use Rattle.tl_county.proofs.Rules.BuiltTables.{also_first, held}
 use Rattle.tl_county.proofs.linking.sort_and_check.Goals as goal
+
+pub unnamed_use-requires : goal.unnamed_use-requires
+unnamed_use-requires c = search (rules, in_order-map)
 
 pub returns-clause-linked : goal.returns-clause-linked
 returns-clause-linked c =

@@ -9,5 +9,6 @@ invariant-loop-place g l = record {
   names : IsInOrder (on four_tlid nat_cmp) l.details.names.now;
   ranges : IsInOrder (on six_tlid nat_cmp) l.details.ranges.now;
   done : map g.C.StoredChain.chain l.chains.items ++ chains_along l.details.shapes.now l.details.names.now l.details.ranges.now
-      (drop l.place l.all_basics) (drop l.place l.topologies) ≡ chains_along l.fn.shapes l.fn.names l.fn.ranges l.fn.all_basics l.fn.topologies;
+      (drop l.place l.all_basics) (drop l.place l.topologies)
+      ≡ chains_along l.fn.details.shapes.now l.fn.details.names.now l.fn.details.ranges.now l.fn.all_basics l.fn.topologies;
 }

@@ -1,5 +1,6 @@
-use Rattle.tl_county.proofs.Common.{IsLeastPassing, List, None, Option, Record, RulesHold, Some, arith, four_tlid, is_repeated, is_unknown, map}
-use Rattle.tl_county.proofs.Common.{map-id, nat_cmp, ordered_of, rules, six_tlid, subst, two_tlid, ℕ, ◌∙◌, ◌≡◌}
+use Rattle.tl_county.proofs.Common.{IsLeastPassing, List, None, Option, Record, RulesHold, Some, Typed, arith, by_type, four_tlid}
+use Rattle.tl_county.proofs.Common.{is_repeated, is_unknown, map, map-id, nat_cmp, one_tlid, ordered_of, rules, six_tlid, subst, two_tlid}
+use Rattle.tl_county.proofs.Common.{ℕ, ◌∙◌, ◌≡◌}
 use Rattle.tl_county.proofs.Rules.{RuleOrders.first-after, RuleOrders.rule-broken, RuleOrders.rule-holds, RuleOrders.rules-join}
 use Rattle.tl_county.proofs.Rules.RuleTests.{rule_11, rule_12_four, rule_12_i, rule_12_six, rule_12_two}
 use Rattle.tl_county.proofs.Rules.TlidsInOrder.{tables_in_order}
@@ -41,32 +42,32 @@ absent_in : (linked others tlids known : List ℕ) (found : Option ℕ) → link
 absent_in linked others tlids known found same e h =
     subst (λ ks. Unknown ks known found) (map-id linked ∙ same) (subst (λ ks. Unknown (map (λ k. k) linked) ks found) (map-id tlids ∙ e) h)
 
+-- if no TLID occurs twice, and no record of types 2, 4 and 6 lacks its chain, the first four rules hold
+first_four : (records : List Record) (t : Typed) → by_type records ≡ t → Twice (map one_tlid t.of_type_1) None
+    → Unknown (map two_tlid t.of_type_2) (map one_tlid t.of_type_1) None → Unknown (map four_tlid t.of_type_4) (map one_tlid t.of_type_1) None
+    → Unknown (map six_tlid t.of_type_6) (map one_tlid t.of_type_1) None → RulesHold records 0 4
+first_four records t e ones twos fours sixes =
+    rules-join records (rules-join records (rules-join records (rule-holds (rule_11 records t e) ones)
+    (rule-holds (rule_12_two records t e) twos)) (rule-holds (rule_12_four records t e) fours)) (rule-holds (rule_12_six records t e) sixes)
+
 pub returns-in-Some-least_absent : goal.returns-in-Some-least_absent
 returns-in-Some-least_absent c records e =
     let t = ordered_of c.args.tables.now in
-    let ones : RulesHold records 0 1 =
-    rule-holds (rule_11 records t e) (twice_in c.args.tlids.now _ None c.requires.tlids c.in_default.ensures) in
-    let twos : RulesHold records 1 2 =
-    rule-holds (rule_12_two records t e) (unknown_in two_tlid _ _ _ _ None c.deref.ensures.value c.requires.tlids c.in_default-least_unknown.ensures) in
-    let fours : RulesHold records 2 3 =
-    rule-holds (rule_12_four records t e) (unknown_in four_tlid _ _ _ _ None c.deref-2.ensures.value c.requires.tlids c.in_default-least_unknown-2.ensures) in
-    let sixes : RulesHold records 3 4 =
-    rule-holds (rule_12_six records t e) (unknown_in six_tlid _ _ _ _ None c.deref-3.ensures.value c.requires.tlids c.in_default-least_unknown-3.ensures) in
-    let before : RulesHold records 0 4 = rules-join records (rules-join records (rules-join records ones twos) fours) sixes in
-    first-after records (omega arith) before (rule-broken (rule_12_i records t e) c.in-Some-least_absent.tlid
-    (absent_in c.args.linked.now _ _ _ (Some c.in-Some-least_absent.tlid) c.requires.linked c.requires.tlids c.in-Some-least_absent.ensures))
+    let chains : c.as_slice-chains.result.now ≡ map one_tlid t.of_type_1 = c.as_slice-chains.ensures.value ∙ c.requires.chains in
+    first-after records (omega arith) (first_four records t e (twice_in _ _ None chains c.in_default.ensures)
+    (unknown_in two_tlid _ _ _ _ None c.deref.ensures.value chains c.in_default-least_unknown.ensures)
+    (unknown_in four_tlid _ _ _ _ None c.deref-2.ensures.value chains c.in_default-least_unknown-2.ensures)
+    (unknown_in six_tlid _ _ _ _ None c.deref-3.ensures.value chains c.in_default-least_unknown-3.ensures))
+    (rule-broken (rule_12_i records t e) c.in-Some-least_absent.tlid
+    (absent_in _ _ _ _ (Some c.in-Some-least_absent.tlid) (c.deref-4.ensures.value ∙ c.requires.topologies) chains c.in-Some-least_absent.ensures))
 
 pub returns : goal.returns
 returns c records e =
     let t = ordered_of c.args.tables.now in
-    let ones : RulesHold records 0 1 =
-    rule-holds (rule_11 records t e) (twice_in c.args.tlids.now _ None c.requires.tlids c.in_default.ensures) in
-    let twos : RulesHold records 1 2 =
-    rule-holds (rule_12_two records t e) (unknown_in two_tlid _ _ _ _ None c.deref.ensures.value c.requires.tlids c.in_default-least_unknown.ensures) in
-    let fours : RulesHold records 2 3 =
-    rule-holds (rule_12_four records t e) (unknown_in four_tlid _ _ _ _ None c.deref-2.ensures.value c.requires.tlids c.in_default-least_unknown-2.ensures) in
-    let sixes : RulesHold records 3 4 =
-    rule-holds (rule_12_six records t e) (unknown_in six_tlid _ _ _ _ None c.deref-3.ensures.value c.requires.tlids c.in_default-least_unknown-3.ensures) in
-    let links : RulesHold records 4 5 =
-    rule-holds (rule_12_i records t e) (absent_in c.args.linked.now _ _ _ None c.requires.linked c.requires.tlids c.in_default-least_absent.ensures) in
-    rules-join records (rules-join records (rules-join records (rules-join records ones twos) fours) sixes) links
+    let chains : c.as_slice-chains.result.now ≡ map one_tlid t.of_type_1 = c.as_slice-chains.ensures.value ∙ c.requires.chains in
+    rules-join records (first_four records t e (twice_in _ _ None chains c.in_default.ensures)
+    (unknown_in two_tlid _ _ _ _ None c.deref.ensures.value chains c.in_default-least_unknown.ensures)
+    (unknown_in four_tlid _ _ _ _ None c.deref-2.ensures.value chains c.in_default-least_unknown-2.ensures)
+    (unknown_in six_tlid _ _ _ _ None c.deref-3.ensures.value chains c.in_default-least_unknown-3.ensures))
+    (rule-holds (rule_12_i records t e)
+    (absent_in _ _ _ _ None (c.deref-4.ensures.value ∙ c.requires.topologies) chains c.in_default-least_absent.ensures))

@@ -6,10 +6,10 @@ use Rattle.tl_county.proofs.linking.linked_records.LinkedRecords.polygon_without
 pub returns : goal.returns
 returns c =
     let t : Typed = ordered_of c.self.inside.tables in
-    subst (λ (u : Typed). IsLeastPassing key_cmp (is_without_chain (county_of (type_after_type u))) c.self.inside.polygons.without_side)
+    subst (λ (u : Typed). IsLeastPassing key_cmp (is_without_chain (county_of (type_after_type u))) c.self.inside.gathered.polygons.without_side)
     (c.self.view_is)
     (least-same key_cmp (is_unknown key_cmp (map p_key t.of_type_p) (flat_map side_keys t.of_type_i))
     (is_without_chain (county_of (type_after_type t)))
     (λ key. ap (λ (u : Typed). is_unknown key_cmp (map p_key u.of_type_p) (flat_map side_keys u.of_type_i) key) (sym (by_type_of t))
     ∙ same_without_chain (type_after_type t) c.self.invariant.1 key)
-    c.self.inside.polygons.without_side c.self.invariant.6)
+    c.self.inside.gathered.polygons.without_side c.self.invariant.6)
