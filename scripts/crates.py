@@ -1,4 +1,4 @@
-"""The crates of the repository as crates.txt has them, and what the libraries were proved from that scripts/prove left."""
+"""The crates of the repository as crates.txt has them, and what the libraries that scripts/prove left were proved from."""
 
 import contextlib
 import functools
@@ -94,7 +94,7 @@ class Crates:
         return ""
 
     def by_urgency(self, crates: set[str]) -> list[str]:
-        """These crates, those first on which the longest chain of others waits, by the weights of their proofs."""
+        """These crates, those first that the longest chain of others waits for, by the weights of their proofs."""
 
         @functools.lru_cache(maxsize=None)
         def chain(crate: str) -> int:
@@ -117,7 +117,7 @@ def words_for_rattle(crates: Crates, kit: Path, crate: str, library: Callable[[s
 
 
 class Notes:
-    """What each library was proved from that was built without its proofs, and so isn't rt's."""
+    """What each library that scripts/prove built, without proofs, was proved from."""
 
     def __init__(self, crates: Crates, kit: Path, root: Path = ROOT) -> None:
         self.crates, self.kit, self.root = crates, kit, root

@@ -16,14 +16,14 @@ from typing import Iterable, Iterator, NamedTuple, Optional
 
 from crates import PARTS, Crates, Notes, words_for_rattle
 
-# Changes if results that were kept by an earlier form of these rules count no more.
+# To be raised if results that earlier rules kept no longer count.
 RULES = "1"
 NAME = re.compile(r"[A-Za-z0-9_-][A-Za-z0-9_.-]*\.edit")
 ITEM = re.compile(
     r"( *)(?:pub(?:\([^)]*\))? )?(?:(?:const|unsafe|final|ghost|default|extern \"C\") )*"
     r"(fn|impl|mod|trait|struct|enum|const|static|type|macro_rules!)\b ?(.*)"
 )
-# What rattle prints of a text that it can't read, where an edit that only makes a statement false reads well.
+# What rattle prints about a text that it can't read. An edit that only makes a statement false can be read.
 UNREADABLE = re.compile(r"is not in scope|has no field|is no name|operand is missing|expected the end|cannot continue")
 # What it prints of a proof file that names what an edit took away, and of what cites that proof.
 NAMES_LOST = re.compile(r"(note: )?(\./)?proofs/.*(has no field|is not in scope|has no `|was not admitted)")
@@ -211,7 +211,7 @@ class Edit:
 
 
 def edits_of(crate: str, folder: Path) -> tuple[list[Edit], list[str]]:
-    """The edits in a folder by their names, and the files there that are none."""
+    """The edits in a folder by their names, and the files there that aren't edits."""
     files = sorted(it for it in folder.rglob("*") if not it.is_dir()) if folder.is_dir() else []
     good = [it for it in files if it.parent == folder and NAME.fullmatch(it.name) and it.is_file()]
     return [Edit(crate, it) for it in good], [str(it.relative_to(folder)) for it in files if it not in good and it.suffix != ".md"]
@@ -229,7 +229,7 @@ def users_of(names: set[str], folder: Path) -> set[Function]:
 
 
 class Result(NamedTuple):
-    """What the try of an edit came to: it is refused or not, it can't be tried, or nothing is known; and the line about it."""
+    """The result of an edit: it is refused or not, it can't be tried, or nothing is known; and the line about it."""
 
     kind: str
     text: str
@@ -336,7 +336,7 @@ class Prover:
         return Ran(process.returncode, told.rstrip("\n").split("\n"))
 
     def stop(self) -> None:
-        """Ends all runs, and begins none any more."""
+        """Ends all runs, and begins no others."""
         with self.alone:
             self.is_stopped = True
             for process in self.running:
@@ -364,7 +364,7 @@ class Kept:
         return None
 
     def keep(self, edit: Edit, proved_from: str, result: Result) -> None:
-        """Keeps a refusal. A file under its whole name is a whole one."""
+        """Keeps a refusal. The file gets its name when it is whole."""
         if result.kind != REFUSED:
             return
         with contextlib.suppress(OSError):
@@ -384,7 +384,7 @@ class Try(NamedTuple):
 
 
 class Trial:
-    """Tries the edits of one crate: many in one run, and what that doesn't show alone."""
+    """Tries the edits of one crate: many in one run, and those that it doesn't show to be refused alone."""
 
     def __init__(self, prover: Prover, crate: str, edits: list[Edit]) -> None:
         self.prover, self.crate, self.edits = prover, crate, edits
@@ -484,7 +484,7 @@ class Trial:
         return self.judge(it.edit, self.prover.run(self.crate, texts, [], jobs=2), texts)
 
     def judge(self, edit: Edit, ran: Ran, texts: dict[str, str]) -> Result:
-        """What a check of the whole crate with one edit comes to."""
+        """The result of an edit, by a check of the whole crate."""
         unread = ran.unread(texts)
         if unread and ran.status == 1:
             return Result(BAD, f"BAD EDIT: the prover can't read the edited text, so no contract was tried: {unread[:200]}")
@@ -504,7 +504,7 @@ class Trial:
 
 
 class Outcome(NamedTuple):
-    """What the edits of a crate came to, the files among them that are none, and how many runs that took."""
+    """The results of the edits of a crate, the files among them that aren't edits, and how many runs there were."""
 
     crate: str
     results: dict[Edit, Result]

@@ -7,7 +7,7 @@ from typing import Iterable
 from crates import weight_of
 
 SO_FAR = re.compile(r"so far: (\d+) of (\d+) functions")
-# A run says at least this often, in seconds, how far it is.
+# A run reports its progress at least this often, in seconds.
 PATIENCE = 25
 
 
@@ -17,7 +17,7 @@ class Progress:
     def __init__(self, crates: Iterable[str], left: Iterable[str]) -> None:
         self.weights = {it: weight_of(it) for it in crates}
         self.parts = {it: 0.0 for it in left}
-        """What part of each crate that is left is proved."""
+        """The proved part of each crate that is left."""
         self.said_at = time.monotonic()
 
     def hear(self, crate: str, line: str) -> None:
@@ -32,7 +32,7 @@ class Progress:
         self.said_at -= PATIENCE
 
     def is_silent(self) -> bool:
-        """Whether nothing has been said for a while, or since a crate's end."""
+        """Whether nothing was printed for a while, or since a crate's end."""
         return time.monotonic() - self.said_at >= PATIENCE
 
     def percent(self) -> int:

@@ -1,5 +1,5 @@
-"""Maps as values whose parts can be changed, and hands that write one: under other numbers, with chains turned, and with records in
-another order and packed otherwise. All that is one map."""
+"""Maps as values whose parts can be changed, and hands, which are ways to write one: under other numbers, with chains turned, and with
+records in another order and packing. All that is one map."""
 
 from __future__ import annotations
 

@@ -1,4 +1,4 @@
-"""What a process takes, and the settings with which programs are measured."""
+"""The time and memory of a process, and the settings for measuring programs."""
 
 import os
 import re
@@ -13,7 +13,7 @@ TURNED = ("--shuffle", "--renumber", "--turn")
 
 
 class Spent(NamedTuple):
-    """What a process and all that it waited for took: seconds of the clock and of the processor, and the most memory, in kB."""
+    """The cost of a process and of all that it waited for: seconds of the clock and of the processor, and the most memory, in kB."""
 
     clock: float
     processor: float

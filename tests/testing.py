@@ -1,4 +1,4 @@
-"""What the tests and the tools share: a count of what passed, runs of programs, and scripts as modules."""
+"""Shared by the tests and the tools: counts of cases, runs of programs, and scripts as modules."""
 
 import hashlib
 import subprocess
@@ -19,7 +19,7 @@ TYPES = "".join(LENGTHS)
 
 
 class Tally:
-    """Counts what passed, failed and was skipped, and prints what failed and why something was skipped."""
+    """Counts the cases that passed, failed and were skipped, and prints those that failed and why others were skipped."""
 
     def __init__(self, what: str = "") -> None:
         """`what` begins each line that is printed."""
@@ -61,7 +61,7 @@ class Tally:
 
 
 class Tests(Tally):
-    """The count of what passed and failed, the program that is tried, and a folder for files."""
+    """The counts of cases, the program that is tried, and a folder for files."""
 
     def __init__(self, what: str, program: Path, room: Path) -> None:
         super().__init__(what)

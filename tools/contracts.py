@@ -47,7 +47,7 @@ class Scope:
             self.names[part[-1].rpartition(".")[2]] = (f"{module}.{below}" if below else module, name)
 
 
-class Word:
+class Definition:
     """A definition in specs/: where it stands, what the comment above it says, its text, and what that cites."""
 
     def __init__(self, key, line, comment, scope):
@@ -176,7 +176,7 @@ class Sources:
 
     def __init__(self):
         self.crates = sorted(path.parent.name for path in (ROOT / "crates").glob("*/src"))
-        self.words, self.items = {}, {}
+        self.definitions, self.items = {}, {}
         self.members = {}  # by type, trait and name: the text of a ghost member, and the scope of its file
         self.aliases = {}  # by crate and name: the type that is meant
         self.exported, self.tests = set(), set()
@@ -184,14 +184,14 @@ class Sources:
             for path in sorted((ROOT / "crates" / crate / "specs").rglob("*.antt")):
                 self.read_definitions(crate, path)
             self.read_code(crate)
-        for word in self.words.values():
-            word.cites = self.cited(word.text, word.scope, word)
+        for definition in self.definitions.values():
+            definition.cites = self.cited(definition.text, definition.scope, definition)
 
     def read_definitions(self, crate, path):
         module = ".".join(path.relative_to(ROOT / "crates" / crate / "specs").with_suffix("").parts)
         text = path.read_text(encoding="utf-8")
         lines, scope = text.split("\n"), Scope(text)
-        word, above, said = None, [], lines[0].lstrip("- ")
+        definition, above, said = None, [], lines[0].lstrip("- ")
         for number, line in enumerate(lines, 1):
             if line.lstrip().startswith("--"):
                 above.append(line.lstrip("- "))
@@ -200,11 +200,11 @@ class Sources:
             if found:
                 # Definitions that follow one another without a comment share the one above them.
                 said = " ".join(above) or said
-                word = Word((crate, module, found.group(1)), number, said, scope)
-                self.words[word.key] = word
+                definition = Definition((crate, module, found.group(1)), number, said, scope)
+                self.definitions[definition.key] = definition
             above = []
-            if word is not None and not line.startswith("infix"):
-                word.text += line + "\n"
+            if definition is not None and not line.startswith("infix"):
+                definition.text += line + "\n"
 
     def read_code(self, crate):
         folder = ROOT / "crates" / crate / "src"
@@ -218,18 +218,18 @@ class Sources:
         for path, text in texts.items():
             CodeFile(self, crate, path, text, exported).scan()
 
-    def cited(self, text, scope, word=None):
-        """What a text cites in this scope: words of specs/, words of the kit, and types of the code, each as (crate, module, name).
-        The text of a word can also cite words of its own file."""
+    def cited(self, text, scope, definition=None):
+        """What a text cites in this scope: definitions of specs/ and of the kit, and types of the code, each as (crate, module, name). The
+        text of a definition can also cite definitions of its own file."""
         cited, text = set(), TEXT_IN_QUOTES.sub(" ", text)
         for module, name in USED.findall(text) + [("", f"◌{sign}◌") for sign in SIGN.findall(text)]:
             if module in scope.modules:
                 cited.add(self.key_of(scope.modules[module], name))
             elif (module or name) in scope.names:
                 cited.add(self.key_of(*scope.names[module or name]))
-            elif word is not None:
-                cited |= {(word.crate, word.module, module or name)} & self.words.keys()
-        return cited - {None, word and word.key}
+            elif definition is not None:
+                cited |= {(definition.crate, definition.module, module or name)} & self.definitions.keys()
+        return cited - {None, definition and definition.key}
 
     def key_of(self, module, name):
         """What a module of specs/ or of the kit has under a name, if that counts. A type has the file of its code as its module."""
@@ -238,7 +238,7 @@ class Sources:
         if parts[:2] == ["specs", "declared"]:
             file = "/".join(part for part in parts[2:] if part[0].islower())
             return (crate, f"{file}.rt", parts[-2] if parts[-1] == "TheVariants" else name) if crate in self.crates else None
-        return key if parts[:1] == ["specs"] and (key in self.words or crate not in self.crates) else None
+        return key if parts[:1] == ["specs"] and (key in self.definitions or crate not in self.crates) else None
 
     def cited_by_items(self, items):
         """What the clauses of items cite."""
@@ -252,11 +252,11 @@ class Sources:
         return cited
 
     def closure(self, keys, passed_over=()):
-        """All definitions among these, and all that they rest on. What only words cite that are passed over is left out."""
-        found, left = set(), keys & self.words.keys()
+        """All definitions among these, and all that they rest on, except those that only passed-over definitions cite."""
+        found, left = set(), keys & self.definitions.keys()
         while left:
             key = left.pop()
             found.add(key)
             if key not in passed_over:
-                left |= (self.words[key].cites & self.words.keys()) - found
+                left |= (self.definitions[key].cites & self.definitions.keys()) - found
         return found

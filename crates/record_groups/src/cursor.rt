@@ -13,12 +13,12 @@ pub(crate) struct Cursor {
 }
 
 impl Cursor {
-    /// The position before the first record.
-    pub(crate) fn new() -> Cursor
-        ensures group { result.group ≡ 0 }
+    /// The position before the first record of a group.
+    pub(crate) fn at_group(group: usize) -> Cursor
+        ensures group { result.group ≡ group }
         ensures place { result.place ≡ 0 }
     {
-        Cursor { group: 0, place: 0 }
+        Cursor { group, place: 0 }
     }
 
     /// Moves past the record at this place of a group with this many records, and after the last one to the next group. This

@@ -2,17 +2,18 @@
 //!
 //! No text is made: lines are made for two records at a time, and the first records that differ decide. The groups of two
 //! arrangements needn't line up, because a chain can have more records of a type than the chain at its place in the other
-//! arrangement. Each side is therefore read with its own cursor.
+//! arrangement. So from the first group that differs on, each side is read with its own cursor.
 
-ghost use Rattle.std.specs.Prelude.{MatchOption, ◌≡◌};
+ghost use Rattle.std.specs.Prelude.{MatchOption, map, ◌≡◌};
 ghost use Rattle.std.specs.{Cmp.Lexicographic.slice_cmp, Ordering.nat_cmp, declared.cmp.Ordering.TheVariants.Greater};
-ghost use Rattle.record_groups.specs.RecordOrder.{groups_cmp, spelling_cmp};
+ghost use Rattle.record_groups.specs.{Groups.rest_of, RecordOrder.groups_cmp, RecordOrder.records_cmp, RecordOrder.spelling_cmp};
 
 use crate::cursor::{Cursor, next};
 use crate::groups::RecordGroups;
 use crate::record_eq::RecordEq;
+use crate::same_groups::is_same_group;
 use std::cmp::Ordering;
-use tl_layout::{LONGEST_LINE, Layout};
+use tl_layout::{LONGEST_LINE, Layout, Tabled};
 
 /// Compares two records of one type by their lines.
 fn compare_lines<L: Layout>(a: &L, b: &L) -> Ordering
@@ -46,15 +47,16 @@ fn compare_with<L: RecordEq>(a: &L, b: &Option<L>) -> Ordering
     }
 }
 
-/// Compares records in groups, record by record, by their canonical spellings. If there are no more on one side, that side is less.
-pub fn compare_groups<L: RecordEq, G: RecordGroups<Item = L>, H: RecordGroups<Item = L>>(
+/// Compares records in groups from a group on, record by record. If there are no more on one side, that side is less.
+fn compare_from<L: RecordEq, G: RecordGroups<Item = L>, H: RecordGroups<Item = L>>(
     a: &G,
     b: &H,
+    group: usize,
 ) -> Ordering
-    ensures { result ≡ groups_cmp L.as_record (G.groups a.now) (H.groups b.now) }
+    ensures { result ≡ records_cmp (map L.as_record (rest_of (G.groups a.now) group 0)) (map L.as_record (rest_of (H.groups b.now) group 0)) }
 {
-    let mut at = Cursor::new();
-    let mut other_at = Cursor::new();
+    let mut at = Cursor::at_group(group);
+    let mut other_at = Cursor::at_group(group);
     while let Some(record) = next(a, &mut at) {
         match compare_with(&record, &next(b, &mut other_at)) {
             Ordering::Equal => {}
@@ -65,4 +67,21 @@ pub fn compare_groups<L: RecordEq, G: RecordGroups<Item = L>, H: RecordGroups<It
         Some(_) => Ordering::Less,
         None => Ordering::Equal,
     }
+}
+
+/// Compares records in groups, record by record, by their canonical spellings. If there are no more on one side, that side is less.
+pub fn compare_groups<L: RecordEq, G: RecordGroups<Item = L>, H: RecordGroups<Item = L>>(
+    a: &G,
+    b: &H,
+) -> Ordering
+    ensures { result ≡ groups_cmp L.as_record (G.groups a.now) (H.groups b.now) }
+{
+    let count = a.count().min(b.count());
+    for group in 0..count {
+        let same = is_same_group(a, b, group, a.head(group), b.head(group));
+        if !same {
+            return compare_from(a, b, group);
+        }
+    }
+    compare_from(a, b, count)
 }

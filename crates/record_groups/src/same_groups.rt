@@ -35,7 +35,7 @@ fn is_same_record<L: RecordEq, G: RecordGroups<Item = L>, H: RecordGroups<Item =
 }
 
 /// Whether a group that both counties have is the same in both, record by record.
-fn is_same_group<L: RecordEq, G: RecordGroups<Item = L>, H: RecordGroups<Item = L>>(
+pub(crate) fn is_same_group<L: RecordEq, G: RecordGroups<Item = L>, H: RecordGroups<Item = L>>(
     a: &G,
     b: &H,
     group: usize,

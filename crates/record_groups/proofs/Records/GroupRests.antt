@@ -18,6 +18,10 @@ grouped_behind {X} [] n = nothing n
 grouped_behind (g ∷ groups) zero = refl
 grouped_behind (g ∷ groups) (suc n) = grouped_behind groups n
 
+-- a group, then the next ones
+pub rest_of_group : {X : Type 0} (groups : List (List X)) (group : ℕ) → rest_of groups group 0 ≡ group_at groups group ++ rest_of groups (group + 1) 0
+rest_of_group groups group = rw (add-one) (ap (λ xs. group_at groups group ++ xs) (grouped_behind groups (suc group)))
+
 module _ {X : Type 0} (groups : List (List X)) where
   -- a record, then the rest after it
   pub rest_before : (group place : ℕ) (x : X) → Some x ≡ slice_get (group_at groups group) place

@@ -1,11 +1,8 @@
-use Rattle.record_groups.proofs.Common.{◌≡◌, length, map, groups_cmp, records_cmp, rest_of}
+use Rattle.record_groups.proofs.Common.{groups_cmp, map, records_cmp, rest_of, ◌≡◌}
 use Rattle.record_groups.proofs.group_order.compare_groups.Given as goal
 
--- the rest decides
-abbrev pub invariant-loop-record : goal.invariant-loop-record
-invariant-loop-record g l = groups_cmp g.L.Tabled.as_record (g.G.RecordGroups.groups l.a) (g.H.RecordGroups.groups l.b)
-    ≡ records_cmp (map g.L.Tabled.as_record (rest_of (g.G.RecordGroups.groups l.a) l.at.group l.at.place))
-    (map g.L.Tabled.as_record (rest_of (g.H.RecordGroups.groups l.b) l.other_at.group l.other_at.place))
-
-abbrev pub decreases-loop-record : goal.decreases-loop-record
-decreases-loop-record g l = length (rest_of (g.G.RecordGroups.groups l.a) l.at.group l.at.place)
+-- the groups from here on decide
+abbrev pub invariant-loop-group : goal.invariant-loop-group
+invariant-loop-group g l = groups_cmp g.L.Tabled.as_record (g.G.RecordGroups.groups l.a) (g.H.RecordGroups.groups l.b)
+    ≡ records_cmp (map g.L.Tabled.as_record (rest_of (g.G.RecordGroups.groups l.a) l.group 0))
+    (map g.L.Tabled.as_record (rest_of (g.H.RecordGroups.groups l.b) l.group 0))
