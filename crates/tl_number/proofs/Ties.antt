@@ -5,19 +5,15 @@ pub mod Ranks
 pub mod OpenChains
 pub mod OpenLinks
 pub mod WantedMoves
-pub mod TieNumbers
 pub mod FixedKeys
-pub mod FixedNumbers
-pub mod TopologyOrder
+pub mod KeyGroups
+pub mod OrderedCounty
+pub mod KeyKinds
 pub mod WantedKeys
-pub mod WantedNumbers
 pub mod SeenGroups
 pub mod SearchSteps
-pub mod NamesInOrder
 pub mod WantedNames
-pub mod Alike
 pub mod ListsAlike
-pub mod ArrangedChoices
 pub mod SmallPolygons
 pub mod SmallLinks
 pub mod PickedPlaces
@@ -29,7 +25,6 @@ pub mod PartTables
 pub mod ReadKeys
 pub mod Columns
 pub mod KeptParts
-pub mod SmallChains
 pub mod SmallRecords
 pub mod SmallChoices
 pub mod SmallCounty
@@ -37,5 +32,4 @@ pub mod SmallKeys
 pub mod SmallTopologies
 pub mod SmallNames
 pub mod OwnOrder
-pub mod SmallNumbers
 pub mod SmallOrder

@@ -3,7 +3,7 @@ use Rattle.tl_number.proofs.Common.{AllKeysContained, Bool, County, Equal, Four,
 use Rattle.tl_number.proofs.Common.{IsWithinLimits, Less, None, Option, Ordering, Two, ap, arith, arrangement_within, choice_list}
 use Rattle.tl_number.proofs.Common.{choices_cmp, choices_same, chosen_county, cond, decided, false, false≢true, groups_cmp, is_gt, is_le}
 use Rattle.tl_number.proofs.Common.{lesser_choice, ltb-false, ltb-true, most_records, nat_lt, numbered_choice, numbered_is_choice, ones_cmp}
-use Rattle.tl_number.proofs.Common.{ordering_then, polygon_keys, polygons_along, refl, subst, texts_in_order, true, type_2_by_chain}
+use Rattle.tl_number.proofs.Common.{ordering_then, polygon_keys, polygons_along, refl, subst, sym, texts_in_order, true, type_2_by_chain}
 use Rattle.tl_number.proofs.Common.{type_4_by_chain, types_5_to_7_cmp, types_8_to_p_cmp, ℕ, ◌+◌, ◌∙◌, ◌≡◌, ◌≤◌}
 use Rattle.tl_number.proofs.Choices.LeastNumbers.{lesser_of, not_after_both}
 use Rattle.canonical_form.proofs.Arrangements.ArrangedCounties.{arranged_county}
@@ -12,6 +12,11 @@ pub not_greater_from : (o : Ordering) → is_le o ≡ true → is_gt o ≡ false
 not_greater_from Less e = refl
 not_greater_from Equal e = refl
 not_greater_from Greater e = absurd (false≢true e)
+
+pub greater_from : (o : Ordering) → is_le o ≡ false → is_gt o ≡ true
+greater_from Less e = absurd (false≢true (sym e))
+greater_from Equal e = absurd (false≢true (sym e))
+greater_from Greater e = refl
 
 -- What holds of two pairs holds of the pair of what is taken from both of them.
 pub of_each : {X Y : Type 0} (P : X → Y → Type 0) (b : Bool) (x y : X) (v w : Y) → P x v → P y w → P (cond b x y) (cond b v w)

@@ -7,7 +7,7 @@ use Rattle.tl_number.proofs.Common.{IsKeyOrder, IsSearchAt, PolygonKey, append-n
 use Rattle.tl_number.proofs.Common.{IsPermutation, IsPermutation-map, IsPermutation-refl, chain_polygons, directed_chain, times-permutation}
 use Rattle.tl_number.proofs.Common.{OrderOfShapes, among_known, keys_at_open, known_is_among, map-at_places, option_to_list, range_with_len}
 use Rattle.tl_number.proofs.Common.{[], ap, cond, not, refl, sym, true, ℕ, ◌&&◌, ◌++◌, ◌+◌, ◌||◌, ◌∙◌, ◌∷◌, ◌≡◌}
-use Rattle.tl_number.proofs.{Ties.PartTables.seen_known, Ties.TieNumbers.groups_at}
+use Rattle.tl_number.proofs.{Ties.PartTables.seen_known, Ties.KeyGroups.groups_at}
 
 -- ---- walking along places
 

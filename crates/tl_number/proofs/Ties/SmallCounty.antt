@@ -17,7 +17,7 @@ use Rattle.tl_number.proofs.Common.{contains, flat_map, group_at, key_keys, link
 use Rattle.tl_number.proofs.Ties.CountyParts.{all_pass, part_is, part_sides, part_within}
 use Rattle.tl_number.proofs.Ties.PickedPlaces.{AreMarked, marked_alike, marked_keys, pieces_places}
 use Rattle.tl_number.proofs.Ties.SmallChoices.{ascending_ordered, choice_flags, choice_part, choices_part, entries_part}
-use Rattle.tl_number.proofs.Ties.{ArrangedChoices.link_on_side, FixedKeys.fixed_before, KeptOpen.keeps_open, PartChoices.KeepsOpen}
+use Rattle.tl_number.proofs.Ties.{OrderedCounty.link_on_side, FixedKeys.fixed_before, KeptOpen.keeps_open, PartChoices.KeepsOpen}
 use Rattle.tl_number.specs.{CountyParts.part_of, SmallCounty.kept_places, SmallCounty.small_county}
 
 -- an arrangement with a number is the choice with it

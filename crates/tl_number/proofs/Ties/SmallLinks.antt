@@ -1,40 +1,35 @@
 -- Landmarks and their links in two choices of a county and of its small county: records of types 7 and 8 compare alike.
-use Rattle.tl_number.proofs.Common.{Among, Body7, Bool, Eight, Equal, Fields8, List, PolygonKey, Seven, Type8, [], ap, append-nil, ap₂}
-use Rattle.tl_number.proofs.Common.{bytes_cmp, carried_link, each_from, filter, filter-mapped, from_in_order, groups_cmp, image, in_order}
+use Rattle.tl_number.proofs.Common.{Among, Body7, Bool, Eight, Equal, Fields8, List, Seven, Type8, [], ap, append-nil, ap₂, bytes_cmp}
+use Rattle.tl_number.proofs.Common.{carried_link, contains, each_from, filter, filter-mapped, from_in_order, groups_cmp, image, in_order}
 use Rattle.tl_number.proofs.Common.{key_cmp, landmark_body_cmp, landmark_key, landmark_key_cmp, landmarks_in_order, lands_renamed, link_cmp}
 use Rattle.tl_number.proofs.Common.{link_key, link_part, link_part_cmp, links_arranged, links_of, map, map-map, nat_cmp, new_keys, numbered}
-use Rattle.tl_number.proofs.Common.{on, ordering_then, packed_sevens, polygons_renamed, refl, relinked, same_groups, slice_cmp, contains}
-use Rattle.tl_number.proofs.Common.{subst, sym, table_8, true, type_7_by_landmark, type_8_together, ℕ, ◌==◌, ◌∙◌, ◌∷◌, ◌≡◌}
+use Rattle.tl_number.proofs.Common.{on, ordering_then, packed_sevens, polygons_renamed, refl, relinked, same_groups, slice_cmp, subst, sym}
+use Rattle.tl_number.proofs.Common.{table_8, true, type_7_by_landmark, type_8_together, ℕ, ◌==◌, ◌∙◌, ◌∷◌, ◌≡◌}
 use Rattle.tl_number.proofs.Ties.ListsAlike.{among_filtered, images_alike, order_alike, order_mapped}
-use Rattle.tl_number.proofs.Ties.SmallRecords.{OrderedCounty, arranges_in, choice, choices_decide, eights_fit, images_in_order, new_in}
-use Rattle.tl_number.proofs.Ties.SmallRecords.{order_in}
-use Rattle.tl_number.proofs.{Landmarks.BodiesFirst.same_landmarks, Texts.SamePolygons.same_links, Ties.ArrangedChoices.keeps_cenid}
-use Rattle.tl_number.proofs.{Ties.ArrangedChoices.link_on_side, Ties.Columns.columns_alike, Ties.Columns.fields_cmp}
-use Rattle.tl_number.proofs.{Ties.SmallKeys.AreWanted, Ties.SmallTopologies.polygon_kind, Ties.SmallTopologies.polygon_number}
-
--- a polygon keeps its CENID
-cenid_is : (c : OrderedCounty) (i : ℕ) (k : PolygonKey) → (image key_cmp (new_in c i).polygons k).0 ≡ k.0
-cenid_is c i = keeps_cenid c.county (order_in c i) (arranges_in c i)
+use Rattle.tl_number.proofs.Ties.OrderedCounty.{OrderedCounty, arranges_in, cenid_kept, choice, link_on_side, new_in, order_in}
+use Rattle.tl_number.proofs.Ties.SmallRecords.{choices_decide, eights_fit, images_in_order}
+use Rattle.tl_number.proofs.{Landmarks.BodiesFirst.same_landmarks, Texts.SamePolygons.same_links, Ties.Columns.columns_alike}
+use Rattle.tl_number.proofs.{Ties.Columns.fields_cmp, Ties.KeyKinds.polygon_kind, Ties.KeyKinds.polygon_number, Ties.SmallKeys.AreWanted}
 
 -- Records of type 7 tie in any two choices of a county.
 pub sevens_tie : (c : OrderedCounty) (n k : ℕ) → Equal ≡ groups_cmp Seven (type_7_by_landmark (choice c n)) (type_7_by_landmark (choice c k))
 sevens_tie c n k = same_groups Seven (type_7_by_landmark (choice c n)) (type_7_by_landmark (choice c k)) (ap (map packed_sevens)
-    (same_landmarks c.county c.is (order_in c n) (order_in c k) (arranges_in c n).arranges (arranges_in c k).arranges))
+    (same_landmarks c.county c.is (order_in c n) (order_in c k) (arranges_in c n) (arranges_in c k)))
 
 -- So do those of type 8 if the polygons of all links have one number in both choices.
 pub eights_tie : (c : OrderedCounty) (n k : ℕ)
     → ((link : Fields8) → Among link c.county.links → polygon_number (new_in c n) (link_key link) ≡ polygon_number (new_in c k) (link_key link))
     → Equal ≡ groups_cmp Eight (type_8_together (choice c n)) (type_8_together (choice c k))
 eights_tie c n k same = same_groups Eight (type_8_together (choice c n)) (type_8_together (choice c k)) (ap (λ (ls : List Fields8). ls ∷ [])
-    (same_links c.county c.is (order_in c n) (order_in c k) (arranges_in c n).arranges (arranges_in c k).arranges
+    (same_links c.county c.is (order_in c n) (order_in c k) (arranges_in c n) (arranges_in c k)
     (each_from (λ link. image key_cmp (new_keys c.county (order_in c n)) (link_key link) ≡ image key_cmp (new_keys c.county (order_in c k)) (link_key link))
     c.county.links (λ link there.
     ap (λ keys. image key_cmp keys (link_key link)) (sym (renamed n))
-    ∙ (λ i. ((cenid_is c n (link_key link) ∙ sym (cenid_is c k (link_key link))) i, same link there i))
+    ∙ (λ i. ((cenid_kept c n (link_key link) ∙ sym (cenid_kept c k (link_key link))) i, same link there i))
     ∙ ap (λ keys. image key_cmp keys (link_key link)) (renamed k)))))
   where
     renamed : (i : ℕ) → (new_in c i).polygons ≡ new_keys c.county (order_in c i)
-    renamed i = polygons_renamed c.county (order_in c i) c.is (arranges_in c i).arranges
+    renamed i = polygons_renamed c.county (order_in c i) c.is (arranges_in c i)
 
 -- A small county with all landmarks and links. All polygons of links are wanted.
 module _ {whole small : OrderedCounty} {is_in : ℕ → Bool} (polygons : AreWanted polygon_kind whole small is_in)
@@ -52,8 +47,8 @@ module _ {whole small : OrderedCounty} {is_in : ℕ → Bool} (polygons : AreWan
   cenids_alike : (n k : ℕ) (x y : Fields8)
       → slice_cmp nat_cmp (image key_cmp (new_in whole n).polygons (link_key x)).0 (image key_cmp (new_in whole k).polygons (link_key y)).0
       ≡ slice_cmp nat_cmp (image key_cmp (new_in small n).polygons (link_key x)).0 (image key_cmp (new_in small k).polygons (link_key y)).0
-  cenids_alike n k x y = ap₂ (slice_cmp nat_cmp) (cenid_is whole n (link_key x) ∙ sym (cenid_is small n (link_key x)))
-      (cenid_is whole k (link_key y) ∙ sym (cenid_is small k (link_key y)))
+  cenids_alike n k x y = ap₂ (slice_cmp nat_cmp) (cenid_kept whole n (link_key x) ∙ sym (cenid_kept small n (link_key x)))
+      (cenid_kept whole k (link_key y) ∙ sym (cenid_kept small k (link_key y)))
 
   -- One choice.
   module _ (n : ℕ) where
@@ -105,19 +100,19 @@ module _ {whole small : OrderedCounty} {is_in : ℕ → Bool} (polygons : AreWan
     same_order : landmarks_in_order whole.county (order_in whole n) ≡ landmarks_in_order small.county (order_in small n)
     same_order =
         ap (λ keys. landmarks_along (in_order link_cmp (map (relinked keys) whole.county.links)))
-        (sym (polygons_renamed whole.county (order_in whole n) whole.is (arranges_in whole n).arranges))
+        (sym (polygons_renamed whole.county (order_in whole n) whole.is (arranges_in whole n)))
         ∙ ap landmarks_along (order_mapped link_cmp (relinked_in whole) whole.county.links)
         ∙ order_alike (on (landmark_key (map (relinked_in whole) sorted)) landmark_key_cmp)
         (on (landmark_key (map (relinked_in small) sorted)) landmark_key_cmp) whole.county.landmarks (λ x y h l. key_alike x y)
         ∙ ap landmarks_along (sym sorted_in_small)
         ∙ ap₂ (landmarks_under small) (sym links) (sym landmarks)
         ∙ ap (λ keys. in_order (on (landmark_key (in_order link_cmp (map (relinked keys) small.county.links))) landmark_key_cmp)
-        small.county.landmarks) (polygons_renamed small.county (order_in small n) small.is (arranges_in small n).arranges)
+        small.county.landmarks) (polygons_renamed small.county (order_in small n) small.is (arranges_in small n))
 
     same_lands : (new_in whole n).lands ≡ (new_in small n).lands
-    same_lands = lands_renamed whole.county (order_in whole n) whole.is (arranges_in whole n).arranges
+    same_lands = lands_renamed whole.county (order_in whole n) whole.is (arranges_in whole n)
         ∙ ap (λ (es : List (ℕ × List Body7)). numbered (map (λ e. e.0) es)) same_order
-        ∙ sym (lands_renamed small.county (order_in small n) small.is (arranges_in small n).arranges)
+        ∙ sym (lands_renamed small.county (order_in small n) small.is (arranges_in small n))
 
     -- the links are in one order under their new numbers
     abbrev carried : OrderedCounty → Fields8 → Fields8
@@ -127,11 +122,11 @@ module _ {whole small : OrderedCounty} {is_in : ℕ → Bool} (polygons : AreWan
     in_choice = in_order (on (carried whole) link_cmp) whole.county.links
 
     links_are : (choice whole n).links ≡ map (carried whole) in_choice
-    links_are = links_arranged whole.county (order_in whole n) whole.is (arranges_in whole n).arranges
+    links_are = links_arranged whole.county (order_in whole n) whole.is (arranges_in whole n)
         ∙ order_mapped link_cmp (carried whole) whole.county.links
 
     small_links_are : (choice small n).links ≡ map (carried small) in_choice
-    small_links_are = links_arranged small.county (order_in small n) small.is (arranges_in small n).arranges
+    small_links_are = links_arranged small.county (order_in small n) small.is (arranges_in small n)
         ∙ ap (λ ls. in_order link_cmp (map (carried small) ls)) links
         ∙ images_alike link_cmp link_cmp (carried whole) (carried small) whole.county.links
         (λ x y h l. ap₂ ordering_then (ap (λ lands. nat_cmp (image nat_cmp lands x.land) (image nat_cmp lands y.land)) same_lands) (parts_alike x y h l))

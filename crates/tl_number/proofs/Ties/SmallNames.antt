@@ -1,33 +1,14 @@
 -- The records of type 4 of two choices are in one order in a county and in its small county.
-use Rattle.tl_number.proofs.Common.{AllByRecursion, Bool, Chain, Fields4, Four, IfSome, Known, List, None, Option, Renumbering, Some, Type4}
-use Rattle.tl_number.proofs.Common.{[], all_at, all_in_pieces, all_known, ap, ap₂, arith, carried_many, chain_feats, drop, drop-map}
-use Rattle.tl_number.proofs.Common.{exact_unsigned, feats, flat_map, flat_map-map, fours_fit, grouped_map, groups_cmp, image, in_pieces}
-use Rattle.tl_number.proofs.Common.{length, length-map, map, map-map, map_agree_all, nat_cmp, nat_keys, numbered_from, option_and_then}
-use Rattle.tl_number.proofs.Common.{option_map, packed_fours, pieces, pieces_together, refl, rights-numbered_from, slice_get, slice_get-map}
-use Rattle.tl_number.proofs.Common.{subst, suc, sym, table_4, take-map, type_4_by_chain, unwrap_or, zero, ℕ, ◌∙◌, ◌∷◌, ◌≡◌}
-use Rattle.tl_number.proofs.Ties.Columns.{place_number, places_alike, places_cmp, rows_cmp}
-use Rattle.tl_number.proofs.Ties.SmallKeys.{AreWanted, KeyKind, key_pair, number_or_none, same_keys}
-use Rattle.tl_number.proofs.Ties.SmallRecords.{AreAlike, IsKeptPart, Making, OrderedCounty, chains_at, choice, directed_in, first_twice}
-use Rattle.tl_number.proofs.Ties.SmallRecords.{new_in, records_small, tlid_first, whole_in}
-use Rattle.tl_number.proofs.{Ties.NamesInOrder.feat_numbered, Ties.SmallNumbers.name_of_county, Ties.WantedNames.seen_named}
-
--- the number of a name
-abbrev pub new_name : Renumbering → ℕ → ℕ
-new_name r = image nat_cmp r.names
-
-abbrev pub name_kind : KeyKind nat_cmp
-name_kind = record {
-  order = nat_keys;
-  keys = chain_feats;
-  new = new_name;
-  number = new_name;
-  all = feats;
-  renumbered_keys = λ r c. refl;
-  in_all = λ c. name_of_county c.county c.shapes c.known c.is c.within;
-  above = λ c i k h. (let e = feat_numbered c.county (directed_in c i) c.is
-      (whole_in c i) k (seen_named c.county c.shapes c.known c.is c.within i k h) in omega (arith, e));
-  numbered = λ c i j k h l e. e;
-}
+use Rattle.tl_number.proofs.Common.{AllByRecursion, Bool, Chain, Fields4, Four, IfSome, Known, List, None, Option, Some, Type4, [], all_at}
+use Rattle.tl_number.proofs.Common.{all_in_pieces, all_known, ap, ap₂, arith, carried_many, drop, drop-map, exact_unsigned, feats, flat_map}
+use Rattle.tl_number.proofs.Common.{flat_map-map, fours_fit, grouped_map, groups_cmp, in_pieces, length, length-map, map, map-map}
+use Rattle.tl_number.proofs.Common.{map_agree_all, nat_cmp, nat_keys, numbered_from, option_and_then, option_map, packed_fours, pieces}
+use Rattle.tl_number.proofs.Common.{pieces_together, refl, rights-numbered_from, slice_get, slice_get-map, subst, suc, sym, table_4}
+use Rattle.tl_number.proofs.Common.{take-map, type_4_by_chain, unwrap_or, zero, ℕ, ◌∙◌, ◌∷◌, ◌≡◌}
+use Rattle.tl_number.proofs.Ties.OrderedCounty.{IsKeptPart, OrderedCounty, chains_at, choice, new_in}
+use Rattle.tl_number.proofs.Ties.SmallRecords.{AreAlike, Making, first_twice, records_small, tlid_first}
+use Rattle.tl_number.proofs.Ties.{Columns.place_number, Columns.places_alike, Columns.places_cmp, Columns.rows_cmp, KeyKinds.name_kind}
+use Rattle.tl_number.proofs.Ties.{KeyKinds.new_name, SmallKeys.AreWanted, SmallKeys.key_pair, SmallKeys.number_or_none, SmallKeys.same_keys}
 
 -- pieces of a list whose elements are mapped
 pieces_map : {X Y : Type 0} (f : X → Y) (n most : ℕ) (xs : List X) → pieces n most (map f xs) ≡ map (map f) (pieces n most xs)

@@ -1,23 +1,23 @@
 -- Two choices are in one order in a county and in its small county.
-use Rattle.tl_number.proofs.Common.{Among, Bool, County, Eight, Equal, Fields8, Five, IsCounty, IsLeastBelow, IsWithinLimits, Known}
-use Rattle.tl_number.proofs.Common.{LeavesChoices, List, OrderOfShapes, P, PolygonKey, Two, [], all_among, among-map, among_known, ap}
-use Rattle.tl_number.proofs.Common.{arranged, chain_polygons, choices, choices_cmp, cond, false, first_open, groups_cmp, is_gt, is_kept}
-use Rattle.tl_number.proofs.Common.{is_linked, is_open, key_cmp, key_keys, keys_along, keys_at_open, known-right, link_key, lt-ltb, map}
-use Rattle.tl_number.proofs.Common.{most_records, nat_cmp, or_left, or_parts, or_right, ordering_then, packed, polygon_under}
-use Rattle.tl_number.proofs.Common.{polygons_along, refl, same_groups, slice_cmp, contains, subst, sym, text_of, texts_in_order, times}
-use Rattle.tl_number.proofs.Common.{true, type_2_by_chain, type_5_by_name, type_8_together, type_p_by_number, types_1_to_4_cmp}
-use Rattle.tl_number.proofs.Common.{types_5_to_7_cmp, types_8_to_p_cmp, wanted_feats, wanted_nodes, wanted_polygons, ℕ, ◌<◌, ◌∙◌, ◌≡◌}
+use Rattle.tl_number.proofs.Common.{Among, Bool, County, Eight, Equal, Fields8, Five, IsLeastBelow, Known, LeavesChoices, List}
+use Rattle.tl_number.proofs.Common.{OrderOfShapes, PolygonKey, Two, [], all_among, among-map, among_known, ap, arranged, chain_polygons}
+use Rattle.tl_number.proofs.Common.{choices, choices_cmp, cond, contains, false, feats, first_open, groups_cmp, is_gt, is_kept, is_linked}
+use Rattle.tl_number.proofs.Common.{is_open, kept_tlids, key_cmp, key_keys, keys_along, keys_at_open, known-left, known-right, link_key}
+use Rattle.tl_number.proofs.Common.{lt-ltb, map, name_under, nat_cmp, nat_keys, or_left, or_parts, or_right, ordering_then, packed}
+use Rattle.tl_number.proofs.Common.{polygon_under, polygons_along, refl, same_groups, slice_cmp, subst, sym, text_of, texts_in_order, times}
+use Rattle.tl_number.proofs.Common.{true, type_2_by_chain, type_5_by_name, type_8_together, types_1_to_4_cmp, types_5_to_7_cmp}
+use Rattle.tl_number.proofs.Common.{types_8_to_p_cmp, wanted_feats, wanted_nodes, wanted_polygons, ℕ, ◌+◌, ◌<◌, ◌∙◌, ◌≡◌}
+use Rattle.tl_number.proofs.Ties.KeyKinds.{name_kind, node_kind, numbered_alike, polygon_kind, polygon_number}
+use Rattle.tl_number.proofs.Ties.OrderedCounty.{IsKeptPart, OrderedCounty, arranges_in, choice, link_on_side, new_in, one_map, order_in}
+use Rattle.tl_number.proofs.Ties.OrderedCounty.{stated, whole_in}
+use Rattle.tl_number.proofs.Ties.SmallCounty.{small_chains, small_choices, small_is, small_leaves, small_within}
 use Rattle.tl_number.proofs.Ties.SmallLinks.{eights_tie, linked_alike, sevens_tie}
-use Rattle.tl_number.proofs.Ties.SmallNumbers.{chains_small, is_small, names_small, nodes_small, open_names, open_nodes, open_polygons}
-use Rattle.tl_number.proofs.Ties.SmallNumbers.{polygons_small, within_small}
-use Rattle.tl_number.proofs.Ties.SmallRecords.{IsKeptPart, OrderedCounty, arranges_in, choice, new_in, one_map, ones_small, order_in}
-use Rattle.tl_number.proofs.Ties.SmallRecords.{sixes_small, stated, whole_in}
-use Rattle.tl_number.proofs.Ties.SmallTopologies.{node_kind, polygon_kind, polygon_number, topologies_small}
-use Rattle.tl_number.proofs.Ties.WantedNumbers.{polygons_hidden, polygons_same, polygons_stay, small_polygons_hidden}
-use Rattle.tl_number.proofs.{Names.ContentFirst.same_type_5, Texts.SamePoints.twos_of_numbers, Ties.ArrangedChoices.link_on_side}
-use Rattle.tl_number.proofs.{Ties.ListsAlike.value_filtered, Ties.OpenLinks.all_fail, Ties.OwnOrder.own_order, Ties.OwnOrder.own_order_is}
-use Rattle.tl_number.proofs.{Ties.SmallCounty.small_choices, Ties.SmallCounty.small_leaves, Ties.SmallKeys.AreWanted}
-use Rattle.tl_number.proofs.{Ties.SmallNames.fours_small, Ties.SmallNames.name_kind, Ties.SmallPolygons.polygon_records_small}
+use Rattle.tl_number.proofs.Ties.WantedKeys.{AreSeenAlike, opened_in, seen_alike, unopened_stays}
+use Rattle.tl_number.proofs.{Names.ContentFirst.same_type_5, Texts.SamePoints.twos_of_numbers, Ties.ListsAlike.value_filtered}
+use Rattle.tl_number.proofs.{Ties.OpenLinks.all_fail, Ties.OwnOrder.own_order, Ties.OwnOrder.own_order_is, Ties.Ranks.reordered_all}
+use Rattle.tl_number.proofs.{Ties.SmallKeys.AreWanted, Ties.SmallNames.fours_small, Ties.SmallPolygons.polygon_records_small}
+use Rattle.tl_number.proofs.{Ties.SmallRecords.ones_small, Ties.SmallRecords.sixes_small, Ties.SmallTopologies.topologies_small}
+use Rattle.tl_number.proofs.{Ties.WantedNames.names_alike, Ties.WantedNames.part_contents}
 use Rattle.tl_number.specs.{CountyParts.part_of, SmallCounty.small_county}
 
 -- Two choices of a county.
@@ -41,7 +41,7 @@ module _ (c : OrderedCounty) (n k : ℕ) where
 
   fives_tie : Equal ≡ groups_cmp Five (type_5_by_name (choice c n)) (type_5_by_name (choice c k))
   fives_tie = same_groups Five (type_5_by_name (choice c n)) (type_5_by_name (choice c k))
-      (same_type_5 c.county c.is (order_in c n) (order_in c k) (arranges_in c n).arranges (arranges_in c k).arranges)
+      (same_type_5 c.county c.is (order_in c n) (order_in c k) (arranges_in c n) (arranges_in c k))
 
 -- a small county has all landmarks with their links, or none
 landmarks_kept : (county : County) (shapes : OrderOfShapes)
@@ -61,112 +61,123 @@ contents_kept county shapes key known =
     value_filtered key_keys (λ k. contains key_cmp k (polygons_along (small_county county shapes).chains)) county.polygons key
     (lt-ltb 0 (times key_cmp key (polygons_along (small_county county shapes).chains)) known)
 
--- A county and its small county, with an order of its own.
-module _ (county : County) (shapes : OrderOfShapes) (known : LeavesChoices county shapes) (is : IsCounty county)
-    (within : IsWithinLimits most_records county) (order : OrderOfShapes) (small_known : LeavesChoices (small_county county shapes) order) where
-  abbrev whole : OrderedCounty
-  whole = record { county = county; shapes = shapes; known = known; is = is; within = within }
+-- its names keep their content
+names_kept : (county : County) (shapes : OrderOfShapes) (k : ℕ) → Known nat_cmp (feats (small_county county shapes)) k
+    → name_under (small_county county shapes) k ≡ name_under county k
+unfolding small_county
+names_kept county shapes = part_contents county (λ entry. contains nat_cmp entry.0 (kept_tlids county shapes)) (is_linked county shapes)
 
+-- A county and its small county, with an order of its own.
+module _ (whole : OrderedCounty) (order : OrderOfShapes) (small_known : LeavesChoices (small_county whole.county whole.shapes) order) where
   abbrev small : OrderedCounty
   small = record {
-    county = small_county county shapes;
+    county = small_county whole.county whole.shapes;
     shapes = order;
     known = small_known;
-    is = is_small county shapes known is within order small_known;
-    within = within_small county shapes known is within order small_known;
+    is = small_is whole.county whole.shapes whole.known whole.is;
+    within = small_within whole.county whole.shapes whole.known whole.is whole.within;
   }
 
-  part : IsKeptPart whole small (is_kept county shapes)
+  abbrev is_in : ℕ → Bool
+  is_in = is_kept whole.county whole.shapes
+
+  part : IsKeptPart whole small is_in
   part = record {
-    fixed = λ place out. (or_parts (is_open shapes.places place) _ out).0;
-    chains = chains_small county shapes known is within order small_known;
+    fixed = λ place out. (or_parts (is_open whole.shapes.places place) _ out).0;
+    chains = λ i. small_chains whole.county whole.shapes whole.known whole.is order small_known i (whole_in whole i) (whole_in small i);
   }
 
-  -- the keys that are wanted
-  nodes : AreWanted node_kind whole small (is_kept county shapes)
+  -- the nodes, polygons and names that are wanted
+  nodes_seen : AreSeenAlike node_kind (wanted_nodes whole.county whole.shapes) whole small
+  nodes_seen = seen_alike node_kind whole (wanted_nodes whole.county whole.shapes) (λ k h. h)
+      (λ place e. or_right (is_open whole.shapes.places place) _ (or_left _ _ e)) small part
+
+  nodes : AreWanted node_kind whole small is_in
   nodes = record {
-    wanted = wanted_nodes county shapes;
-    alike = nodes_small county shapes known is within order small_known;
-    opened = open_nodes county shapes known is within;
-    kept = λ place e. or_right (is_open shapes.places place) _ (or_left _ _ e);
-    left_out = λ place out. (or_parts _ _ (or_parts (is_open shapes.places place) _ out).1).0;
+    wanted = wanted_nodes whole.county whole.shapes;
+    alike = numbered_alike node_kind (wanted_nodes whole.county whole.shapes) whole small (λ n k. reordered_all nat_keys _ _ _ (nodes_seen.reordered n k))
+        (λ n k. reordered_all nat_keys _ _ _ (nodes_seen.small_reordered n k)) nodes_seen.same;
+    opened = opened_in node_kind whole (wanted_nodes whole.county whole.shapes) (λ k h. h);
+    kept = λ place e. or_right (is_open whole.shapes.places place) _ (or_left _ _ e);
   }
 
-  abbrev polygons : AreWanted polygon_kind whole small (is_kept county shapes)
+  polygon_opened : (k : PolygonKey) → Known key_cmp (keys_at_open chain_polygons whole.county whole.shapes) k
+      → Known key_cmp (wanted_polygons whole.county whole.shapes) k
+  polygon_opened k h = known-left key_keys k (keys_at_open chain_polygons whole.county whole.shapes) _ h
+
+  polygons_seen_alike : AreSeenAlike polygon_kind (wanted_polygons whole.county whole.shapes) whole small
+  polygons_seen_alike = seen_alike polygon_kind whole (wanted_polygons whole.county whole.shapes) polygon_opened
+      (λ place e. or_right (is_open whole.shapes.places place) _ (or_right _ _ (or_left _ _ e))) small part
+
+  abbrev polygons : AreWanted polygon_kind whole small is_in
   polygons = record {
-    wanted = wanted_polygons county shapes;
-    alike = polygons_small county shapes known is within order small_known;
-    opened = open_polygons county shapes known is within;
-    kept = λ place e. or_right (is_open shapes.places place) _ (or_right _ _ (or_left _ _ e));
-    left_out = λ place out. (or_parts _ _ (or_parts _ _ (or_parts (is_open shapes.places place) _ out).1).1).0;
+    wanted = wanted_polygons whole.county whole.shapes;
+    alike = numbered_alike polygon_kind (wanted_polygons whole.county whole.shapes) whole small
+        (λ n k. reordered_all key_keys _ _ _ (polygons_seen_alike.reordered n k))
+        (λ n k. reordered_all key_keys _ _ _ (polygons_seen_alike.small_reordered n k)) polygons_seen_alike.same;
+    opened = opened_in polygon_kind whole (wanted_polygons whole.county whole.shapes) polygon_opened;
+    kept = λ place e. or_right (is_open whole.shapes.places place) _ (or_right _ _ (or_left _ _ e));
   }
 
-  names : AreWanted name_kind whole small (is_kept county shapes)
+  names : AreWanted name_kind whole small is_in
   names = record {
-    wanted = wanted_feats county shapes;
-    alike = names_small county shapes known is within order small_known;
-    opened = open_names county shapes known is within;
-    kept = λ place e. or_right (is_open shapes.places place) _ (or_right _ _ (or_right _ _ e));
-    left_out = λ place out. (or_parts _ _ (or_parts _ _ (or_parts (is_open shapes.places place) _ out).1).1).1;
+    wanted = wanted_feats whole.county whole.shapes;
+    alike = names_alike whole small (seen_alike name_kind whole (wanted_feats whole.county whole.shapes) (λ k h. h)
+        (λ place e. or_right (is_open whole.shapes.places place) _ (or_right _ _ (or_right _ _ e))) small part)
+        (names_kept whole.county whole.shapes);
+    opened = opened_in name_kind whole (wanted_feats whole.county whole.shapes) (λ k h. h);
+    kept = λ place e. or_right (is_open whole.shapes.places place) _ (or_right _ _ (or_right _ _ e));
   }
 
   -- Links compare alike. If the small county has landmarks, the polygons of all links are wanted.
-  wanted_links : is_linked county shapes ≡ true → (link : Fields8) → Among link county.links
-      → contains key_cmp (link_key link) (wanted_polygons county shapes) ≡ true
-  wanted_links linked link there = lt-ltb 0 (times key_cmp (link_key link) (wanted_polygons county shapes))
-      (known-right key_keys (link_key link) (keys_at_open chain_polygons county shapes) (cond (is_linked county shapes) (map link_key county.links) [])
-      (subst (λ b. Known key_cmp (cond b (map link_key county.links) []) (link_key link)) (sym linked)
-      (among_known key_keys (link_key link) (map link_key county.links) (among-map link_key link county.links there))))
+  wanted_links : is_linked whole.county whole.shapes ≡ true → (link : Fields8) → Among link whole.county.links
+      → contains key_cmp (link_key link) (wanted_polygons whole.county whole.shapes) ≡ true
+  wanted_links linked link there = lt-ltb 0 (times key_cmp (link_key link) (wanted_polygons whole.county whole.shapes))
+      (known-right key_keys (link_key link) (keys_at_open chain_polygons whole.county whole.shapes) _
+      (subst (λ b. Known key_cmp (cond b (map link_key whole.county.links) []) (link_key link)) (sym linked)
+      (among_known key_keys (link_key link) (map link_key whole.county.links) (among-map link_key link whole.county.links there))))
 
-  -- otherwise no link has a polygon that first appears at an open place
-  closed_links : is_linked county shapes ≡ false → (n k : ℕ) (link : Fields8) → Among link county.links
+  -- otherwise no link has a polygon that first appears at an open place, so that its number could differ
+  closed_links : is_linked whole.county whole.shapes ≡ false → (n k : ℕ) (link : Fields8) → Among link whole.county.links
       → polygon_number (new_in whole n) (link_key link) ≡ polygon_number (new_in whole k) (link_key link)
   closed_links unlinked n k link there =
-      let opened : List PolygonKey = first_open key_cmp shapes.places (keys_along chain_polygons county shapes.by_shape) in
-      polygons_stay county shapes known is within small.county order small_known small.is small.within part.chains n k (link_key link)
-      (all_among (λ l. contains key_cmp (link_key l) opened ≡ false) link county.links
-      (all_fail (λ (l : Fields8). contains key_cmp (link_key l) opened) county.links unlinked) there)
-      (link_on_side county is known.sides link there)
+      let opened : List PolygonKey = first_open key_cmp whole.shapes.places (keys_along chain_polygons whole.county whole.shapes.by_shape) in
+      let known = link_on_side whole.county whole.is whole.known.sides link there in
+      polygon_kind.number_is whole n (link_key link) (polygon_kind.listed whole n (link_key link) known)
+      ∙ ap (λ p. 1 + p) (unopened_stays polygon_kind whole n k (link_key link) (all_among (λ l. contains key_cmp (link_key l) opened ≡ false) link
+      whole.county.links (all_fail (λ (l : Fields8). contains key_cmp (link_key l) opened) whole.county.links unlinked) there))
+      ∙ sym (polygon_kind.number_is whole k (link_key link) (polygon_kind.listed whole k (link_key link) known))
 
   links_small : (n k : ℕ) → groups_cmp Eight (type_8_together (choice whole n)) (type_8_together (choice whole k))
       ≡ groups_cmp Eight (type_8_together (choice small n)) (type_8_together (choice small k))
-  links_small n k = go (is_linked county shapes) refl
+  links_small n k = go (is_linked whole.county whole.shapes) refl
     where
-      go : (b : Bool) → is_linked county shapes ≡ b → groups_cmp Eight (type_8_together (choice whole n)) (type_8_together (choice whole k))
+      go : (b : Bool) → is_linked whole.county whole.shapes ≡ b → groups_cmp Eight (type_8_together (choice whole n)) (type_8_together (choice whole k))
           ≡ groups_cmp Eight (type_8_together (choice small n)) (type_8_together (choice small k))
-      go true e = linked_alike polygons (landmarks_kept county shapes ∙ ap (λ b. cond b county.landmarks []) e)
-          (links_kept county shapes ∙ ap (λ b. cond b county.links []) e) (wanted_links e) n k
+      go true e = linked_alike polygons (landmarks_kept whole.county whole.shapes ∙ ap (λ b. cond b whole.county.landmarks []) e)
+          (links_kept whole.county whole.shapes ∙ ap (λ b. cond b whole.county.links []) e) (wanted_links e) n k
       go false e = sym (eights_tie whole n k (closed_links e n k))
-          ∙ eights_tie small n k (λ link there. absurd (subst (Among link) (links_kept county shapes ∙ ap (λ b. cond b county.links []) e) there))
-
-  -- Records of polygons compare alike.
-  records_of_polygons : (n k : ℕ) → groups_cmp P (type_p_by_number (choice whole n)) (type_p_by_number (choice whole k))
-      ≡ groups_cmp P (type_p_by_number (choice small n)) (type_p_by_number (choice small k))
-  records_of_polygons n k = polygon_records_small polygons (contents_kept county shapes)
-      (polygons_same county shapes known is within small.county order small_known small.is small.within part.chains) n k
-      (polygons_hidden county shapes known is within small.county order small_known small.is small.within part.chains n k)
-      (small_polygons_hidden county shapes known is within small.county order small_known small.is small.within part.chains n k)
+          ∙ eights_tie small n k (λ link there. absurd (subst (Among link) (links_kept whole.county whole.shapes ∙ ap (λ b. cond b whole.county.links []) e) there))
 
   -- So two choices are in one order.
-  same_order : (n k : ℕ) → choices_cmp small.county n k ≡ choices_cmp county n k
+  same_order : (n k : ℕ) → choices_cmp small.county n k ≡ choices_cmp whole.county n k
   same_order n k =
       types_decide small n k
       ∙ sym (λ i. ordering_then
       (ordering_then (ones_small part n k i) (ordering_then ((sym (twos_tie whole n k) ∙ twos_tie small n k) i) (fours_small part names n k i)))
       (ordering_then (ordering_then ((sym (fives_tie whole n k) ∙ fives_tie small n k) i)
       (ordering_then (sixes_small part n k i) ((sym (sevens_tie whole n k) ∙ sevens_tie small n k) i)))
-      (ordering_then (links_small n k i) (ordering_then (topologies_small part nodes polygons n k i) (records_of_polygons n k i)))))
+      (ordering_then (links_small n k i) (ordering_then (topologies_small part nodes polygons n k i) (polygon_records_small polygons polygons_seen_alike (contents_kept whole.county whole.shapes) n k i)))))
       ∙ sym (types_decide whole n k)
 
-module _ (county : County) (shapes : OrderOfShapes) (known : LeavesChoices county shapes) (is : IsCounty county)
-    (within : IsWithinLimits most_records county) where
+module _ (c : OrderedCounty) where
   -- Two choices are in one order in a county and in its small county.
-  pub small_same_order : (n m : ℕ) → choices_cmp (small_county county shapes) n m ≡ choices_cmp county n m
-  small_same_order = same_order county shapes known is within (own_order (small_county county shapes))
-      (small_leaves county shapes known is (own_order (small_county county shapes)) (own_order_is (small_county county shapes)))
+  small_same_order : (n k : ℕ) → choices_cmp (small_county c.county c.shapes) n k ≡ choices_cmp c.county n k
+  small_same_order = same_order c (own_order (small_county c.county c.shapes)) (small_leaves c.county c.shapes c.known c.is
+      (own_order (small_county c.county c.shapes)) (own_order_is (small_county c.county c.shapes)))
 
   -- So the least choice of the small county is the county's.
-  pub small_least : (k : ℕ) → IsLeastBelow (small_county county shapes) (choices (small_county county shapes)) k
-      → IsLeastBelow county (choices county) k
+  pub small_least : (k : ℕ) → IsLeastBelow (small_county c.county c.shapes) (choices (small_county c.county c.shapes)) k
+      → IsLeastBelow c.county (choices c.county) k
   small_least k least m l = subst (λ o. is_gt o ≡ false) (small_same_order k m)
-      (least m (subst (λ count. m < count) (sym (small_choices county shapes known is)) l))
+      (least m (subst (λ count. m < count) (sym (small_choices c.county c.shapes c.known c.is)) l))

@@ -1,17 +1,17 @@
 -- The records of type P in two choices of a county and of its small county compare alike.
 use Rattle.tl_number.proofs.Common.{AllByRecursion, Among, BodyP, Bool, FieldsP, FitsRecord, IsApart, Known, List, None, Option, P}
-use Rattle.tl_number.proofs.Common.{PolygonKey, Some, TypeP, [], all_filter, all_map, all_unmap, ap, ap₂, by_number, cond, cons_option}
-use Rattle.tl_number.proofs.Common.{false, filter, filter_map, first_seen-apart, grouped, grouped_selected, groups_cmp, image, images-lefts}
-use Rattle.tl_number.proofs.Common.{is_some, key_cmp, key_keys, lefts-numbered, map, map-equal_all, map-map, nat_list_cmp_total, numbered}
-use Rattle.tl_number.proofs.Common.{numbered_choice, option_and_then, packed_body, packed_p, placed, polygon_lefts, polygon_under}
-use Rattle.tl_number.proofs.Common.{polygons_along, polygons_by_number, polygons_fit, polygons_in_order, polygons_renamed, records_cmp}
-use Rattle.tl_number.proofs.Common.{refl, slice_cmp, spelling_cmp, spelling_of, contains, subst, sym, table_p, tied_itself, true}
-use Rattle.tl_number.proofs.Common.{type_p_by_number, under_cenid, under_number, unwrap_or, ℕ, ◌∙◌, ◌∷◌, ◌≡◌}
-use Rattle.tl_number.proofs.Ties.Columns.{columns_alike, fields_cmp, lists_decide}
-use Rattle.tl_number.proofs.Ties.ListsAlike.{among_filtered, filters_alike, filters_swap}
-use Rattle.tl_number.proofs.Ties.SmallRecords.{OrderedCounty, arranges_in, choice, images_in_order, new_in, order_in, stated, whole_in}
-use Rattle.tl_number.proofs.{Ties.ArrangedChoices.choice_arranges, Ties.ArrangedChoices.numbered_on_side, Ties.SmallTopologies.polygon_kind}
-use Rattle.tl_number.proofs.{Ties.Ranks.masked_by, Ties.Ranks.wanted_decide, Ties.SmallKeys.AreWanted, Ties.SmallTopologies.polygon_number}
+use Rattle.tl_number.proofs.Common.{PolygonKey, Some, TypeP, [], all_filter, all_map, all_unmap, among_known, ap, ap₂, by_number}
+use Rattle.tl_number.proofs.Common.{chain_polygons, cond, cons_option, contains, false, filter, filter_map, first_seen-apart, grouped}
+use Rattle.tl_number.proofs.Common.{grouped_selected, groups_cmp, image, images-lefts, is_some, key_cmp, key_keys, lefts-numbered, map}
+use Rattle.tl_number.proofs.Common.{map-equal_all, map-map, nat_list_cmp_total, numbered, option_and_then, packed_body, packed_p, placed}
+use Rattle.tl_number.proofs.Common.{polygon_lefts, polygon_under, polygons_along, polygons_by_number, polygons_fit, polygons_in_order}
+use Rattle.tl_number.proofs.Common.{polygons_renamed, records_cmp, refl, slice_cmp, spelling_cmp, spelling_of, subst, sym, table_p}
+use Rattle.tl_number.proofs.Common.{tied_itself, true, type_p_by_number, under_cenid, under_number, unwrap_or, ℕ, ◌∙◌, ◌∷◌, ◌≡◌}
+use Rattle.tl_number.proofs.Ties.KeyKinds.{polygon_kind, polygon_number, polygons_seen, seen_in}
+use Rattle.tl_number.proofs.Ties.OrderedCounty.{OrderedCounty, arranges_in, choice, new_in, order_in, whole_in}
+use Rattle.tl_number.proofs.{Ties.Columns.columns_alike, Ties.Columns.fields_cmp, Ties.Columns.lists_decide, Ties.ListsAlike.among_filtered}
+use Rattle.tl_number.proofs.{Ties.ListsAlike.filters_alike, Ties.ListsAlike.filters_swap, Ties.Ranks.masked_by, Ties.Ranks.wanted_decide}
+use Rattle.tl_number.proofs.{Ties.SmallKeys.AreWanted, Ties.SmallRecords.images_in_order, Ties.WantedKeys.AreSeenAlike}
 
 -- a content for polygons without a record, which is never read
 abbrev no_body : BodyP
@@ -33,12 +33,12 @@ module _ (c : OrderedCounty) where
   abbrev pub record_in : ℕ → PolygonKey → FieldsP
   record_in i key = record_of i key (body_of key)
 
-  -- the polygons by first appearance, and those that have a record
-  abbrev pub seen_in : ℕ → List PolygonKey
-  seen_in i = polygons_in_order c.county (numbered_choice c.county i)
+  -- the polygons of chains by first appearance, and those that have a record
+  abbrev pub polygons_at : ℕ → List PolygonKey
+  polygons_at = seen_in key_cmp chain_polygons c
 
   abbrev pub with_record : ℕ → List PolygonKey
-  with_record i = filter has_record (seen_in i)
+  with_record i = filter has_record (polygons_at i)
 
   -- records are made of polygons that have one
   selected : (i : ℕ) (pairs : List (PolygonKey × ℕ)) → AllByRecursion (λ (p : PolygonKey × ℕ). image key_cmp (new_in c i).polygons p.0 ≡ (p.0.0, p.1)) pairs
@@ -60,23 +60,22 @@ module _ (c : OrderedCounty) where
 
   records_are : (i : ℕ) → grouped (type_p_by_number (choice c i)) ≡ map (record_in i) (with_record i)
   records_are i =
-      let seen : List PolygonKey = polygons_in_order c.county (order_in c i) in
-      let at = arranges_in c i in
+      let order = order_in c i in
+      let seen : List PolygonKey = polygons_in_order c.county order in
       let pairs : List (PolygonKey × PolygonKey) = (new_in c i).polygons in
-      let left : map (λ (p : PolygonKey × PolygonKey). p.0) pairs ≡ seen = polygon_lefts c.county (order_in c i) c.is at.arranges at.sides in
+      let left : map (λ (p : PolygonKey × PolygonKey). p.0) pairs ≡ seen = polygon_lefts c.county order c.is (arranges_in c i) c.known.sides in
       let apart : IsApart key_cmp (map (λ (p : PolygonKey × PolygonKey). p.0) pairs) =
-      subst (IsApart key_cmp) (sym left) (first_seen-apart key_keys (polygons_along (placed c.county (order_in c i)))) in
+      subst (IsApart key_cmp) (sym left) (first_seen-apart key_keys (polygons_along (placed c.county order))) in
       let numbers : AllByRecursion (λ (p : PolygonKey × ℕ). image key_cmp pairs p.0 ≡ (p.0.0, p.1)) (numbered seen) =
       map-equal_all (λ (p : PolygonKey × ℕ). image key_cmp pairs p.0) (λ p. (p.0.0, p.1)) (numbered seen)
       (sym (map-map (image key_cmp pairs) (λ (p : PolygonKey × ℕ). p.0) (numbered seen))
       ∙ ap (map (image key_cmp pairs)) (lefts-numbered seen ∙ sym left) ∙ images-lefts key_keys pairs apart
-      ∙ ap (map (λ (p : PolygonKey × PolygonKey). p.1)) (polygons_renamed c.county (order_in c i) c.is at.arranges)
+      ∙ ap (map (λ (p : PolygonKey × PolygonKey). p.1)) (polygons_renamed c.county order c.is (arranges_in c i))
       ∙ map-map (λ (q : PolygonKey × PolygonKey). q.1) under_cenid (numbered seen)) in
       grouped_selected packed_p (polygons_by_number (choice c i))
-      ∙ ap (filter_map packed_p) (sym (by_number c.county (order_in c i) c.is at.arranges at.sides))
+      ∙ ap (filter_map packed_p) (sym (by_number c.county order c.is (arranges_in c i) c.known.sides))
       ∙ selected i (numbered seen) numbers
-      ∙ ap (λ ks. map (record_in i) (filter has_record ks)) (lefts-numbered seen
-      ∙ ap (polygons_in_order c.county) (stated c i))
+      ∙ ap (λ ks. map (record_in i) (filter has_record ks)) (lefts-numbered seen ∙ sym (polygons_seen c i))
 
   -- they fit
   records_fit : (i : ℕ) → AllByRecursion (λ r. FitsRecord (P r)) (map (record_in i) (with_record i))
@@ -84,8 +83,8 @@ module _ (c : OrderedCounty) where
       subst (AllByRecursion (λ r. FitsRecord (P r))) (records_are i) (polygons_fit (choice c i) whole.is_county whole.within_limits)
 
   -- the polygons are on sides
-  on_side : (i : ℕ) (key : PolygonKey) → Among key (seen_in i) → Known key_cmp (polygons_along c.county.chains) key
-  on_side i = numbered_on_side c.county (numbered_choice c.county i) (choice_arranges c.county c.is c.within c.known.sides i)
+  on_side : (i : ℕ) (key : PolygonKey) → Among key (polygons_at i) → Known key_cmp (polygons_along c.county.chains) key
+  on_side i key there = polygon_kind.in_all c i key (among_known key_keys key (polygons_at i) there)
 
   -- If two choices differ in wanted polygons alone, the records of these decide.
   wanted_records : (wanted : PolygonKey → Bool) (n k : ℕ) → masked_by wanted (with_record n) ≡ masked_by wanted (with_record k)
@@ -97,7 +96,7 @@ module _ (c : OrderedCounty) where
       ap₂ records_cmp (ap (map P) (records_are n) ∙ map-map P (record_in n) (with_record n)) (ap (map P) (records_are k) ∙ map-map P (record_in k) (with_record k))
       ∙ wanted_decide wanted spelling_cmp (λ key. P (record_in n key)) (λ key. P (record_in k key)) (with_record n) (with_record k) masked
       (λ key there out. ap (λ number. spelling_cmp (P (record_in n key)) (P (record { cenid = key.0; polyid = number; body = unwrap_or (body_of key) no_body })))
-      (sym (stay key out (on_side n key (among_filtered has_record key (seen_in n) there).0)))
+      (sym (stay key out (on_side n key (among_filtered has_record key (polygons_at n) there).0)))
       ∙ tied_itself nat_list_cmp_total (spelling_of (P (record_in n key))))
       ∙ sym (ap₂ records_cmp (map-map P (record_in n) (filter wanted (with_record n))) (map-map P (record_in k) (filter wanted (with_record k))))
       ∙ lists_decide TypeP (map (record_in n) (filter wanted (with_record n))) (map (record_in k) (filter wanted (with_record k))) (fit n) (fit k)
@@ -107,51 +106,46 @@ module _ (c : OrderedCounty) where
           (all_filter (λ key. FitsRecord (P (record_in i key))) wanted (with_record i)
           (all_unmap (λ r. FitsRecord (P r)) (record_in i) (with_record i) (records_fit i)))
 
--- A small county, in which polygons keep their content, and wanted ones their order. In two choices other polygons that pass a test have the same
--- places.
+-- A small county, in which polygons keep their content, and wanted ones their order.
 module _ {whole small : OrderedCounty} {is_in : ℕ → Bool} (polygons : AreWanted polygon_kind whole small is_in)
+    (seen : AreSeenAlike polygon_kind polygons.wanted whole small)
     (contents : (key : PolygonKey) → Known key_cmp (polygons_along small.county.chains) key
     → polygon_under small.county key ≡ polygon_under whole.county key) where
   abbrev pub is_wanted : PolygonKey → Bool
   is_wanted key = contains key_cmp key polygons.wanted
 
-  module _ (same : (i : ℕ) → filter is_wanted (seen_in whole i) ≡ filter is_wanted (seen_in small i)) where
-    abbrev pub Masked : OrderedCounty → ℕ → ℕ → Type 0
-    Masked c n k = (test : PolygonKey → Bool) → masked_by is_wanted (filter test (seen_in c n)) ≡ masked_by is_wanted (filter test (seen_in c k))
+  bodies : (i : ℕ) (key : PolygonKey) → Among key (polygons_at small i) → body_of small key ≡ body_of whole key
+  bodies i key there = ap (option_and_then (λ body. body)) (contents key (on_side small i key there))
 
-    bodies : (i : ℕ) (key : PolygonKey) → Among key (seen_in small i) → body_of small key ≡ body_of whole key
-    bodies i key there = ap (option_and_then (λ body. body)) (contents key (on_side small i key there))
+  -- the wanted polygons with a record are the same
+  same_keys : (i : ℕ) → filter is_wanted (with_record whole i) ≡ filter is_wanted (with_record small i)
+  same_keys i =
+      filters_swap is_wanted (has_record whole) (polygons_at whole i)
+      ∙ ap (filter (has_record whole)) (seen.same i)
+      ∙ filters_swap (has_record whole) is_wanted (polygons_at small i)
+      ∙ ap (filter is_wanted) (filters_alike (has_record whole) (has_record small) (polygons_at small i) (λ key there. ap is_some (sym (bodies i key there))))
 
-    -- the wanted polygons with a record are the same
-    same_keys : (i : ℕ) → filter is_wanted (with_record whole i) ≡ filter is_wanted (with_record small i)
-    same_keys i =
-        filters_swap is_wanted (has_record whole) (seen_in whole i)
-        ∙ ap (filter (has_record whole)) (same i)
-        ∙ filters_swap (has_record whole) is_wanted (seen_in small i)
-        ∙ ap (filter is_wanted) (filters_alike (has_record whole) (has_record small) (seen_in small i) (λ key there. ap is_some (sym (bodies i key there))))
+  -- The records of type P are in one order in both counties.
+  pub polygon_records_small : (n k : ℕ) → groups_cmp P (type_p_by_number (choice whole n)) (type_p_by_number (choice whole k))
+      ≡ groups_cmp P (type_p_by_number (choice small n)) (type_p_by_number (choice small k))
+  polygon_records_small n k =
+      wanted_records whole is_wanted n k ((seen.reordered n k).masked (has_record whole)) (polygons.alike n k).stay
+      ∙ ap₂ (λ xs ys. slice_cmp (fields_cmp TypeP) (map (record_in whole n) xs) (map (record_in whole k) ys)) (same_keys n) (same_keys k)
+      ∙ images_in_order (fields_cmp TypeP) (record_in whole n) (record_in small n) (record_in whole k) (record_in small k) (wanted_in n) (wanted_in k) pair
+      ∙ sym (wanted_records small is_wanted n k ((seen.small_reordered n k).masked (has_record small)) (polygons.alike n k).small_stay)
+    where
+      wanted_in : ℕ → List PolygonKey
+      wanted_in i = filter is_wanted (with_record small i)
 
-    -- The records of type P are in one order in both counties.
-    pub polygon_records_small : (n k : ℕ) → Masked whole n k → Masked small n k
-        → groups_cmp P (type_p_by_number (choice whole n)) (type_p_by_number (choice whole k))
-        ≡ groups_cmp P (type_p_by_number (choice small n)) (type_p_by_number (choice small k))
-    polygon_records_small n k masked small_masked =
-        wanted_records whole is_wanted n k (masked (has_record whole)) (polygons.alike n k).stay
-        ∙ ap₂ (λ xs ys. slice_cmp (fields_cmp TypeP) (map (record_in whole n) xs) (map (record_in whole k) ys)) (same_keys n) (same_keys k)
-        ∙ images_in_order (fields_cmp TypeP) (record_in whole n) (record_in small n) (record_in whole k) (record_in small k) (wanted_in n) (wanted_in k) pair
-        ∙ sym (wanted_records small is_wanted n k (small_masked (has_record small)) (polygons.alike n k).small_stay)
-      where
-        wanted_in : ℕ → List PolygonKey
-        wanted_in i = filter is_wanted (with_record small i)
+      there : (i : ℕ) (key : PolygonKey) → Among key (wanted_in i) → (is_wanted key ≡ true) × Among key (polygons_at small i)
+      there i key h = let found = among_filtered is_wanted key (with_record small i) h in
+          (found.1, (among_filtered (has_record small) key (polygons_at small i) found.0).0)
 
-        there : (i : ℕ) (key : PolygonKey) → Among key (wanted_in i) → (is_wanted key ≡ true) × Among key (seen_in small i)
-        there i key h = let found = among_filtered is_wanted key (with_record small i) h in
-            (found.1, (among_filtered (has_record small) key (seen_in small i) found.0).0)
-
-        pair : (x y : PolygonKey) → Among x (wanted_in n) → Among y (wanted_in k)
-            → fields_cmp TypeP (record_in whole n x) (record_in whole k y) ≡ fields_cmp TypeP (record_in small n x) (record_in small k y)
-        pair x y h l =
-            let one = there n x h in
-            let other = there k y l in
-            columns_alike 3 table_p (record_in whole n x) (record_in whole k y) (record_of small n x (body_of whole x)) (record_of small k y (body_of whole y))
-            (refl, λ _. (refl, λ _. ((polygons.alike n k).wanted_alike x y one.0 other.0 (on_side small n x one.1) (on_side small k y other.1), λ _. refl)))
-            ∙ ap₂ (λ a b. fields_cmp TypeP (record_of small n x a) (record_of small k y b)) (sym (bodies n x one.1)) (sym (bodies k y other.1))
+      pair : (x y : PolygonKey) → Among x (wanted_in n) → Among y (wanted_in k)
+          → fields_cmp TypeP (record_in whole n x) (record_in whole k y) ≡ fields_cmp TypeP (record_in small n x) (record_in small k y)
+      pair x y h l =
+          let one = there n x h in
+          let other = there k y l in
+          columns_alike 3 table_p (record_in whole n x) (record_in whole k y) (record_of small n x (body_of whole x)) (record_of small k y (body_of whole y))
+          (refl, λ _. (refl, λ _. ((polygons.alike n k).wanted_alike x y one.0 other.0 (on_side small n x one.1) (on_side small k y other.1), λ _. refl)))
+          ∙ ap₂ (λ a b. fields_cmp TypeP (record_of small n x a) (record_of small k y b)) (sym (bodies n x one.1)) (sym (bodies k y other.1))

@@ -1,83 +1,20 @@
 -- The records of a type that are made of chains, in two choices of a county and of its small county: types 1, 4, 6 and I.
-use Rattle.tl_number.proofs.Common.{AllByRecursion, [], type_2_by_chain, type_4_by_chain, type_6_by_chain, type_8_together, type_i_by_chain}
-use Rattle.tl_number.proofs.Common.{Among, AreWhole, FieldsOf, IsCounty, Ordering, all_left, all_map, arranged, arranges, decided, table_of}
-use Rattle.tl_number.proofs.Common.{AreSame, IsWithinLimits, all_everywhere, all_themselves, arrangement_of, exact_unsigned, range_with_len}
-use Rattle.tl_number.proofs.Common.{Arrangement, nat_list_cmp_total, numbered_choice, type_1_by_chain, type_7_by_landmark, type_p_by_number}
-use Rattle.tl_number.proofs.Common.{Bool, choices_same, grouped_lone, most_records, ordering_then, packed_sixes, types_1_to_4, types_5_to_7}
-use Rattle.tl_number.proofs.Common.{Chain, Eight, Equal, Four, Less, List, None, Seven, Some, Type1, Type6, arith, drop, false, refl, subst}
-use Rattle.tl_number.proofs.Common.{County, I, Option, Ranges, Record, filter, grouped, is_open, length, map-map, nat_cmp, table_1, table_6}
-use Rattle.tl_number.proofs.Common.{DirectedChain, LeavesChoices, OrderOfShapes, carried_many, nat_cmp_total, numbered_from, type_5_by_name}
-use Rattle.tl_number.proofs.Common.{FitsRecord, RecordType, Renumbering, grouped_map, packed-fits, spelling_of, tied_itself, types_8_to_p}
-use Rattle.tl_number.proofs.Common.{Five, all_right, all_unmap, at_places, none_past, record_of, slice_cmp, slice_get, then_same, unwrap_or}
-use Rattle.tl_number.proofs.Common.{Greater, all_groups, groups_cmp, kept_entry, length-map, option_map, packed_one, renumbered, then-equal}
-use Rattle.tl_number.proofs.Common.{One, P, Six, Two, ap, ap₂, map, suc, sym, true, zero, ℕ, ◌++◌, ◌+◌, ◌<◌, ◌∙◌, ◌∷◌, ◌≡◌, ◌≢◌}
+use Rattle.tl_number.proofs.Common.{AllByRecursion, IsWithinLimits, One, type_4_by_chain, type_6_by_chain, type_8_together, type_i_by_chain}
+use Rattle.tl_number.proofs.Common.{Among, Chain, Eight, Five, Ranges, Record, grouped, is_open, length, map-map, nat_cmp, table_1, table_6}
+use Rattle.tl_number.proofs.Common.{AreSame, FieldsOf, Greater, IsCounty, Option, Ordering, all_left, all_map, decided, table_of, unwrap_or}
+use Rattle.tl_number.proofs.Common.{Bool, carried_many, grouped_lone, most_records, ordering_then, packed_sixes, those_decide, those_groups}
+use Rattle.tl_number.proofs.Common.{County, FitsRecord, RecordType, all_groups, groups_cmp, kept_entry, length-map, option_map, tied_itself}
+use Rattle.tl_number.proofs.Common.{Equal, Four, Less, List, None, Seven, Some, Type1, Type6, arith, drop, false, refl, subst, true, zero}
+use Rattle.tl_number.proofs.Common.{I, P, Six, Two, [], ap, ap₂, map, suc, sym, ℕ, ◌++◌, ◌+◌, ◌<◌, ◌∙◌, ◌∷◌, ◌≡◌, ◌≢◌}
+use Rattle.tl_number.proofs.Common.{Renumbering, nat_list_cmp_total, type_1_by_chain, type_2_by_chain, type_7_by_landmark, type_p_by_number}
+use Rattle.tl_number.proofs.Common.{all_everywhere, all_right, all_themselves, exact_unsigned, nat_cmp_total, numbered_from, type_5_by_name}
+use Rattle.tl_number.proofs.Common.{all_unmap, grouped_map, groups_from, packed-fits, spelling_of, types_1_to_4, types_5_to_7, types_8_to_p}
+use Rattle.tl_number.proofs.Common.{none_past, packed_one, record_of, renumbered, slice_cmp, slice_get, then-equal, then_same, those_from}
 use Rattle.tl_number.proofs.Ties.Columns.{AreColumnsAlike, columns_alike, columns_decide, fields_cmp, lists_decide, rows_cmp, tied_fields}
 use Rattle.tl_number.proofs.Ties.KeptParts.{IsKept, IsThere, Kept, all_are_there, all_kept, at_place, at_rank, kept_order, kept_parts}
 use Rattle.tl_number.proofs.Ties.KeptParts.{lists_alike, place_groups, rank_groups}
-use Rattle.tl_number.proofs.Ties.SmallChains.{chains_in, chains_numbered, choice_county, length_chains, same_chain}
-use Rattle.tl_number.proofs.{Ties.ArrangedChoices.IsArrangementOf, Ties.FixedNumbers.chains_of, Ties.FixedNumbers.new_of}
-use Rattle.tl_number.proofs.{Ties.TieNumbers.choice_of, Ties.TieNumbers.whole_numbered}
-use Rattle.record_groups.proofs.Texts.OpenPlaces.{groups_from, those_decide, those_from, those_groups}
-
--- ---- choices
-
--- A county with an order of its shapes that leaves its choices.
-pub record OrderedCounty : Type 0 where
-  pub county : County
-  pub shapes : OrderOfShapes
-  pub known : LeavesChoices county shapes
-  pub is : IsCounty county
-  pub within : IsWithinLimits most_records county
-
--- the chains of a choice, its county, its new numbers, and its arrangement
-abbrev pub chains_at : OrderedCounty → ℕ → List Chain
-chains_at c i = chains_in c.county c.shapes c.known c.is c.within i
-
-abbrev pub choice : OrderedCounty → ℕ → County
-choice c i = choice_county c.county c.shapes c.known c.is c.within i
-
-abbrev pub new_in : OrderedCounty → ℕ → Renumbering
-new_in c i = new_of c.county c.shapes c.known c.is c.within i
-
-abbrev pub directed_in : OrderedCounty → ℕ → List DirectedChain
-directed_in c i = chains_of c.county c.shapes c.known c.is c.within i
-
-abbrev pub order_in : OrderedCounty → ℕ → Arrangement
-order_in c i = arrangement_of c.county (directed_in c i)
-
-abbrev pub whole_in : (c : OrderedCounty) (i : ℕ) → AreWhole c.county (directed_in c i)
-whole_in c i = whole_numbered c.county c.shapes c.known c.is c.within i
-
-pub arranges_in : (c : OrderedCounty) (i : ℕ) → IsArrangementOf c.county (order_in c i)
-arranges_in c i =
-    record { is = c.is; within = c.within; sides = c.known.sides; arranges = arranges c.county (directed_in c i) c.is (whole_in c i) }
-
--- the arrangement is the one with the choice's number
-pub stated : (c : OrderedCounty) (i : ℕ) → order_in c i ≡ numbered_choice c.county i
-stated c = choice_of c.county c.shapes c.known c.is c.within
-
--- a choice has as many chains as the order of shapes, and at each fixed place the same chain as other choices
-pub length_at : (c : OrderedCounty) (i : ℕ) → length (chains_at c i) ≡ length c.shapes.by_shape
-length_at c = length_chains c.county c.shapes c.known c.is c.within
-
-pub same_at : (c : OrderedCounty) (n k place : ℕ) → is_open c.shapes.places place ≡ false
-    → slice_get (chains_at c n) place ≡ slice_get (chains_at c k) place
-same_at c = same_chain c.county c.shapes c.known c.is c.within
-
--- the places of a county that pass a test
-abbrev pub places_in : OrderedCounty → (ℕ → Bool) → List ℕ
-places_in c is_in = filter is_in (range_with_len 0 (length c.shapes.by_shape))
-
--- A small county has the chains at kept places, in each choice. Each place that isn't kept is fixed.
-pub record IsKeptPart (whole small : OrderedCounty) (is_in : ℕ → Bool) : Type 0 where
-  pub fixed : (place : ℕ) → is_in place ≡ false → is_open whole.shapes.places place ≡ false
-  pub chains : (i : ℕ) → chains_at small i ≡ at_places (chains_at whole i) (places_in whole is_in)
-
--- the counties of two choices are the same map
-pub one_map : (c : OrderedCounty) (n k : ℕ) → AreSame (choice c n) (choice c k)
-one_map c n k = subst (λ a. AreSame (arranged c.county a) (choice c k)) (sym (stated c n))
-    (subst (λ a. AreSame (arranged c.county (numbered_choice c.county n)) (arranged c.county a)) (sym (stated c k))
-    (choices_same c.county c.is c.known.sides n k))
+use Rattle.tl_number.proofs.Ties.OrderedCounty.{IsKeptPart, OrderedCounty, chains_at, chains_numbered, choice, length_at, new_in, one_map}
+use Rattle.tl_number.proofs.Ties.OrderedCounty.{places_in, same_at, whole_in}
 
 -- ---- records of one type
 
@@ -165,7 +102,7 @@ module _ {t : RecordType} {Y : Type 0} (m : Making t Y) where
     -- all records are made of chains
     pub records_are : (i : ℕ) → records_in i ≡ grouped (map (λ (e : ℕ × Chain). made_in i e.0 e.1) (numbered_from 1 (chains_at c i)))
     records_are i =
-        ap (λ es. grouped (map m.pack es)) (chains_numbered c.county c.shapes c.known c.is c.within i)
+        ap (λ es. grouped (map m.pack es)) (chains_numbered c i)
         ∙ ap grouped (map-map m.pack (kept_entry (new_in c i)) (numbered_from 1 (chains_at c i)))
         ∙ (λ j. grouped (map (λ (e : ℕ × Chain). m.packs (new_in c i) e.0 e.1 j) (numbered_from 1 (chains_at c i))))
 

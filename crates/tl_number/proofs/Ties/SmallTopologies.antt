@@ -1,17 +1,15 @@
 -- The records of type I of two choices are in one order in a county and in its small county.
-use Rattle.tl_number.proofs.Common.{AllByRecursion, all_right, chain_polygons, nat_cmp_total, numbered_from, option_to_list, polygons_along}
-use Rattle.tl_number.proofs.Common.{Bool, I, List, None, Some, [], ap, map, refl, suc, sym, zero, ℕ, ◌++◌, ◌+◌, ◌∙◌, ◌∷◌, ◌≡◌}
-use Rattle.tl_number.proofs.Common.{Chain, FitsRecord, PolygonKey, groups_cmp, known-here, known-left, nodes_along, option_map, tied_itself}
-use Rattle.tl_number.proofs.Common.{FieldsI, Option, TypeI, ap₂, arith, grouped, key_cmp, key_on, length, nat_cmp, packed_i, side_of, subst}
-use Rattle.tl_number.proofs.Common.{Known, all_unmap, key_keys, key_under, nat_keys, renumbered, same_Some, slice_cmp, slice_get, unwrap_or}
-use Rattle.tl_number.proofs.Common.{PolygonSide, Renumbering, all_left, carried_many, chain_nodes, grouped_lone, known-right, ordering_then}
-use Rattle.tl_number.proofs.Common.{chain_nodes-renumbered, chain_polygons-renumbered, renumbered_polygon, renumbered_side, type_i_by_chain}
-use Rattle.tl_number.proofs.Ties.SmallKeys.{AreWanted, KeyKind, key_pair, same_keys, small_there}
-use Rattle.tl_number.proofs.Ties.SmallRecords.{AreAlike, IsKeptPart, Making, OrderedCounty, by_tlid, chains_at, choice, length_at, new_in}
-use Rattle.tl_number.proofs.Ties.SmallRecords.{places_in, records_are, records_small}
-use Rattle.tl_number.proofs.Ties.TopologyOrder.{new_node, new_polygon, node_is, polygon_is}
-use Rattle.tl_number.proofs.Ties.{Columns.fields_cmp, SmallChains.cenid_kept, SmallNumbers.node_of_county, SmallNumbers.polygon_of_county}
-use Rattle.record_groups.proofs.Texts.RecordExact.{topologies_fit}
+use Rattle.tl_number.proofs.Common.{AllByRecursion, Bool, Chain, FieldsI, FitsRecord, I, Known, List, None, Option, PolygonKey, PolygonSide}
+use Rattle.tl_number.proofs.Common.{Renumbering, Some, TypeI, [], all_left, all_right, all_unmap, ap, ap₂, arith, carried_many, chain_nodes}
+use Rattle.tl_number.proofs.Common.{chain_polygons, grouped, grouped_lone, groups_cmp, key_cmp, key_keys, key_on, key_under, known-here}
+use Rattle.tl_number.proofs.Common.{known-left, known-right, length, map, nat_cmp, nat_cmp_total, nat_keys, numbered_from, option_map}
+use Rattle.tl_number.proofs.Common.{option_to_list, ordering_then, packed_i, refl, renumbered, renumbered_polygon, renumbered_side}
+use Rattle.tl_number.proofs.Common.{same_Some, side_of, slice_cmp, slice_get, subst, suc, sym, tied_itself, topologies_fit, type_i_by_chain}
+use Rattle.tl_number.proofs.Common.{unwrap_or, zero, ℕ, ◌++◌, ◌∙◌, ◌∷◌, ◌≡◌}
+use Rattle.tl_number.proofs.Ties.KeyKinds.{new_node, new_polygon, node_kind, polygon_kind, polygon_number}
+use Rattle.tl_number.proofs.Ties.OrderedCounty.{IsKeptPart, OrderedCounty, cenid_kept, chains_at, choice, length_at, new_in, places_in}
+use Rattle.tl_number.proofs.Ties.SmallRecords.{AreAlike, Making, by_tlid, records_are, records_small}
+use Rattle.tl_number.proofs.{Ties.Columns.fields_cmp, Ties.SmallKeys.AreWanted, Ties.SmallKeys.key_pair, Ties.SmallKeys.same_keys}
 
 -- ---- nodes and polygons of a chain
 
@@ -38,48 +36,15 @@ left_listed x k e = known-left key_keys k (key_on x.left) (key_on x.right) (key_
 right_listed : (x : Chain) (k : PolygonKey) → key_if x.right.cenid x.right.polyid ≡ Some k → Known key_cmp (chain_polygons x) k
 right_listed x k e = known-right key_keys k (key_on x.left) (key_on x.right) (key_listed x.right.cenid x.right.polyid k e)
 
--- the number of a polygon
-abbrev pub polygon_number : Renumbering → PolygonKey → ℕ
-polygon_number r k = (new_polygon r k).1
-
 -- a side under new numbers: the number of its polygon, or 0, and its CENID
 polyid_is : (r : Renumbering) (cenid : List ℕ) (polyid : Option ℕ)
     → unwrap_or (renumbered_polygon r cenid polyid).polyid 0 ≡ unwrap_or (option_map (polygon_number r) (key_if cenid polyid)) 0
 polyid_is r cenid None = refl
 polyid_is r cenid (Some polyid) = refl
 
-cenid_is : (r : Renumbering) (cenid : List ℕ) (polyid : Option ℕ) → ((k : PolygonKey) → key_if cenid polyid ≡ Some k → (new_polygon r k).0 ≡ k.0)
-    → (renumbered_polygon r cenid polyid).cenid ≡ cenid
-cenid_is r cenid None kept = refl
-cenid_is r cenid (Some polyid) kept = kept (cenid, polyid) refl
-
-abbrev pub node_kind : KeyKind nat_cmp
-node_kind = record {
-  order = nat_keys;
-  keys = chain_nodes;
-  new = new_node;
-  number = new_node;
-  all = λ county. nodes_along county.chains;
-  renumbered_keys = chain_nodes-renumbered;
-  in_all = λ c. node_of_county c.county c.shapes c.known c.is c.within;
-  above = λ c i k h. (let e = node_is c.county c.shapes c.known c.is c.within i k h in omega (arith, e));
-  numbered = λ c i j k h l e. e;
-}
-
-abbrev pub polygon_kind : KeyKind key_cmp
-polygon_kind = record {
-  order = key_keys;
-  keys = chain_polygons;
-  new = new_polygon;
-  number = polygon_number;
-  all = λ county. polygons_along county.chains;
-  renumbered_keys = chain_polygons-renumbered;
-  in_all = λ c. polygon_of_county c.county c.shapes c.known c.is c.within;
-  above = λ c i k h. (let e = ap (λ (p : PolygonKey). p.1) (polygon_is c.county c.shapes c.known c.is c.within i k h) in omega (arith, e));
-  numbered = λ c i j k h l e. ap₂ (λ (cenid : List ℕ) (polyid : ℕ). (cenid, polyid))
-      (ap (λ (p : PolygonKey). p.0) (polygon_is c.county c.shapes c.known c.is c.within i k h)
-      ∙ sym (ap (λ (p : PolygonKey). p.0) (polygon_is c.county c.shapes c.known c.is c.within j k l))) e;
-}
+cenid_is : (c : OrderedCounty) (i : ℕ) (cenid : List ℕ) (polyid : Option ℕ) → (renumbered_polygon (new_in c i) cenid polyid).cenid ≡ cenid
+cenid_is c i cenid None = refl
+cenid_is c i cenid (Some polyid) = cenid_kept c i (cenid, polyid)
 
 -- ---- records of type I
 
@@ -153,7 +118,7 @@ module _ {whole small : OrderedCounty} {is_in : ℕ → Bool} (part : IsKeptPart
       (there_too : slice_get (chains_at whole k) place ≡ Some d) (ranked : slice_get (places_in whole is_in) rank ≡ Some place)
       (ranked_too : slice_get (places_in whole is_in) rank_too ≡ Some place) (side : Chain → PolygonSide)
       (listed : (x : Chain) (j : PolygonKey) → key_if (side x).cenid (side x).polyid ≡ Some j → Known key_cmp (chain_polygons x) j) where
-    -- the numbers of polygons on a side compare alike
+    -- the numbers of polygons on a side compare alike,
     polyid_pair : nat_cmp (unwrap_or (renumbered_side (new_in whole n) (side c)).polyid 0) (unwrap_or (renumbered_side (new_in whole k) (side d)).polyid 0)
         ≡ nat_cmp (unwrap_or (renumbered_side (new_in small n) (side c)).polyid 0) (unwrap_or (renumbered_side (new_in small k) (side d)).polyid 0)
     polyid_pair =
@@ -161,17 +126,11 @@ module _ {whole small : OrderedCounty} {is_in : ℕ → Bool} (part : IsKeptPart
         ∙ key_pair polygon_kind part polygons n k place rank rank_too c d there there_too ranked ranked_too (λ x. key_if (side x).cenid (side x).polyid) listed
         ∙ sym (ap₂ nat_cmp (polyid_is (new_in small n) (side c).cenid (side c).polyid) (polyid_is (new_in small k) (side d).cenid (side d).polyid))
 
-    -- CENIDs don't change
-    cenid_kept_at : (o : OrderedCounty) (i at : ℕ) (x : Chain) → slice_get (chains_at o i) at ≡ Some x
-        → (renumbered_side (new_in o i) (side x)).cenid ≡ (side x).cenid
-    cenid_kept_at o i at x e = cenid_is (new_in o i) (side x).cenid (side x).polyid
-        (λ j f. cenid_kept o.county o.shapes o.known o.is o.within i at x e j (listed x j f))
-
-    cenid_pair : slice_cmp nat_cmp (renumbered_side (new_in whole n) (side c)).cenid (renumbered_side (new_in whole k) (side d)).cenid
-        ≡ slice_cmp nat_cmp (renumbered_side (new_in small n) (side c)).cenid (renumbered_side (new_in small k) (side d)).cenid
-    cenid_pair = ap₂ (slice_cmp nat_cmp)
-        (cenid_kept_at whole n place c there ∙ sym (cenid_kept_at small n rank c (small_there part n place rank c there ranked)))
-        (cenid_kept_at whole k place d there_too ∙ sym (cenid_kept_at small k rank_too d (small_there part k place rank_too d there_too ranked_too)))
+  -- and so do CENIDs, which stay
+  cenid_pair : (one other : PolygonSide) → slice_cmp nat_cmp (renumbered_side (new_in whole n) one).cenid (renumbered_side (new_in whole k) other).cenid
+      ≡ slice_cmp nat_cmp (renumbered_side (new_in small n) one).cenid (renumbered_side (new_in small k) other).cenid
+  cenid_pair one other = ap₂ (slice_cmp nat_cmp) (cenid_is whole n one.cenid one.polyid ∙ sym (cenid_is small n one.cenid one.polyid))
+      (cenid_is whole k other.cenid other.polyid ∙ sym (cenid_is small k other.cenid other.polyid))
 
   -- So the records of type I are in one order in both counties.
   pub topologies_small : groups_cmp I (type_i_by_chain (choice whole n)) (type_i_by_chain (choice whole k))
@@ -199,8 +158,23 @@ module _ {whole small : OrderedCounty} {is_in : ℕ → Bool} (part : IsKeptPart
           let end = node (λ x. x.end_node) end_listed in
           let polyid = polyid_pair v.place v.rank w.rank v.piece w.piece there there_too p.ranked ranked_too in
           let left = polyid (λ x. x.left) left_listed in
-          let right = polyid (λ x. x.right) right_listed in
-          let cenid = cenid_pair v.place v.rank w.rank v.piece w.piece there there_too p.ranked ranked_too in
-          let left_cenid = cenid (λ x. x.left) left_listed in
-          let right_cenid = cenid (λ x. x.right) right_listed in
-          (refl, λ _. (order, λ _. (start, λ _. (end, λ _. (left_cenid, λ _. (left, λ _. (right_cenid, λ _. (right, λ _. refl))))))))
+          let right = polyid (λ x. x.right) right_listed in (
+            refl,
+            λ _. (
+              order,
+              λ _. (
+                start,
+                λ _. (
+                  end,
+                  λ _. (
+                    cenid_pair v.piece.left w.piece.left,
+                    λ _. (
+                      left,
+                      λ _.
+                          (cenid_pair v.piece.right w.piece.right, λ _. (right, λ _. refl)),
+                    ),
+                  ),
+                ),
+              ),
+            ),
+          )

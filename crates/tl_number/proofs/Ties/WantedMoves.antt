@@ -6,7 +6,7 @@ use Rattle.tl_number.proofs.Common.{newly_seen, open_keys, range_with_len, refl,
 use Rattle.tl_number.proofs.Common.{turned_by, zero, ℕ, ⊤, ◌%◌, ◌++◌, ◌+◌, ◌/◌, ◌<◌, ◌∙◌, ◌∷◌, ◌≡◌, ◌≤◌, ◌⊎◌}
 use Rattle.tl_number.proofs.Ties.NewlySeen.{AreAlike, alike_itself, newly_known, seen_append, seen_or_new}
 use Rattle.tl_number.proofs.Ties.Ranks.{AreReordered, reordered_before, reordered_block, reordered_itself, reordered_then}
-use Rattle.tl_number.proofs.{Ties.FixedKeys.flat_map_filter, Ties.OpenChains.Covers, Ties.TieNumbers.swapped_alike}
+use Rattle.tl_number.proofs.{Ties.FixedKeys.flat_map_filter, Ties.OpenChains.Covers, Ties.KeyGroups.swapped_alike}
 
 -- the keys of the elements at kept places, of a list whose first place is given
 abbrev pub kept_keys : {X K : Type 0} → (ℕ → Bool) → (X → List K) → ℕ → List X → List K

@@ -1,16 +1,25 @@
-use Rattle.tl_number.proofs.Common.{ap, ap₂, subst, sym, ◌∙◌, One, arranged, arranged_by, groups_cmp, type_1_by_chain}
-use Rattle.canonical_form.specs.MovedChains.{AgreeButOpen}
-use Rattle.tl_number.proofs.Lemmas.{agree_of_numbers, arrangement_of_number}
+use Rattle.tl_number.proofs.Common.{AgreeButOpen, County, DirectedChain, List, One, OpenPlace, ap, ap₂, arranged, arranged_by}
+use Rattle.tl_number.proofs.Common.{arrangement_of_number, groups_cmp, subst, sym, type_1_by_chain, ◌∙◌}
+use Rattle.tl_number.proofs.Ties.OrderedCounty.{agree_in}
 use Rattle.tl_number.proofs.choice_search.compare_by_type_1.Goals as goal
 
 pub compare_ones-requires : goal.compare_ones-requires
 compare_ones-requires g c =
     let chart = c.args.classes.now.chart.now in
-    subst (λ county. AgreeButOpen county c.open_places.result.now c.deref.result.now c.deref-2.result.now) (sym c.chart.ensures)
-    (agree_of_numbers (g.C.Chart.county chart) (g.met.C.Chart.is_county chart) (g.met.C.Chart.within_limits chart)
-    c.requires.known.sides c.args.shape_order.now.by_shape c.requires.known.order.by_shape c.args.shape_order.now.places
-    (c.requires.known.order.places c.requires.known.few) c.deref.result.now c.deref-2.result.now c.args.one.now.number c.args.other.now.number
-    (c.deref.ensures.value ∙ c.requires.one) (c.deref-2.ensures.value ∙ c.requires.other) c.open_places.result.now c.open_places.ensures)
+    subst (λ (p : County × List OpenPlace × List DirectedChain × List DirectedChain). AgreeButOpen p.0 p.1 p.2 p.3)
+    (λ i. (
+      sym c.chart.ensures i,
+      sym c.open_places.ensures i,
+      sym (c.deref.ensures.value ∙ c.requires.one) i,
+      sym (c.deref-2.ensures.value ∙ c.requires.other) i,
+    ))
+    (agree_in record {
+      county = g.C.Chart.county chart;
+      shapes = c.args.shape_order.now;
+      known = c.requires.known;
+      is = g.met.C.Chart.is_county chart;
+      within = g.met.C.Chart.within_limits chart;
+    } c.args.one.now.number c.args.other.now.number)
 
 pub returns : goal.returns
 returns g c =

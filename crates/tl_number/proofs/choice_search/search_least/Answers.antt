@@ -1,7 +1,7 @@
 use Rattle.tl_number.proofs.Common.{IfSome, IsChosen, IsLeastBelow, ap, arranged_county, choices_cmp, chosen_county, cond, false, is_gt}
 use Rattle.tl_number.proofs.Common.{lesser_choice, subst, sym, true, ◌+◌, ◌∙◌, ◌≡◌}
-use Rattle.tl_number.proofs.Choices.ChoiceSteps.{lesser_least, not_greater_from}
-use Rattle.tl_number.proofs.{Choices.LeastNumbers.first_least, Choices.LeastOnes.greater_from}
+use Rattle.tl_number.proofs.Choices.ChoiceSteps.{greater_from, lesser_least, not_greater_from}
+use Rattle.tl_number.proofs.Choices.LeastNumbers.{first_least}
 use Rattle.tl_number.proofs.choice_search.search_least.Goals as goal
 
 pub loop-number-init : goal.loop-number-init

@@ -54,7 +54,12 @@ pub returns : goal.returns
 returns g c =
     let county = g.C.Chart.county c.args.chart.now in
     IfOk-weaker c.least_in_part-least.result _ _
-    (λ number least. small_least county c.args.shape_order.now c.requires (g.met.C.Chart.is_county c.args.chart.now)
-    (g.met.C.Chart.within_limits c.args.chart.now) number
+    (λ number least. small_least record {
+      county = county;
+      shapes = c.args.shape_order.now;
+      known = c.requires;
+      is = g.met.C.Chart.is_county c.args.chart.now;
+      within = g.met.C.Chart.within_limits c.args.chart.now;
+    } number
     (subst (λ small. IsLeastBelow small (choices small) number) (c.new.ensures ∙ is_small g (goal.at.returns g c).In_ok-tables) least))
     c.least_in_part-least.ensures
