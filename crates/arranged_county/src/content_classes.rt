@@ -43,7 +43,7 @@ pub(crate) trait Contents {
 }
 
 /// All places, ascending.
-fn all_places<T: Contents>(alloc: Global, contents: &T) -> Result<Vec<u32>, AllocError>
+pub(crate) fn all_places<T: Contents>(alloc: Global, contents: &T) -> Result<Vec<u32>, AllocError>
     ensures { IfOk result (λ places. places.items ≡ range_with_len 0 (T.places contents.now)) }
 {
     (0..contents.count()).collect(alloc)

@@ -10,7 +10,8 @@ ghost use Rattle.arranged_county.specs.LandmarkItems.{AreSortedLandmarks, classe
 ghost use Rattle.arranged_county.specs.{ContentItems.classed_place, ViewFacts.MatchesLandmarks, Views.classed_county};
 
 use crate::arranged_tables::LandmarkTables;
-use crate::content_classes::{ClassedPlace, Classes};
+use crate::content_classes::{ClassedPlace, Classes, all_places};
+use crate::landmark_contents::LandmarkContents;
 use crate::landmark_links::{bounds_of, links_of_landmark, links_under};
 use crate::numbers::Interner;
 use county_chart::{Chart, DirectedChain, PolygonKey};
@@ -79,20 +80,6 @@ pub(crate) fn lands_there<C: Chart>(
         .collect(alloc)
 }
 
-/// The LANDs at places, numbered in this order.
-fn number_lands<C: Chart>(
-    alloc: Global,
-    chart: &C,
-    places: &[u32],
-) -> Result<Interner<u64>, AllocError>
-    requires { has_repeat nat_cmp (lands_at (C.county chart.now) places.now) ≡ false }
-    ensures { IfOk result (λ numbers. numbers ≡ lands_at (C.county chart.now) places.now) }
-{
-    let lands = lands_there(alloc, chart, places)?;
-    let numbers = Interner::of_distinct(alloc, &lands)?;
-    Ok(numbers)
-}
-
 /// The places of landmarks, one after another.
 fn places_of(alloc: Global, landmarks: &[ClassedPlace]) -> Result<Vec<u32>, AllocError>
     ensures { IfOk result (λ places. places.items ≡ map classed_place landmarks.now) }
@@ -113,14 +100,6 @@ fn sorted_places(
     places_of(alloc, &sorted)
 }
 
-/// The places of the landmarks of a county, ascending.
-fn all_places<C: Chart>(alloc: Global, chart: &C) -> Result<Vec<u32>, AllocError>
-    requires { length (C.county chart.now).landmarks < 2 ^ 32 }
-    ensures { IfOk result (λ places. places.items ≡ range_with_len 0 (length (C.county chart.now).landmarks)) }
-{
-    (0..chart.landmark_count() as u32).collect(alloc)
-}
-
 /// The links of a county with its landmarks in the order of these places, and how many have a LAND up to each of 0, 1, 2, ..
 fn links_by_land<C: Chart>(
     alloc: Global,
@@ -136,7 +115,8 @@ fn links_by_land<C: Chart>(
         (λ lists. lists.0.items ≡ numbered_links (C.county chart.now) polygons.now (lands_at (C.county chart.now) places.now)) }
     ensures bounds { IfOk result (λ lists. lists.1.items ≡ link_bounds lists.0.items (length places.now)) }
 {
-    let lands = number_lands(alloc, chart, places)?;
+    let numbers = lands_there(alloc, chart, places)?;
+    let lands = Interner::of_distinct(alloc, &numbers)?;
     let links = links_under(alloc, chart, polygons, &lands, places);
     // One call for the prover, which otherwise reads the drop of each part.
     drop(lands);
@@ -156,7 +136,10 @@ fn places_in_order<C: Chart>(
     ensures permutation { IfOk result (λ places. IsPermutation (range_with_len 0 (length (classed_county classes.now).landmarks)) places.items) }
     ensures in_order { IfOk result (λ places. IsInOrder (place_cmp_under (classed_county classes.now) polygons.now) places.items) }
 {
-    let unordered = all_places(alloc, classes.chart)?;
+    let bodies = LandmarkContents {
+        chart: classes.chart,
+    };
+    let unordered = all_places(alloc, &bodies)?;
     let (links, bounds) = links_by_land(alloc, classes.chart, polygons, &unordered)?;
     let lists = LinkLists {
         links: links.as_slice(),

@@ -5,9 +5,8 @@
 //! one class, so ordering names compares only numbers.
 
 ghost use Rattle.std.specs.Ordering.{nat_cmp};
-ghost use Rattle.std.specs.Prelude.{IfOk, IsPermutation, false, filter_map, length, map, slice_get, ◌<◌, ◌^◌, ◌≡◌};
+ghost use Rattle.std.specs.Prelude.{IfOk, IsPermutation, filter_map, length, map, slice_get, ◌<◌, ◌^◌, ◌≡◌};
 ghost use Rattle.county_chart.specs.CountyRules.{feats};
-ghost use Rattle.ordered_lists.specs.Orders.{has_repeat};
 ghost use Rattle.canonical_form.specs.WholeArrangements.{AreReadAt, AreWhole};
 ghost use Rattle.canonical_form.specs.{Arrangement.names_in_order, DirectedChains.arrangement_of, Growth.first_seen};
 ghost use Rattle.arranged_county.specs.NameItems.{AreSortedNames, feats_along_arrangement, name_key_at, rank_of};
@@ -124,20 +123,6 @@ fn feats_there<C: Chart>(alloc: Global, chart: &C, places: &[u32]) -> Result<Vec
         .collect(alloc)
 }
 
-/// The FEATs at places, numbered in this order. No FEAT is at two of the places.
-fn number_feats<C: Chart>(
-    alloc: Global,
-    chart: &C,
-    places: &[u32],
-) -> Result<Interner<u32>, AllocError>
-    requires { has_repeat nat_cmp (filter_map (slice_get (feats (C.county chart.now))) places.now) ≡ false }
-    ensures { IfOk result (λ numbers. numbers ≡ filter_map (slice_get (feats (C.county chart.now))) places.now) }
-{
-    let feats = feats_there(alloc, chart, places)?;
-    let numbers = Interner::of_distinct(alloc, &feats)?;
-    Ok(numbers)
-}
-
 /// The places of the names of a county in their new order.
 fn places_in_order<C: Chart>(
     alloc: Global,
@@ -166,6 +151,7 @@ pub(crate) fn arrange_names<C: Chart>(
     ensures { IfOk result (MatchesNames (classed_county classes.now) arrangement.now) }
 {
     let places = places_in_order(alloc, classes, arrangement)?;
-    let feats = number_feats(alloc, classes.chart, &places)?;
+    let numbers = feats_there(alloc, classes.chart, &places)?;
+    let feats = Interner::of_distinct(alloc, &numbers)?;
     Ok(NameTables { feats, places })
 }

@@ -34,32 +34,6 @@ fn is_absent<K: Key>(many: &BTreeMap<K, usize>, key: K) -> bool
     }
 }
 
-/// Puts the place of a key among those that are found by hash.
-fn put_by_hash<K: Key + Hash>(
-    few: &mut IndexMap<K, usize>,
-    key: K,
-    place: usize,
-) -> Result<(), AllocError>
-    ensures stated { OnOk result (found_by_hash K.eq few.new key ≡ Some place) }
-    ensures apart { (other : K) → (other ≡ key → ⊥) → found_by_hash K.eq few.new other ≡ found_by_hash K.eq few.old other }
-{
-    few.insert(key, place)?;
-    Ok(())
-}
-
-/// Puts the place of a key among those that are found in order.
-fn put_among_many<K: Key>(
-    many: &mut BTreeMap<K, usize>,
-    key: K,
-    place: usize,
-) -> Result<(), AllocError>
-    ensures stated { OnOk result (found_in_order K.cmp many.new key ≡ Some place) }
-    ensures apart { (other : K) → (other ≡ key → ⊥) → found_in_order K.cmp many.new other ≡ found_in_order K.cmp many.old other }
-{
-    many.insert(key, place)?;
-    Ok(())
-}
-
 impl<K: Key + Hash> OtherPlaces<K> {
     /// No places, without memory.
     pub(crate) fn new(alloc: Global) -> OtherPlaces<K> {
@@ -87,9 +61,10 @@ impl<K: Key + Hash> OtherPlaces<K> {
             ≡ found_by_either (found_in_order K.cmp self.old.many) (found_by_hash K.eq self.old.few) other }
     {
         if self.few.len() < MOST_HASHED && is_absent(&self.many, key) {
-            put_by_hash(&mut self.few, key, place)
+            self.few.insert(key, place)?;
         } else {
-            put_among_many(&mut self.many, key, place)
+            self.many.insert(key, place)?;
         }
+        Ok(())
     }
 }
