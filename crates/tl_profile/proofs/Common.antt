@@ -1,12 +1,13 @@
 -- The names from below that the proofs of this crate cite, passed on from one place. Declares nothing.
-pub use Rattle.county_chart.proofs.Common.{AllByRecursion, AreInShapeOrder, along_shapes, distinct-in_order, polygons_along, range_with_len}
-pub use Rattle.county_chart.proofs.Common.{County, Greater, Ordering, contains, distinct, has_body, is_first, key_cmp, key_keys, points_cmp}
-pub use Rattle.county_chart.proofs.Common.{Equal, Less, List, arith, cond, false, is_eq, is_gt, length, map-map, refl, rules, subst, take}
-pub use Rattle.county_chart.proofs.Common.{IsInOrder, append_assoc, is_either_way, length-append, most_choices, ordering_then, points_along}
-pub use Rattle.county_chart.proofs.Common.{[], ap, ap₂, map, not, suc, sym, ℕ, ◌&&◌, ◌++◌, ◌+◌, ◌<◌, ◌∙◌, ◌∷◌, ◌≡◌, ◌≤◌}
-pub use Rattle.county_chart.proofs.Common.{along_shape, empty_list, is_unknown, length-map, map-append, open_places, points_keys, slice_get}
+pub use Rattle.county_chart.proofs.Common.{AllByRecursion, AreInShapeOrder, Greater, IsFirstBrokenClause, distinct-in_order, polygons_along}
+pub use Rattle.county_chart.proofs.Common.{County, Less, List, Some, arith, false, has_body, is_eq, is_gt, key_keys, length, rules, subst}
+pub use Rattle.county_chart.proofs.Common.{Equal, along_shape, empty_list, is_unknown, most_choices, open_places, points_along, points_keys}
+pub use Rattle.county_chart.proofs.Common.{IsInOrder, Ordering, distinct, length-map, map-append, map-map, points_cmp, slice_get, contains}
+pub use Rattle.county_chart.proofs.Common.{[], ap, ap₂, cond, map, not, refl, suc, sym, take, ℕ, ◌&&◌, ◌++◌, ◌+◌, ◌<◌, ◌∙◌, ◌∷◌, ◌≡◌, ◌≤◌}
+pub use Rattle.county_chart.proofs.Common.{along_shapes, append_assoc, is_either_way, key_cmp, length-append, ordering_then, range_with_len}
 pub use Rattle.county_chart.proofs.Profile.CountedChoices.{IsCounted, alike-next, alike_few, counted_next, more_choices-append}
 pub use Rattle.county_chart.proofs.Profile.Places.{ChainIsAt, all_next, along_from, chain_is_at, some-same, two_along}
+pub use Rattle.county_chart.proofs.Profile.ProfileFaults.{profile_has_none, profile_or_first}
 pub use Rattle.county_chart.proofs.{ByKey.KeySets.contains-distinct, Limits.FewChains.few_chains, Profile.SameChoices.choices_stated}
 pub use Rattle.county_chart.specs.{Choices.counted_choices, ShapeOrder.directed_cmp}
 pub use Rattle.ordered_lists.proofs.{ByKey.KeyedLists.at_lists, ByKey.KeyedLists.in_order-filter, ByKey.KeyedLists.least-same, Common.IfOk}

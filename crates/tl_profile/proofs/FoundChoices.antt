@@ -5,8 +5,10 @@ use Rattle.tl_profile.proofs.Common.{County, Greater, IsInOrder, List, [], arith
 use Rattle.tl_profile.proofs.Common.{Equal, PlacedShape, along_shapes, append_assoc, counted_next, directed_cmp, most_choices, points_along}
 use Rattle.tl_profile.proofs.Common.{IsCounted, Less, along_shape, few_chains, length-map, map-append, open_places, points_cmp, whole_shape}
 use Rattle.tl_profile.proofs.Common.{ap, map, min, suc, sym, take, ℕ, ◌++◌, ◌+◌, ◌<◌, ◌∙◌, ◌∷◌, ◌≡◌, ◌≤◌}
-use Rattle.county_chart.proofs.Common.{DirectedChain, IsWithinLimits, OpenPlace, choices, drop, is_settled, most_records, open_place_at}
+use Rattle.county_chart.proofs.Common.{IsWithinLimits, choices, drop, is_settled, most_records, open_place_at}
 use Rattle.county_chart.proofs.Common.{reverse, running, take_all, ways_at, ◌*◌, ◌-◌, ◌^◌}
+use Rattle.county_chart.specs.declared.directed_chain.DirectedChain.{DirectedChain}
+use Rattle.county_chart.specs.declared.open_place.OpenPlace.{OpenPlace}
 
 first_not_greater : (a b : Ordering) → is_gt (ordering_then a b) ≡ false → is_gt a ≡ false
 first_not_greater Less b e = refl

@@ -1,6 +1,6 @@
 -- The order of placed shapes is the order of their chains.
-use Rattle.tl_profile.proofs.Common.{AllByRecursion, AreInShapeOrder, County, Equal, Greater, HasFirstPoints, IsInOrder, IsTotalOrder, Less}
-use Rattle.tl_profile.proofs.Common.{List, Ordering, PlacedShape, [], along_shapes, ap, ap₂, directed_cmp, false, int_cmp_total, is_gt, map}
+use Rattle.tl_profile.proofs.Common.{AllByRecursion, AreInShapeOrder, County, Equal, Greater, HasFirstPoints, IsInOrder, IsTotalOrder, Less, List}
+use Rattle.tl_profile.proofs.Common.{Ordering, PlacedShape, [], along_shapes, ap, ap₂, directed_cmp, false, int_cmp_total, is_gt, map}
 use Rattle.tl_profile.proofs.Common.{ordering_then, placed_cmp, placed_directed, placed_key_cmp, point_cmp, points_cmp, points_keys, refl}
 use Rattle.tl_profile.proofs.Common.{subst, sym, then_total, whole_shape, ◌∙◌, ◌∷◌, ◌≡◌}
 use Rattle.tl_profile.proofs.PointRanks.{as_points}

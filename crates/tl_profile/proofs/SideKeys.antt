@@ -1,9 +1,9 @@
 -- The keys on sides and those with a type P record, gathered place by place, and how the profile judges them.
-use Rattle.tl_profile.proofs.Common.{ChainIsAt, IsInOrder, [], append_assoc, chain_is_at, filter_map, is_unknown, key_if_bodied, strict-map}
-use Rattle.tl_profile.proofs.Common.{County, arith, contains, distinct, false, has_body, key_cmp, key_keys, keys_on, length, map, slice_get}
-use Rattle.tl_profile.proofs.Common.{List, ap, cond, is_eq, not, refl, suc, sym, take, ◌&&◌, ◌++◌, ◌+◌, ◌<◌, ◌∙◌, ◌∷◌, ◌≡◌}
-use Rattle.tl_profile.proofs.Common.{contains-distinct, flat_map-append, in_order-filter, keys_with_body, polygons_along, range_with_len, ℕ}
-use Rattle.county_chart.proofs.Common.{BodyP, Bool, Chain, IsCounty, None, Option, PolygonKey, PolygonSide, Some, append-nil, chain_at}
+use Rattle.tl_profile.proofs.Common.{ChainIsAt, IsInOrder, append_assoc, chain_is_at, filter_map, is_unknown, key_if_bodied, strict-map}
+use Rattle.tl_profile.proofs.Common.{County, [], arith, distinct, false, has_body, key_cmp, key_keys, keys_on, length, slice_get, contains}
+use Rattle.tl_profile.proofs.Common.{List, Some, ap, cond, is_eq, map, not, refl, suc, sym, take, ℕ, ◌&&◌, ◌++◌, ◌+◌, ◌<◌, ◌∙◌, ◌∷◌, ◌≡◌}
+use Rattle.tl_profile.proofs.Common.{flat_map-append, in_order-filter, keys_with_body, polygons_along, range_with_len, contains-distinct}
+use Rattle.county_chart.proofs.Common.{BodyP, Bool, Chain, IsCounty, None, Option, PolygonKey, PolygonSide, append-nil, chain_at}
 use Rattle.county_chart.proofs.Common.{chain_polygons, cons_option, filter, in_order-map, in_order-strict, is_some, key_on, list_any}
 use Rattle.county_chart.proofs.Common.{lt-ltb, map-id, nat_lt, on, option_map, true, ◌||◌}
 
