@@ -1,14 +1,8 @@
 -- Two sets with the same canonical text, and the renaming from the first set to the second through it.
-use Rattle.std.proofs.Common.{◌≡◌, ◌∙◌, ◌⊎◌, inl, inr, ℕ, List, [], ◌∷◌, subst, sym}
-use Rattle.tl_layout.specs.declared.record_type.Record.{Record}
-use Rattle.county_chart.specs.County.{County, county_of}
-use Rattle.county_chart.specs.CountyRules.{IsCounty}
-use Rattle.county_chart.specs.Renumbering.{Renumbering, Carries}
-use Rattle.county_chart.specs.LinkRules.{IsLinked}
-use Rattle.tl_load.specs.Choice.{tiger}
-use Rattle.tl_load.specs.Outcome.{SpellsWithin, IsSpelled, IsFaulty}
-use Rattle.tl_layout.specs.Limits.{most_records}
-use Rattle.tigercanon.specs.Sets.{CarriesSet, IsAcceptedSet}
+use Rattle.tigercanon.proofs.Common.{Carries, County, IsAcceptedSet, IsCounty, IsLinked, List, Record, Renumbering, SpellsWithin, []}
+use Rattle.tigercanon.proofs.Common.{county_of, inl, inr, most_records, subst, sym, tiger, ℕ, ◌∙◌, ◌∷◌, ◌≡◌, ◌⊎◌}
+use Rattle.tl_load.specs.Outcome.{IsFaulty, IsSpelled}
+use Rattle.tigercanon.specs.Sets.{CarriesSet}
 
 -- the laws of the libraries about sets and linked records
 module _ (spelled_or_one_fault : (limit : ℕ) (parts : List (List ℕ)) → IsSpelled tiger limit parts ⊎ IsFaulty tiger limit parts)

@@ -1,13 +1,8 @@
 -- Pieces of a file, and the whole file.
-use Rattle.std.proofs.Common.{◌≡◌, ◌∙◌, ◌<◌, ◌+◌, ◌++◌, ℕ, List, [], ◌∷◌, take, drop, map, length, get_or, Bor}
-use Rattle.std.proofs.Common.{sym, ap, subst, append-nil}
-use Rattle.std.proofs.lemmas.List.{take_more, take-append-drop, map-append}
-use Rattle.std.proofs.lemmas.List.Folds.{concat-append}
+use Rattle.std.proofs.Common.{Bor, List, [], ap, append-nil, drop, get_or, length, map, subst, sym, take, ℕ, ◌++◌, ◌+◌, ◌<◌, ◌∙◌, ◌∷◌, ◌≡◌}
+use Rattle.std.proofs.{lemmas.List.Folds.concat-append, lemmas.List.map-append, lemmas.List.take-append-drop, lemmas.List.take_more}
 use Rattle.std.specs.List.{concat}
-use Rattle.tl_load.specs.Choice.{tiger}
-use Rattle.tl_load.specs.Loaded.{IsFaultHowever}
-use Rattle.tl_load.specs.Outcome.{FaultAt, most_records}
-use Rattle.tl_load.specs.declared.fault.LoadFault.{LoadFault}
+use Rattle.tl_load.specs.{Choice.tiger, Loaded.IsFaultHowever, Outcome.FaultAt, Outcome.most_records, declared.fault.LoadFault.LoadFault}
 
 -- the bytes of the pieces
 abbrev pub bytes_of : List (Bor (List ℕ)) → List (List ℕ)

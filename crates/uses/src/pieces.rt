@@ -1,10 +1,8 @@
 //! A file that comes in pieces, for example from a network.
 
 ghost use Rattle.std.specs.List.{concat};
-ghost use Rattle.std.specs.Prelude.{◌∷◌, [], map, IfErr, IfOk};
-ghost use Rattle.tl_load.specs.Choice.{tiger};
-ghost use Rattle.tl_load.specs.Loaded.{IsOfLines};
-ghost use Rattle.tl_load.specs.Outcome.{SpellsWithin, FaultAt, most_records};
+ghost use Rattle.std.specs.Prelude.{IfErr, IfOk, [], map, ◌∷◌};
+ghost use Rattle.tl_load.specs.{Choice.tiger, Loaded.IsOfLines, Outcome.FaultAt, Outcome.SpellsWithin, Outcome.most_records};
 
 use std::alloc::Global;
 use tl_layout::Record;

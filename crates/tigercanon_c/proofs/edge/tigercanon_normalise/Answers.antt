@@ -1,8 +1,5 @@
-use Rattle.std.proofs.Common.{◌≡◌, ◌∙◌, List, ℕ, inr, subst, sym}
-use Rattle.tigercanon.specs.Normalising.{IsOnlyTextInView}
-use Rattle.tigercanon.specs.Sets.{IsOneCanonicalTextInView}
+use Rattle.tigercanon.proofs.Common.{IsOneCanonicalTextInView, IsOnlyTextInView, List, inr, masked, subst, sym, ℕ, ◌∙◌}
 use Rattle.tigercanon_c.specs.Answers.{bytes_of_lent, mask_of}
-use Rattle.county_chart.specs.MaskedCounty.{masked}
 use Rattle.tigercanon_c.proofs.edge.tigercanon_normalise.Goals as goal
 
 pub returns-in-Ok-clause-only : goal.returns-in-Ok-clause-only

@@ -1,6 +1,5 @@
-use Rattle.std.proofs.Common.{◌∷◌, [], List, ℕ, Result, Ok, Err, IfOk, append-nil, subst, sym}
-use Rattle.tl_load.specs.Choice.{tiger}
-use Rattle.tl_load.specs.Outcome.{SpellsWithin, most_records}
+use Rattle.tigercanon.proofs.Common.{Err, IfOk, List, Ok, Result, SpellsWithin, [], append-nil, subst, sym, ℕ, ◌∷◌}
+use Rattle.tl_load.specs.{Choice.tiger, Outcome.most_records}
 use Rattle.uses.proofs.layers.canonical_text.Goals as goal
 
 if_ok : {T E : Type 0} {P Q : T → Type 0} (r : Result T E) → ((x : T) → P x → Q x) → IfOk r P → IfOk r Q

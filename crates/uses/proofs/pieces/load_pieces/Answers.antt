@@ -1,10 +1,8 @@
-use Rattle.std.proofs.Common.{◌∙◌, [], ◌∷◌, subst, arith}
-use Rattle.std.proofs.lemmas.List.{take_all}
-use Rattle.tl_layout.proofs.Exits.{exit_with}
-use Rattle.tl_load.specs.Choice.{tiger}
-use Rattle.tl_load.specs.Loaded.{IsOfLines, WasFed}
-use Rattle.tl_load.specs.Outcome.{FaultAt, most_records}
-use Rattle.uses.proofs.WholeFile.{whole, whole_so_far, fault_of_whole}
+use Rattle.tigercanon.proofs.Common.{FaultAt, IsOfLines, [], arith, exit_with, subst, tiger, ◌∙◌, ◌∷◌}
+use Rattle.canonical_form.proofs.Common.{take_all}
+use Rattle.tl_load.proofs.Common.{WasFed}
+use Rattle.tl_load.specs.Outcome.{most_records}
+use Rattle.uses.proofs.WholeFile.{fault_of_whole, whole, whole_so_far}
 use Rattle.uses.proofs.pieces.load_pieces.Goals as goal
 
 pub loop-piece-preserved : goal.loop-piece-preserved
