@@ -203,7 +203,7 @@ pub(crate) fn chains_of_records<'t, 'r, C: StoredChain, B: ChainBuilder<'t, C>>(
     requires names { IsInOrder (on four_tlid nat_cmp) details.names.now }
     requires ranges { IsInOrder (on six_tlid nat_cmp) details.ranges.now }
     ensures { IfOk result (λ chains. map C.chain chains.items
-        ≡ chains_along details.shapes.now details.names.now details.ranges.now all_basics.now topologies.now) }
+        ≡ chains_along details.entry.shapes.now details.entry.names.now details.entry.ranges.now all_basics.now topologies.now) }
 {
     let mut chains = Vec::with_capacity(alloc, all_basics.len())?;
     let mut details = details;

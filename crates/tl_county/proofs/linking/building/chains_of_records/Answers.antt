@@ -5,6 +5,10 @@ use Rattle.tl_county.proofs.Common.{six_tlid, strict_tail, subst, sym, two_tlid,
 use Rattle.tl_county.proofs.Lists.Groups.{chains-step}
 use Rattle.tl_county.proofs.linking.building.chains_of_records.Goals as goal
 
+-- a place below the lesser of two numbers is below both
+below_both : (m n end place : ℕ) → end ≡ min m n → place < end → (place < m) × (place < n)
+below_both m n end place e h = (omega (arith, h, e, min-le_left m n), omega (arith, h, e, min-le_right m n))
+
 pub loop-place-preserved : goal.loop-place-preserved
 loop-place-preserved g c =
     let f = g.C.StoredChain.chain in
@@ -12,22 +16,12 @@ loop-place-preserved g c =
     let place = at.place in
     let basics = c.index-all_basics-place.result in
     let topology = c.record-topology.result.now in
-    let in_heads : place < length c.args.all_basics.now = omega (
-      arith,
-      c.loop-place-test.true,
-      c.min-place-end.ensures,
-      min-le_left (length c.args.all_basics.now) (length c.args.topologies.now),
-    ) in
-    let in_links : place < length c.args.topologies.now = omega (
-      arith,
-      c.loop-place-test.true,
-      c.min-place-end.ensures,
-      min-le_right (length c.args.all_basics.now) (length c.args.topologies.now),
-    ) in
+    let within = below_both (length c.args.all_basics.now) (length c.args.topologies.now) c.min-place-end.result place c.min-place-end.ensures
+    c.loop-place-test.true in
     let all_basics : drop place c.args.all_basics.now ≡ basics ∷ drop (place + 1) c.args.all_basics.now =
-    drop_more c.args.all_basics.now place basics (omega (arith, in_heads)) ∙ ap (λ x. x ∷ drop (place + 1) c.args.all_basics.now) (sym c.index-all_basics-place.is) in
+    drop_more c.args.all_basics.now place basics (omega (arith, within.0)) ∙ ap (λ x. x ∷ drop (place + 1) c.args.all_basics.now) (sym c.index-all_basics-place.is) in
     let topologies : drop place c.args.topologies.now ≡ topology ∷ drop (place + 1) c.args.topologies.now =
-    drop_more c.args.topologies.now place c.index-topologies-place.result (omega (arith, in_links))
+    drop_more c.args.topologies.now place c.index-topologies-place.result (omega (arith, within.1))
     ∙ ap (λ x. x ∷ drop (place + 1) c.args.topologies.now) (sym (c.record-topology.ensures ∙ c.index-topologies-place.is)) in
     let shapes = c.in_ok-push_chain.ensures.shapes in
     let names = c.in_ok-push_chain.ensures.names in

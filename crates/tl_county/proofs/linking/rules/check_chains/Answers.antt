@@ -7,19 +7,20 @@ use Rattle.tl_county.proofs.Rules.TlidsInOrder.{tables_in_order}
 use Rattle.tl_county.proofs.linking.rules.check_chains.Goals as goal
 
 pub least_repeated-requires : goal.least_repeated-requires
-least_repeated-requires c = search (rules, tables_in_order)
+least_repeated-requires c = search (rules, tables_in_order, c.as_slice-chains.ensures.value ∙ c.requires.chains)
 
 pub least_unknown-requires : goal.least_unknown-requires
-least_unknown-requires c = search (rules, tables_in_order)
+least_unknown-requires c = search (rules, tables_in_order, c.as_slice-chains.ensures.value ∙ c.requires.chains)
 
 pub least_unknown-requires-2 : goal.least_unknown-requires-2
-least_unknown-requires-2 c = search (rules, tables_in_order)
+least_unknown-requires-2 c = search (rules, tables_in_order, c.as_slice-chains.ensures.value ∙ c.requires.chains)
 
 pub least_unknown-requires-3 : goal.least_unknown-requires-3
-least_unknown-requires-3 c = search (rules, tables_in_order)
+least_unknown-requires-3 c = search (rules, tables_in_order, c.as_slice-chains.ensures.value ∙ c.requires.chains)
 
 pub least_absent-requires : goal.least_absent-requires
-least_absent-requires c = search (rules, tables_in_order)
+least_absent-requires c =
+    search (rules, tables_in_order, c.as_slice-chains.ensures.value ∙ c.requires.chains, c.deref-4.ensures.value ∙ c.requires.topologies)
 
 -- the least TLID that occurs twice, and the least one of other records that the chains lack, or none
 abbrev Twice : List ℕ → Option ℕ → Type 0
