@@ -15,5 +15,4 @@ pub use Rattle.county_chart.proofs.{Limits.FewChains.few_chains, Lists.OfNumber.
 pub use Rattle.county_chart.specs.{ChartWords.chain_under, ChartWords.name_under, ChartWords.polygon_under, Renumbering.NumbersArePaired}
 pub use Rattle.ordered_lists.proofs.{ByKey.Keys.images-lefts, Common.IfOk, Common.length_permutation, Lists.ByPlace.decides_no}
 pub use Rattle.ordered_lists.proofs.{Lists.ByPlace.decides_over, Lists.InOrder.in_order-permutation}
-pub use Rattle.tl_cert.specs.LinkFields.{LinkFields, link_fields}
 pub use Rattle.tl_cert.specs.PartsThere.{ArePartsThere, IsLandmarkThere, chain_carried}

@@ -1,9 +1,10 @@
 -- The links of landmarks, collected landmark by landmark and compared by their fields.
 use Rattle.tl_cert.proofs.Common.{Bool, County, Decides, Fields8, IsCounty, IsPermutation, IsPermutation-map, IsPermutation-sym}
-use Rattle.tl_cert.proofs.Common.{IsPermutation-trans, IsTrue, Known, LinkFields, List, [], add-one, all_weaker, ap, apart_from_sorted}
-use Rattle.tl_cert.proofs.Common.{append-nil, append_assoc, decides_same, eight_land, flat_map, groups-permutation, lands, link_fields}
+use Rattle.tl_cert.proofs.Common.{IsPermutation-trans, IsTrue, Known, List, [], add-one, all_weaker, ap, apart_from_sorted}
+use Rattle.tl_cert.proofs.Common.{append-nil, append_assoc, decides_same, eight_land, flat_map, groups-permutation, lands}
 use Rattle.tl_cert.proofs.Common.{links_with, ltb-true, map, map-map, map_itself, nat_cmp, nat_keys, of_number, refl, slice_get, contains}
 use Rattle.tl_cert.proofs.Common.{subst, suc, sym, take, times, zero, ℕ, ◌++◌, ◌+◌, ◌∙◌, ◌∷◌, ◌≡◌}
+use Rattle.county_chart.specs.SequenceKeys.{link_sequence}
 
 -- the links of the landmarks with these LANDs, landmark by landmark
 abbrev pub under_lands : List Fields8 → List ℕ → List Fields8
@@ -30,35 +31,29 @@ all_lands county is = groups-permutation eight_land (lands county) county.links
     (λ l h. ltb-true 0 (times nat_cmp l.land (lands county)) h) county.links is.closed.link_lands)
 
 -- the link with these fields
-fields_link : LinkFields → Fields8
+fields_link : ℕ × (ℕ × (List ℕ × List ℕ)) → Fields8
 fields_link f = record { file = f.1.1.1; cenid = f.1.1.0; polyid = f.1.0; land = f.0 }
 
-back_again : (links : List Fields8) → map fields_link (map link_fields links) ≡ links
+back_again : (links : List Fields8) → map fields_link (map link_sequence links) ≡ links
 unfolding fields_link
-back_again links = map-map fields_link link_fields links ∙ map_itself (λ l. fields_link (link_fields l)) (λ l. refl) links
+back_again links = map-map fields_link link_sequence links ∙ map_itself (λ l. fields_link (link_sequence l)) (λ l. refl) links
 
--- links are a permutation of others exactly if their fields are
-pub links_decided : (carried : Fields8 → Fields8) (those bs : List Fields8) (fields known : List LinkFields)
-    → IsPermutation fields (map (λ l. link_fields (carried l)) those) → IsPermutation known (map link_fields bs)
-    → (b : Bool) → Decides b (IsPermutation fields known) → Decides b (IsPermutation (map carried those) bs)
-links_decided carried those bs fields known p q b d = decides_same b d to from
-  where
-    renumbered : List LinkFields
-    renumbered = map link_fields (map carried those)
+-- links are a permutation of others if their keys are
+links_back : (ones others : List Fields8) → IsPermutation (map link_sequence ones) (map link_sequence others) → IsPermutation ones others
+links_back ones others h =
+    subst (λ links. IsPermutation links others) (back_again ones)
+    (subst (IsPermutation (map fields_link (map link_sequence ones))) (back_again others)
+    (IsPermutation-map fields_link (map link_sequence ones) (map link_sequence others) h))
 
-    fields_are : IsPermutation fields renumbered
-    fields_are = subst (IsPermutation fields) (sym (map-map link_fields carried those)) p
-
-    to : IsPermutation fields known → IsPermutation (map carried those) bs
-    to h =
-        let links : IsPermutation renumbered (map link_fields bs) =
-        IsPermutation-trans renumbered fields (map link_fields bs) (IsPermutation-sym fields renumbered fields_are)
-        (IsPermutation-trans fields known (map link_fields bs) h q) in
-        subst (IsPermutation (map carried those)) (back_again bs)
-        (subst (λ xs. IsPermutation xs (map fields_link (map link_fields bs))) (back_again (map carried those))
-        (IsPermutation-map fields_link renumbered (map link_fields bs) links))
-
-    from : IsPermutation (map carried those) bs → IsPermutation fields known
-    from h = IsPermutation-trans fields renumbered known fields_are
-        (IsPermutation-trans renumbered (map link_fields bs) known (IsPermutation-map link_fields (map carried those) bs h)
-        (IsPermutation-sym known (map link_fields bs) q))
+-- links are carried onto others exactly if the keys of both, in any order, are a permutation
+module _ (carried : Fields8 → Fields8) (ones those : List Fields8) (p : IsPermutation ones those) (others bs : List Fields8)
+    (q : IsPermutation others bs) where
+  pub links_decided : (b : Bool) → Decides b (IsPermutation (map (λ l. link_sequence (carried l)) ones) (map link_sequence others))
+      → Decides b (IsPermutation (map carried those) bs)
+  links_decided b d =
+      decides_same b (subst (λ keys. Decides b (IsPermutation keys (map link_sequence others))) (sym (map-map link_sequence carried ones)) d)
+      (λ h. IsPermutation-trans (map carried those) (map carried ones) bs (IsPermutation-map carried those ones (IsPermutation-sym ones those p))
+      (IsPermutation-trans (map carried ones) others bs (links_back (map carried ones) others h) q))
+      (λ h. IsPermutation-map link_sequence (map carried ones) others
+      (IsPermutation-trans (map carried ones) (map carried those) others (IsPermutation-map carried ones those p)
+      (IsPermutation-trans (map carried those) bs others h (IsPermutation-sym others bs q))))

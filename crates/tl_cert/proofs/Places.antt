@@ -21,13 +21,15 @@ module _ {K V : Type 0} where
       decides_entry es i k e (λ key v. find (new key) ≡ v) b
       (decides_over b one (find (new k)) other (slice_get (entry_values es) i) (found ∙ ap find is) value d)
 
--- a sorted copy is the known list exactly if the numbers are a permutation of it
+-- sorted copies are equal exactly if the numbers are a permutation of the others
 module _ {K : Type 0} {cmp : K → K → Ordering} (o : IsKeyOrder cmp) where
-  pub decides_known : (numbers sorted known : List K) → IsPermutation numbers sorted → IsInOrder cmp sorted → IsInOrder cmp known
-      → (b : Bool) → b ≡ is_eq (slice_cmp cmp sorted known) → Decides b (IsPermutation numbers known)
-  decides_known numbers sorted known p g h b e = (
-    λ yes. subst (IsPermutation numbers) (same-true (lists_keys o) sorted known (sym e ∙ yes)) p,
-    λ q. e ∙ subst (λ ys. is_eq (slice_cmp cmp sorted ys) ≡ true)
-        (in_order-permutation o sorted known g h (IsPermutation-trans sorted numbers known (IsPermutation-sym numbers sorted p) q))
+  pub decides_sorted : (ones sorted others known : List K) → IsPermutation ones sorted → IsInOrder cmp sorted → IsPermutation others known
+      → IsInOrder cmp known → (b : Bool) → b ≡ is_eq (slice_cmp cmp sorted known) → Decides b (IsPermutation ones others)
+  decides_sorted ones sorted others known p g q h b e = (
+    λ yes. IsPermutation-trans ones known others
+        (subst (IsPermutation ones) (same-true (lists_keys o) sorted known (sym e ∙ yes)) p) (IsPermutation-sym others known q),
+    λ r. e ∙ subst (λ ys. is_eq (slice_cmp cmp sorted ys) ≡ true)
+        (in_order-permutation o sorted known g h (IsPermutation-trans sorted ones known (IsPermutation-sym ones sorted p)
+        (IsPermutation-trans ones others known r q)))
         (same-itself (lists_keys o) sorted),
   )

@@ -39,7 +39,12 @@ fn carries_parts<A: Chart, B: Chart>(
     requires { NumbersArePaired (tabled tables.now) (A.county a.now) (B.county b.now) }
     ensures { IfOk result (λ yes. Decides yes (Carries (tabled tables.now) (A.county a.now) (B.county b.now))) }
 {
-    Ok(are_parts_there(a, b, tables) && are_links_there(alloc, a, b, tables)?)
+    let there = are_parts_there(a, b, tables);
+    if !there {
+        return Ok(false);
+    }
+    let links = are_links_there(alloc, a, b, tables)?;
+    Ok(links)
 }
 
 /// Whether the renaming carries `a` onto `b`: its lists name each number of `a` once on the left and each of `b` once

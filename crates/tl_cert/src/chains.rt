@@ -5,11 +5,13 @@ ghost use Rattle.std.specs.{Bool.Decides, Ordering.nat_cmp};
 ghost use Rattle.tl_cert.specs.PartsThere.{chain_carried, tabled};
 ghost use Rattle.county_chart.specs.SameParts.{HaveSameContent, HaveSameEnds, HaveSameLists};
 ghost use Rattle.county_chart.specs.{ChartWords.chain_at, ChartWords.feats_of, DirectedChains.directed_chain, Renumbering.renumbered_side};
+ghost use Rattle.county_chart.specs.PolygonKeys.{key_cmp};
 ghost use Rattle.ordered_lists.specs.Pairs.{image};
 
 use crate::renaming_tables::RenamingTables;
 use county_chart::{
-    ChainFeats, ChainPoints, ChainRanges, Chart, DirectedChain, Listed, Same, Tested, are_same,
+    ChainFeats, ChainPoints, ChainRanges, Chart, DirectedChain, Listed, PolygonKey, Same, Tested,
+    are_same,
 };
 use tl_layout::Side;
 
@@ -37,13 +39,20 @@ fn is_node_there(
     }
 }
 
+/// The new key of a polygon.
+fn new_key(tables: &RenamingTables, key: PolygonKey) -> PolygonKey
+    ensures { result ≡ image key_cmp tables.now.polygons key }
+{
+    tables.polygons.image(key)
+}
+
 /// Whether a side is another with its polygon under its new key.
 fn is_side_renumbered(tables: &RenamingTables, old: Side, new: Side) -> bool
     ensures { Decides result (new ≡ renumbered_side (tabled tables.now) old) }
 {
     match old.polyid() {
         Some(polyid) => match new.polyid() {
-            Some(other) => (new.cenid(), other) == tables.polygons.image((old.cenid(), polyid)),
+            Some(other) => (new.cenid(), other) == new_key(tables, (old.cenid(), polyid)),
             None => false,
         },
         None => new.polyid().is_none() && new.cenid() == old.cenid(),
@@ -104,13 +113,9 @@ impl<'a, A: Chart, B: Chart> Chains<'a, A, B> {
         ensures { Decides result (HaveSameContent (chain_at (B.county self.now.b.now) other)
             (chain_carried (tabled self.now.tables.now) (A.county self.now.a.now) directed)) }
     {
-        self.b
-            .chain_body_at(other)
-            .is_same(Some(directed.body(self.a)))
-            && self
-                .b
-                .topology_at(other)
-                .is_same(Some(directed.topology(self.a)))
+        let body = Some(directed.body(self.a));
+        let topology = Some(directed.topology(self.a));
+        self.b.chain_body_at(other).is_same(body) && self.b.topology_at(other).is_same(topology)
     }
 
     /// Whether it has the chain's nodes and sides under their new numbers.

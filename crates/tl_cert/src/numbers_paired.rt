@@ -8,15 +8,40 @@ ghost use Rattle.ordered_lists.specs.{Orders.has_repeat, Orders.contains, Pairs.
 
 use crate::lists::{Feats, Lands, Nodes, Polygons, Tlids};
 use crate::pairing::are_paired;
-use county_chart::{Chart, PolygonKey};
+use county_chart::{Chart, PolygonKey, Tested, all_hold};
 use renamings::{Renaming, SortedNumbers};
 use std::alloc::{AllocError, Global};
 
-/// Whether pairs of polygons keep the CENID.
-fn keep_cenids(pairs: &[(PolygonKey, PolygonKey)]) -> bool
-    ensures { Decides result (AllByRecursion (λ pair. pair.0.0 ≡ pair.1.0) pairs.now) }
+/// Whether two polygons have the same CENID.
+fn have_one_cenid(old: PolygonKey, new: PolygonKey) -> bool
+    ensures { Decides result (old.0 ≡ new.0) }
 {
-    pairs.iter().all(|pair| pair.0.0 == pair.1.0)
+    old.0 == new.0
+}
+
+/// Pairs of polygons, tested for keeping the CENID.
+#[derive(Drop)]
+struct PolygonPairs<'a> {
+    pairs: &'a [(PolygonKey, PolygonKey)],
+}
+
+impl<'a> Tested for PolygonPairs<'a> {
+    ghost use Rattle.county_chart.specs.PolygonKeys.{PolygonKey};
+
+    ghost Entry = { PolygonKey × PolygonKey };
+
+    ghost entries = { λ p. p.pairs.now };
+
+    ghost Holds = { λ p pair. pair.0.0 ≡ pair.1.0 };
+
+    fn count(&self) -> usize {
+        self.pairs.len()
+    }
+
+    fn holds(&self, place: usize) -> bool {
+        let pair = self.pairs[place];
+        have_one_cenid(pair.0, pair.1)
+    }
 }
 
 /// Whether the pairs of all five kinds are those of the two counties' numbers, and polygons keep their CENIDs.
@@ -33,14 +58,28 @@ fn lists_are_paired<A: Chart, B: Chart>(
         × ArePaired renaming.now.nodes (nodes (A.county a.now)) (nodes (B.county b.now))
         × AllByRecursion (λ pair. pair.0.0 ≡ pair.1.0) renaming.now.polygons)) }
 {
-    Ok(
-        are_paired(alloc, renaming.chains(), &Tlids(a), &Tlids(b))?
-            && are_paired(alloc, renaming.names(), &Feats(a), &Feats(b))?
-            && are_paired(alloc, renaming.polygons(), &Polygons(a), &Polygons(b))?
-            && are_paired(alloc, renaming.lands(), &Lands(a), &Lands(b))?
-            && are_paired(alloc, renaming.nodes(), &Nodes(a), &Nodes(b))?
-            && keep_cenids(renaming.polygons()),
-    )
+    let chains = are_paired(alloc, renaming.chains(), &Tlids(a), &Tlids(b))?;
+    if !chains {
+        return Ok(false);
+    }
+    let names = are_paired(alloc, renaming.names(), &Feats(a), &Feats(b))?;
+    if !names {
+        return Ok(false);
+    }
+    let polygons = are_paired(alloc, renaming.polygons(), &Polygons(a), &Polygons(b))?;
+    if !polygons {
+        return Ok(false);
+    }
+    let lands = are_paired(alloc, renaming.lands(), &Lands(a), &Lands(b))?;
+    if !lands {
+        return Ok(false);
+    }
+    let nodes = are_paired(alloc, renaming.nodes(), &Nodes(a), &Nodes(b))?;
+    if !nodes {
+        return Ok(false);
+    }
+    let pairs = renaming.polygons();
+    Ok(all_hold(&PolygonPairs { pairs }))
 }
 
 /// Whether a county has chains with all of these TLIDs.
@@ -75,5 +114,10 @@ pub(crate) fn numbers_are_paired<A: Chart, B: Chart>(
 ) -> Result<bool, AllocError>
     ensures { IfOk result (λ yes. Decides yes (NumbersArePaired renaming.now (A.county a.now) (B.county b.now))) }
 {
-    Ok(lists_are_paired(alloc, a, b, renaming)? && are_turned_once(alloc, a, renaming)?)
+    let lists = lists_are_paired(alloc, a, b, renaming)?;
+    if !lists {
+        return Ok(false);
+    }
+    let turned = are_turned_once(alloc, a, renaming)?;
+    Ok(turned)
 }

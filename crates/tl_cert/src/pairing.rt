@@ -1,7 +1,7 @@
 //! Whether a list of numbers is a permutation of another.
 
 ghost use Rattle.std.specs.Bool.{Decides};
-ghost use Rattle.std.specs.Prelude.{IfOk, IsPermutation, ◌≡◌};
+ghost use Rattle.std.specs.Prelude.{IfOk, IsPermutation, map, ◌≡◌};
 ghost use Rattle.ordered_lists.specs.Pairs.{ArePaired};
 
 use county_chart::{Listed, push_all, sort_by_keys};
@@ -17,6 +17,20 @@ pub(crate) fn are_reordered<K: Key>(ones: Vec<K>, others: Vec<K>) -> Result<bool
     let mut known = others;
     sort_by_keys::<K, K>(&mut known)?;
     Ok(sorted.as_slice().cmp(known.as_slice()).is_eq())
+}
+
+/// The numbers on the left of pairs.
+fn old_numbers<K: Key>(alloc: Global, pairs: &[(K, K)]) -> Result<Vec<K>, AllocError>
+    ensures { IfOk result (λ numbers. numbers.items ≡ map (λ pair. pair.0) pairs.now) }
+{
+    pairs.iter().map(|pair| pair.0).collect(alloc)
+}
+
+/// The numbers on the right of pairs.
+fn new_numbers<K: Key>(alloc: Global, pairs: &[(K, K)]) -> Result<Vec<K>, AllocError>
+    ensures { IfOk result (λ numbers. numbers.items ≡ map (λ pair. pair.1) pairs.now) }
+{
+    pairs.iter().map(|pair| pair.1).collect(alloc)
 }
 
 /// Whether the numbers are a permutation of the items of a list.
@@ -41,12 +55,12 @@ pub(crate) fn are_paired<K: Key, A: Listed<Item = K>, B: Listed<Item = K>>(
 ) -> Result<bool, AllocError>
     ensures { IfOk result (λ yes. Decides yes (ArePaired pairs.now (A.items olds.now) (B.items news.now))) }
 {
-    let lefts = pairs.iter().map(|pair| pair.0).collect(alloc)?;
+    let lefts = old_numbers(alloc, pairs)?;
     let left = are_items_of(alloc, lefts, olds)?;
     if !left {
         return Ok(false);
     }
-    let rights = pairs.iter().map(|pair| pair.1).collect(alloc)?;
+    let rights = new_numbers(alloc, pairs)?;
     let right = are_items_of(alloc, rights, news)?;
     Ok(right)
 }

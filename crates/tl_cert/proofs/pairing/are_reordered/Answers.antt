@@ -1,18 +1,11 @@
-use Rattle.tl_cert.proofs.Common.{sym, subst, IsPermutation, IsPermutation-sym, IsPermutation-trans, Decides, IsInOrder}
-use Rattle.tl_cert.proofs.Common.{in_order-from_sorted, decides_same}
+use Rattle.tl_cert.proofs.Common.{IsKeyOrder, ap, in_order-from_sorted, is_eq, slice_cmp, ◌∙◌}
+use Rattle.tl_cert.proofs.Places.{decides_sorted}
 use Rattle.tl_cert.proofs.pairing.are_reordered.Goals as goal
-
-pub are_known-requires : goal.are_known-requires
-are_known-requires g c =
-    subst (IsInOrder g.K.Ord.cmp) (sym c.deref.ensures.value)
-    (in_order-from_sorted g.met.K.Ord.total c.sort.new.self.items c.in_ok-sort.ensures.sorted)
 
 pub returns : goal.returns
 returns g c =
-    let ones = c.args.ones.items in
-    let others = c.args.others.items in
-    let known = c.sort.new.self.items in
-    decides_same c.in_ok-yes.yes
-    (subst (λ numbers. Decides c.in_ok-yes.yes (IsPermutation ones numbers)) c.deref.ensures.value c.in_ok-yes.ensures)
-    (λ p. IsPermutation-trans ones known others p (IsPermutation-sym others known c.in_ok-sort.ensures.permutation))
-    (λ p. IsPermutation-trans ones others known p c.in_ok-sort.ensures.permutation)
+    let o : IsKeyOrder g.K.Ord.cmp = record { total = g.met.K.Ord.total; exact = g.met.K.Key.exact } in
+    decides_sorted o c.args.ones.items c.sort.new.self.items c.args.others.items c.sort_by_keys.new.items.items
+    c.in_ok-sort.ensures.permutation (in_order-from_sorted g.met.K.Ord.total c.sort.new.self.items c.in_ok-sort.ensures.sorted)
+    c.sort_by_keys.ensures.permutation c.in_ok-sort_by_keys.ensures.in_order c.is_eq.result
+    (c.is_eq.ensures ∙ ap is_eq (c.cmp.ensures ∙ (λ i. slice_cmp g.K.Ord.cmp (c.as_slice.ensures.value i) (c.as_slice-2.ensures.value i))))
