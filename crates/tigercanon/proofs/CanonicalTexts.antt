@@ -1,37 +1,9 @@
 -- The canonical text of records that were read, and why there may be none.
-use Rattle.tigercanon.proofs.Common.{◌≡◌, ◌∙◌, ℕ, List, Result, Ok, Err, [], ◌∷◌, subst, sym, ◌+◌, ◌++◌, ◌<◌, length, take, MatchResult}
-use Rattle.tigercanon.proofs.Common.{if◌then◌else◌, is_ok, WriteFault, text_of, Record, County, county_of, IsCounty, packed}
-use Rattle.tigercanon.proofs.Common.{Renumbering, Carries, packed_county, IsView, IsOnlyTextInView, StopsShort, CarriesSetInView}
-use Rattle.tigercanon.proofs.Common.{IsAcceptedSet, IsCanonSetInView, IsCanonicalTextInView, IsOneCanonicalTextInView}
-use Rattle.std.proofs.Common.{IfOk, IfErr}
-use Rattle.tigercanon.specs.Normalising.{GoesOut}
+use Rattle.tigercanon.proofs.Common.{Carries, CarriesSetInView, County, Err, GoesOut, IfErr, IfOk, IsAcceptedSet, IsCanonSetInView}
+use Rattle.tigercanon.proofs.Common.{IsCanonicalTextInView, IsCounty, IsOneCanonicalTextInView, IsOnlyTextInView, IsView, List, MatchResult}
+use Rattle.tigercanon.proofs.Common.{Ok, Record, Renumbering, Result, StopsShort, WriteFault, [], county_of, if◌then◌else◌, is_ok, length}
+use Rattle.tigercanon.proofs.Common.{packed, packed_county, subst, sym, take, text_of, ℕ, ◌++◌, ◌+◌, ◌<◌, ◌∙◌, ◌∷◌, ◌≡◌}
 use Rattle.tigercanon.proofs.Sets.{one_text, only_text, text_accepted, text_itself}
-
-pub if_ok_by : {T E : Type 0} {P Q : T → Type 0} (r : Result T E) → ((x : T) → P x → Q x) → IfOk r P → IfOk r Q
-if_ok_by (Ok x) f h = f x h
-if_ok_by (Err e) f h = tt
-
-pub if_err_by : {T E : Type 0} {P Q : E → Type 0} (r : Result T E) → ((e : E) → P e → Q e) → IfErr r P → IfErr r Q
-if_err_by (Ok x) f h = tt
-if_err_by (Err e) f h = f e h
-
--- properties of an answer or of a fault, if it is known which of them the result is
-pub ok_holds : {T E : Type 0} (P : T → Type 0) (r : Result T E) (x : T) → r ≡ Ok x → IfOk r P → P x
-ok_holds P r x e h = subst (λ s. IfOk s P) e h
-
-pub err_holds : {T E : Type 0} (P : E → Type 0) (r : Result T E) (f : E) → r ≡ Err f → IfErr r P → P f
-err_holds P r f e h = subst (λ s. IfErr s P) e h
-
--- properties of an answer and of a fault together
-pub match_of : {T E : Type 0} (P : T → Type 0) (Q : E → Type 0) (r : Result T E) → IfOk r P → IfErr r Q → MatchResult r P Q
-match_of P Q (Ok x) p q = p
-match_of P Q (Err e) p q = q
-
-pub match_ok : {T E : Type 0} (P : T → Type 0) (Q : E → Type 0) (r : Result T E) (x : T) → r ≡ Ok x → MatchResult r P Q → P x
-match_ok P Q r x e h = subst (λ s. MatchResult s P Q) e h
-
-pub match_err : {T E : Type 0} (P : T → Type 0) (Q : E → Type 0) (r : Result T E) (f : E) → r ≡ Err f → MatchResult r P Q → Q f
-match_err P Q r f e h = subst (λ s. MatchResult s P Q) e h
 
 -- the outcome of writing a text to a sink
 pub goes_out : {W : Type 0} (failed : W → ℕ) (holds : W → List ℕ → Type 0) (old new : W) (text : List ℕ) (r : Result ℕ WriteFault)

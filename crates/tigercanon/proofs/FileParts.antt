@@ -1,9 +1,7 @@
 -- The bytes of a source that was read to its end, and the fault that is then recorded.
-use Rattle.tigercanon.proofs.Common.{◌≡◌, ℕ, ◌+◌, ◌%◌, ◌^◌, List, ◌++◌, Option, Some, None, Result, Ok, Err, append-nil, refl, sym}
-use Rattle.tigercanon.proofs.Common.{ap, subst, ◌∙◌, IfSome, OnOk, Consumes, IsAtEnd, RoseBy, LoadFault, IsNotDevice, is_device_fault}
-use Rattle.std.proofs.Common.{add_assoc}
-use Rattle.std.proofs.Math.Nat.{mod-add-mod}
-use Rattle.std.specs.Prelude.{false, IfErr}
+use Rattle.tigercanon.proofs.Common.{Consumes, Err, IfErr, IfSome, IsAtEnd, IsNotDevice, List, LoadFault, None, Ok, OnOk, Option, Result}
+use Rattle.tigercanon.proofs.Common.{RoseBy, Some, ap, append-nil, false, is_device_fault, mod-add-mod, refl, rules, subst, sym, ℕ, ◌++◌}
+use Rattle.tigercanon.proofs.Common.{◌+◌, ◌∙◌, ◌∷◌, ◌≡◌}
 use Rattle.tl_load.specs.declared.fault.LoadFault.TheVariants as faults
 
 -- bytes taken to the end are all bytes
@@ -12,6 +10,13 @@ pub taken_all : (known left : Option (List ℕ)) (taken : List ℕ) → Consumes
 taken_all None left taken c e = tt
 taken_all (Some all) None taken c e = absurd c
 taken_all (Some all) (Some rest) taken c e = sym (c ∙ ap (λ (l : List ℕ). taken ++ l) e ∙ append-nil taken)
+
+-- equal lists have equal firsts and equal rests
+pub head_of : {A : Type 0} (x y : A) (xs ys : List A) → x ∷ xs ≡ y ∷ ys → x ≡ y
+head_of x y xs ys e = cc
+
+pub tail_of : {A : Type 0} (x y : A) (xs ys : List A) → x ∷ xs ≡ y ∷ ys → xs ≡ ys
+tail_of x y xs ys e = cc
 
 -- ---- faults of devices
 
@@ -40,6 +45,4 @@ still_no_device fault_of before after (Err f) was ok reported device stood =
 -- ---- counts of reads
 
 pub rose_again : (a b c m n : ℕ) → RoseBy m a b → RoseBy n b c → RoseBy (m + n) a c
-rose_again a b c m n p q =
-    q ∙ sym (mod-add-mod b (2 ^ 64) n) ∙ ap (λ (k : ℕ). (k + n) % 2 ^ 64) p ∙ mod-add-mod (a + m) (2 ^ 64) n
-    ∙ ap (λ (k : ℕ). k % 2 ^ 64) (add_assoc a m n)
+rose_again a b c m n p q = search (rules, mod-add-mod)

@@ -1,21 +1,14 @@
 -- The bytes read from sources over files are in the files, and what is reported for files that aren't read.
-use Rattle.tigercanon.proofs.Common.{◌≡◌, ◌<◌, ◌⊎◌, ℕ, List, [], ◌∷◌, ◌++◌, map, Option, Some, None, inl, inr, refl, sym, ap}
-use Rattle.tigercanon.proofs.Common.{arith, subst, All, IfSome, MAX, Consumes, LoadFault, Fault, Load, Opened, bytes_of}
-use Rattle.tigercanon.proofs.Common.{Job, set_of_sources, AreRead, AreReadUpTo, most_records, IsFirstFault, set_of_files}
-use Rattle.tigercanon.proofs.Common.{empty_fault, tiger, Bool, Compare, GivenSet, Memory, ReportsFor, ReportsSet, Respell, if◌then◌else◌}
-use Rattle.std.proofs.lemmas.List.Elements.{All-cons}
-use Rattle.std.specs.Prelude.{slice_index_or}
-use Rattle.command_line.specs.declared.plans.Job.TheVariants.{Check, Fingerprint, Normalise}
-use Rattle.std.specs.Prelude.{false, true}
-use Rattle.tl_load.specs.declared.fault.LoadFault.TheVariants.{Device}
-use Rattle.tigercanon.specs.Devices.{IsRefusalBy}
-use Rattle.tigercanon.specs.Files.{AreHeld, AreSourcesOf}
-use Rattle.tigercanon.specs.Normalising.{AreRefusedParts}
-use Rattle.tigercanon.specs.Reading.{IsFaultOfRead}
-use Rattle.tigercanon.specs.Running.{AreRefused, NamesMissing}
-use Rattle.tigercanon.specs.Stopping.{set_of_job}
-use Rattle.tigercanon.proofs.FileParts.{taken_all}
-use Rattle.tigercanon.proofs.GivenSets.{IsKnownOf}
+use Rattle.tigercanon.proofs.Common.{All, All-cons, AreHeld, AreRead, AreReadUpTo, AreRefused, AreRefusedParts, AreSourcesOf, Bool, Check}
+use Rattle.tigercanon.proofs.Common.{Compare, Consumes, Fault, Fingerprint, GivenSet, IfSome, IsFaultOfRead, IsFirstFault, IsOfNoLines}
+use Rattle.tigercanon.proofs.Common.{IsRefusalBy, IsReportedBy, Job, List, Load, LoadFault, MAX, None, Normalise, Opened, Option}
+use Rattle.tigercanon.proofs.Common.{ReportsFor, ReportsSet, Respell, Some, [], ap, arith, bytes_of, empty_fault, false, if◌then◌else◌, inl}
+use Rattle.tigercanon.proofs.Common.{inr, map, most_records, refl, set_of_files, set_of_job, set_of_sources, slice_index_or, subst, sym}
+use Rattle.tigercanon.proofs.Common.{tiger, true, ℕ, ◌++◌, ◌<◌, ◌∷◌, ◌≡◌, ◌⊎◌}
+use Rattle.tigercanon.proofs.{FileParts.head_of, FileParts.tail_of, FileParts.taken_all, GivenSets.IsKnownOf}
+use Rattle.tigercanon.proofs.Common.{Mask, LeavesStopped, to_writer}
+use Rattle.tigercanon.proofs.Leaving.{kept}
+use Rattle.tigercanon.proofs.SourceSets.{left_untouched}
 
 -- sources that give what their files hold; none has failed
 pub opened_from : {S F : Type 0} (left : S → Option (List ℕ)) (failed : S → ℕ) (bytes : F → Option (List ℕ)) (sources : List S) (files : List F)
@@ -35,12 +28,6 @@ opened_from left failed bytes (s ∷ ss) (f ∷ fs) e =
 pub below_most : {S : Type 0} (failed : S → ℕ) (xs ys : List S) → ys ≡ xs → All (λ s. failed s ≡ 0) xs → All (λ s. failed s < MAX) ys
 below_most failed xs ys e all =
     subst (All (λ s. failed s < MAX)) (sym e) (λ k d l. let z : failed (slice_index_or xs k d) ≡ 0 = all k d l in omega arith)
-
-first_same : (n m : Option (List ℕ)) (ns ms : List (Option (List ℕ))) → n ∷ ns ≡ m ∷ ms → n ≡ m
-first_same n m ns ms e = cc
-
-rest_same : (n m : Option (List ℕ)) (ns ms : List (Option (List ℕ))) → n ∷ ns ≡ m ∷ ms → ns ≡ ms
-rest_same n m ns ms e = cc
 
 -- known bytes, or none
 abbrev pub known_or_none : Option (List ℕ) → List ℕ
@@ -67,34 +54,27 @@ module _ {R : Type 0} (remaining : R → Option (List ℕ)) where
     (is_known (bytes_of remaining f), rest.1),
   )
 
-  -- ---- what is reported if a file is missing, or if there is no memory for the sources
-
   abbrev file_set : List (Opened R) → GivenSet
   file_set = set_of_files remaining
 
-  pub missing_reported : (first second : List (Opened R)) (job : Job) (fault : Fault) (set : Option ℕ) → fault ≡ Load Device
-      → NamesMissing job first second set → ReportsFor job (file_set first) (file_set second) fault set
-  missing_reported first second job fault set e names = subst (λ f. ReportsFor job (file_set first) (file_set second) f set) (sym e) (go job names)
-    where
-      unread : (files : List (Opened R)) → ReportsSet (file_set files) (Load Device)
-      unread files = ((λ of. absurd of), (λ is. tt))
+  -- what is reported if a file is missing, or if there is no memory for the sources
+  unopened_reported : (first second : List (Opened R)) (fault : Fault) → IsOfNoLines fault → IsReportedBy Respell fault
+      → ((files : List (Opened R)) → ReportsSet (file_set files) fault) → (job : Job) (is_first : Bool)
+      → ReportsFor job (file_set first) (file_set second) fault (set_of_job job (if is_first then 1 else 2))
+  unopened_reported first second fault none by unread Compare true = inl (refl, unread first)
+  unopened_reported first second fault none by unread Compare false = inr (refl, some_parts first, inr none, unread second)
+  unopened_reported first second fault none by unread Respell is_first = (refl, (unread first, by))
+  unopened_reported first second fault none by unread Normalise is_first = (refl, (unread first, tt))
+  unopened_reported first second fault none by unread Check is_first = (refl, (unread first, tt))
+  unopened_reported first second fault none by unread Fingerprint is_first = (refl, (unread first, tt))
 
-      go : (j : Job) → NamesMissing j first second set → ReportsFor j (file_set first) (file_set second) (Load Device) set
-      go Compare (inl n) = inl (n.0, unread first)
-      go Compare (inr n) = inr (n.0, some_parts first, inr tt, unread second)
-      go Respell n = (n.0, (unread first, tt))
-      go Normalise n = (n.0, (unread first, tt))
-      go Check n = (n.0, (unread first, tt))
-      go Fingerprint n = (n.0, (unread first, tt))
-
-  pub memory_reported : (first second : List (Opened R)) (job : Job) (is_first_open : Bool)
-      → ReportsFor job (file_set first) (file_set second) Memory (set_of_job job (if is_first_open then 2 else 1))
-  memory_reported first second Compare true = inr (refl, some_parts first, inr tt, tt)
-  memory_reported first second Compare false = inl (refl, tt)
-  memory_reported first second Respell opened = (refl, (tt, tt))
-  memory_reported first second Normalise opened = (refl, (tt, tt))
-  memory_reported first second Check opened = (refl, (tt, tt))
-  memory_reported first second Fingerprint opened = (refl, (tt, tt))
+  -- a job that stops for it leaves its output alone
+  pub unopened_left : (mask : Mask) (written : Option (List ℕ)) (first second : List (Opened R)) (fault : Fault) → IsOfNoLines fault
+      → IsReportedBy Respell fault → ((files : List (Opened R)) → ReportsSet (file_set files) fault) → (job : Job) (is_first : Bool)
+      → LeavesStopped mask job (file_set first) (file_set second) (to_writer written written) fault (set_of_job job (if is_first then 1 else 2))
+  unopened_left mask written first second fault none by unread job is_first =
+      left_untouched mask (file_set first) (file_set second) (to_writer written written) (kept written) job fault _
+      (unopened_reported first second fault none by unread job is_first)
 
 module _ {S R : Type 0} (left : S → Option (List ℕ)) (given : S → ℕ) (remaining : R → Option (List ℕ)) where
   -- parts that were read to their ends
@@ -102,8 +82,8 @@ module _ {S R : Type 0} (left : S → Option (List ℕ)) (given : S → ℕ) (re
       → AreRead left given before after parts → AreHeld remaining files parts
   read_held [] [] [] [] s r = tt
   read_held (f ∷ fs) (b ∷ bs) (n ∷ ns) (p ∷ ps) s r = (
-    subst (λ known. IfSome known (λ bytes. p ≡ bytes)) (first_same _ _ _ _ s) (taken_all (left b) (left n) p r.0.bytes r.1),
-    read_held fs bs ns ps (rest_same _ _ _ _ s) r.2,
+    subst (λ known. IfSome known (λ bytes. p ≡ bytes)) (head_of _ _ _ _ s) (taken_all (left b) (left n) p r.0.bytes r.1),
+    read_held fs bs ns ps (tail_of _ _ _ _ s) r.2,
   )
   read_held [] (b ∷ bs) after parts s r = absurd cc
   read_held (f ∷ fs) [] after parts s r = absurd cc
@@ -118,11 +98,11 @@ module _ {S R : Type 0} (left : S → Option (List ℕ)) (given : S → ℕ) (re
   going_on (f ∷ fs) (b ∷ bs) (n ∷ ns) [] bytes s r =
       let rest = some_parts remaining fs in
       let m = with_left (left b) (left n) bytes r.0.bytes in
-      inl (m.0, rest.0, (subst (λ known. IfSome known (λ all. bytes ++ m.0 ≡ all)) (first_same _ _ _ _ s) m.1, rest.1))
-  going_on (f ∷ fs) (b ∷ bs) (n ∷ ns) (p ∷ ps) bytes s r = behind (going_on fs bs ns ps bytes (rest_same _ _ _ _ s) r.2)
+      inl (m.0, rest.0, (subst (λ known. IfSome known (λ all. bytes ++ m.0 ≡ all)) (head_of _ _ _ _ s) m.1, rest.1))
+  going_on (f ∷ fs) (b ∷ bs) (n ∷ ns) (p ∷ ps) bytes s r = behind (going_on fs bs ns ps bytes (tail_of _ _ _ _ s) r.2)
     where
       here : IfSome (bytes_of remaining f) (λ all. p ≡ all)
-      here = subst (λ known. IfSome known (λ all. p ≡ all)) (first_same _ _ _ _ s) (taken_all (left b) (left n) p r.0.bytes r.1)
+      here = subst (λ known. IfSome known (λ all. p ≡ all)) (head_of _ _ _ _ s) (taken_all (left b) (left n) p r.0.bytes r.1)
 
       behind : ((more : List ℕ) × (later : List (List ℕ)) × AreHeld remaining fs (ps ++ (bytes ++ more) ∷ later))
           ⊎ ((bytes ≡ []) × AreHeld remaining fs ps)

@@ -1,9 +1,7 @@
 -- A statement about a set and its output holds for another set if every fact about the first is a fact about the second.
-use Rattle.tigercanon.proofs.Common.{◌⊎◌, inl, inr, ℕ, List, Option, Result, Ok, Err, Mask, Job, Compare, Fault, Load, Link, Profile}
-use Rattle.tigercanon.proofs.Common.{Write, Memory, Ending, Done, Stopped, IsOfNoLines, GivenOutput, GivenSet, HoldsAccepted}
-use Rattle.tigercanon.proofs.Common.{ReportsSet, Does, IsTextOf, LeavesStopped, ReportsFor}
-use Rattle.tigercanon.specs.declared.program.ending.Ending.TheVariants.{Different}
-use Rattle.tigercanon.specs.TwoSets.{OfTwoSets}
+use Rattle.tigercanon.proofs.Common.{Compare, Different, Does, Done, Ending, Err, Fault, GivenOutput, GivenSet, HoldsAccepted, IsOfNoLines}
+use Rattle.tigercanon.proofs.Common.{IsTextOf, Job, LeavesStopped, Link, List, Load, Mask, Memory, OfTwoSets, Ok, Option, Profile}
+use Rattle.tigercanon.proofs.Common.{ReportsFor, ReportsSet, Result, Stopped, Write, inl, inr, ℕ, ◌⊎◌}
 
 -- every fact about one set is a fact about the other
 pub record IsKnownOf (a b : GivenSet) : Type 0 where

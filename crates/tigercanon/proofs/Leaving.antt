@@ -1,11 +1,7 @@
 -- The final contents of a lent writer.
-use Rattle.tigercanon.proofs.Common.{◌≡◌, ◌+◌, ◌∙◌, inl, inr, ℕ, List, ◌∷◌, ◌++◌, Option, Some, None, Result, Ok, Err, length, take}
-use Rattle.tigercanon.proofs.Common.{refl, sym, ap, subst, OnOk, to_sink, StopsShort, Took, ReportsLine, to_writer, WriteFault}
-use Rattle.std.proofs.Math.Seq.{take-length}
-use Rattle.std.specs.Prelude.{IfErr}
-use Rattle.std.specs.Io.KnownBytes.{Appends, Keeps}
-use Rattle.tigercanon.specs.Lending.{HoldsUnderName}
-use Rattle.tigercanon.specs.Outcomes.{ReportsLineTo}
+use Rattle.tigercanon.proofs.Common.{Appends, Err, GoesOut, HoldsUnderName, Keeps, List, MatchResult, None, Ok, Option, ReportsLine}
+use Rattle.tigercanon.proofs.Common.{ReportsLineTo, Result, Some, StopsShort, Took, WriteFault, ap, inl, inr, length, refl, subst, sym}
+use Rattle.tigercanon.proofs.Common.{take, take-length, to_sink, to_writer, ℕ, ◌++◌, ◌+◌, ◌∙◌, ◌∷◌, ◌≡◌}
 use Rattle.tigercanon.proofs.GivenSets.{IsPrintedTo}
 
 pub kept : (known : Option (List ℕ)) → Keeps known known
@@ -50,13 +46,12 @@ lent_out contents start first last final name later bytes is took ends =
         (lent_appends name later (contents first) (contents last) bytes took)
 
 -- a sink that got a line has it, or it failed and has a beginning of it
-pub line_reported : {E : Type 0} (failed : E → ℕ) (holds : E → List ℕ → Type 0) (old new : E) (line : List ℕ)
-    (outcome : Result (Unit {0}) WriteFault)
-    → OnOk outcome (Took holds old new line) → OnOk outcome (failed new ≡ failed old)
-    → IfErr outcome (λ f. StopsShort holds old new line f.written) → IfErr outcome (λ f. failed new ≡ failed old + 1)
+pub line_reported : {E : Type 0} (failed : E → ℕ) (holds : E → List ℕ → Type 0) (old new : E) (line : List ℕ) (outcome : Result ℕ WriteFault)
+    → MatchResult outcome (λ count. GoesOut holds old new line count × (failed new ≡ failed old))
+    (λ fault. StopsShort holds old new line fault.written × (failed new ≡ failed old + 1))
     → ReportsLineTo failed holds old new line
-line_reported failed holds old new line (Ok done) whole none stopped rose = inl (none, whole)
-line_reported failed holds old new line (Err f) whole none stopped rose = inr (rose, f.written, stopped.1)
+line_reported failed holds old new line (Ok count) h = inl (h.1, h.0.1)
+line_reported failed holds old new line (Err f) h = inr (h.1, f.written, h.0.1)
 
 -- facts about the sink hold for the writer that was lent to it
 module _ {W X : Type 0} (contents : W → Option (List ℕ)) (failed name : X → ℕ) (writer : X → W) (start final : W) (first last : X)

@@ -1,7 +1,6 @@
 -- Sets under a mask: the view of a set's county, and the mask that leaves nothing out.
-use Rattle.tigercanon.proofs.Common.{◌≡◌, ◌∙◌, ℕ, List, sym, subst, no_mask, Mask, County, county_of, masked, plain, IsAcceptable}
-use Rattle.canonical_form.proofs.Masks.MaskedCounties.{masked_by_none}
-use Rattle.tigercanon.specs.Sets.{IsViewedSet}
+use Rattle.tigercanon.proofs.Common.{County, IsAcceptable, IsViewedSet, List, Mask, county_of, masked, masked_by_none, no_mask, plain}
+use Rattle.tigercanon.proofs.Common.{subst, sym, ℕ, ◌∙◌, ◌≡◌}
 
 -- a mask that leaves nothing out shows counties as they are
 pub none_is_plain : masked no_mask ≡ plain

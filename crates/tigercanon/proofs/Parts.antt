@@ -1,9 +1,7 @@
 -- Slices of bytes as the parts of a set.
-use Rattle.tigercanon.proofs.Common.{◌≡◌, ℕ, suc, ◌<◌, ◌+◌, List, [], ◌∷◌, ◌++◌, length, take, get_or, map, ap, sym, ◌∙◌, subst}
-use Rattle.tigercanon.proofs.Common.{append-nil, map-append, empty_fault, tiger, IsFaultHowever, LoadFault, most_records, IsFirstFault}
-use Rattle.std.proofs.Common.{drop, Bor, append_assoc}
-use Rattle.std.proofs.Math.Seq.{drop-cons}
-use Rattle.std.proofs.lemmas.List.{take_more, take-append-drop}
+use Rattle.tigercanon.proofs.Common.{Bor, IsFaultHowever, IsFirstFault, List, LoadFault, [], ap, append-nil, append_assoc, drop, drop-cons}
+use Rattle.tigercanon.proofs.Common.{empty_fault, get_or, length, map, map-append, most_records, subst, suc, sym, take, take-append-drop}
+use Rattle.tigercanon.proofs.Common.{take_more, tiger, ℕ, ◌++◌, ◌+◌, ◌<◌, ◌∙◌, ◌∷◌, ◌≡◌}
 
 abbrev pub parts_of : List (Bor (List ℕ)) → List (List ℕ)
 parts_of slices = map (λ p. p.now) slices

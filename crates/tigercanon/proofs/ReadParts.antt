@@ -1,12 +1,8 @@
 -- Sources that were read one after another.
-use Rattle.tigercanon.proofs.Common.{◌≡◌, ℕ, suc, ◌+◌, ◌<◌, ◌%◌, ◌^◌, List, [], ◌∷◌, ◌++◌, length, get_or, Option, Some, None, inl}
-use Rattle.tigercanon.proofs.Common.{inr, refl, sym, ap, ◌∙◌, subst, arith, Consumes, IsAtEnd, Record, LoadedInto, WasFedInto, Gave}
-use Rattle.tigercanon.proofs.Common.{AreRead, AreReadUpTo, IsUnread, NoneFailed, OneFailed, SomeUnread, most_records}
-use Rattle.std.proofs.Common.{zero, add-zero}
-use Rattle.tl_load.specs.Sources.{RoseBy}
-use Rattle.tigercanon.specs.Reading.{AreReadButOnce}
-use Rattle.std.proofs.Math.ListN.{set}
-use Rattle.std.proofs.Math.Seq.{map-set_same}
+use Rattle.tigercanon.proofs.Common.{AreRead, AreReadButOnce, AreReadUpTo, Gave, IsAtEnd, IsUnread, List, LoadedInto, NoneFailed, OneFailed}
+use Rattle.tigercanon.proofs.Common.{Option, Record, RoseBy, SomeUnread, WasFedInto, [], ap, arith, gave_none, get_or, inl, inr, length}
+use Rattle.tigercanon.proofs.Common.{map-set_same, most_records, refl, set, subst, suc, sym, zero, ℕ, ◌++◌, ◌+◌, ◌<◌, ◌∙◌, ◌∷◌, ◌≡◌}
+use Rattle.tigercanon.proofs.FileParts.{head_of, tail_of}
 
 module _ {R : Type 0} (remaining : R → Option (List ℕ)) (given : R → ℕ) where
   -- the first sources were read to their ends and returned these parts, and the others are unchanged
@@ -49,19 +45,11 @@ module _ {R : Type 0} (remaining : R → Option (List ℕ)) (given : R → ℕ) 
       (g.0, g.1, up_to_next bs ns parts d x bytes g.2 (omega arith) gave)
   up_to_next bs ns parts d x bytes g l gave = absurd g
 
-  -- a source that wasn't read returned nothing
-  none_taken : (known : Option (List ℕ)) → Consumes known known []
-  none_taken None = tt
-  none_taken (Some bytes) = refl
-
-  gave_nothing : (b : R) → Gave remaining given b b []
-  gave_nothing b = record { bytes = none_taken (remaining b); counted = ap (λ (n : ℕ). n % 2 ^ 64) (sym (add-zero (given b))) }
-
   -- the sources after them have returned nothing yet
   pub nothing_more : (bs ns : List R) (parts : List (List ℕ)) → GaveParts bs ns parts → AreReadUpTo remaining given bs ns parts []
   nothing_more [] ns [] g = subst (λ (rs : List R). AreReadUpTo remaining given [] rs [] []) (sym g) refl
   nothing_more (b ∷ bs) ns [] g =
-      subst (λ (rs : List R). AreReadUpTo remaining given (b ∷ bs) rs [] []) (sym g) (gave_nothing b, refl)
+      subst (λ (rs : List R). AreReadUpTo remaining given (b ∷ bs) rs [] []) (sym g) (gave_none remaining given b, refl)
   nothing_more (b ∷ bs) (n ∷ ns) (part ∷ parts) g = (g.0, g.1, nothing_more bs ns parts g.2)
   nothing_more bs ns parts g = absurd g
 
@@ -116,12 +104,6 @@ module _ {R : Type 0} (remaining : R → Option (List ℕ)) (given reads : R →
       (but_once bs ns parts d x last bytes g (omega arith) (gave_there remaining given bs ns parts i d last g e l bytes gave) one)
 
 -- ---- failures
-
-head_of : (n m : ℕ) (ns ms : List ℕ) → n ∷ ns ≡ m ∷ ms → n ≡ m
-head_of n m ns ms e = cc
-
-tail_of : (n m : ℕ) (ns ms : List ℕ) → n ∷ ns ≡ m ∷ ms → ns ≡ ms
-tail_of n m ns ms e = cc
 
 module _ {R : Type 0} (failed : R → ℕ) where
   -- a read that didn't fail

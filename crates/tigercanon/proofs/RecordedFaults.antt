@@ -1,12 +1,10 @@
 -- The faults of a loader that was fed closed parts.
-use Rattle.tigercanon.proofs.Common.{◌≡◌, ℕ, ◌+◌, List, [], ◌∷◌, ◌++◌, Option, Some, None, refl, ap, ◌∙◌, subst, if◌then◌else◌, Record}
-use Rattle.tigercanon.proofs.Common.{tiger, LoadedInto, WasFedInto, IsFaultHowever, IsOfLines, is_device_fault, SpellsWithin}
-use Rattle.tigercanon.proofs.Common.{LoadFault, accepted_no_fault, tiger_is_sound, empty_fault, most_records, IsFirstFault}
-use Rattle.std.specs.Prelude.{MatchOption}
-use Rattle.tl_load.specs.Keeping.{AreKept, seen}
-use Rattle.tl_load.specs.Loaded.{HasLoaded, with_line_feeds}
-use Rattle.tl_load.specs.declared.fault.LoadFault.TheVariants as faults
+use Rattle.tigercanon.proofs.Common.{AreKept, HasLoaded, IsFaultHowever, IsFirstFault, IsOfLines, List, LoadFault, LoadedInto, MatchOption}
+use Rattle.tigercanon.proofs.Common.{None, Option, Record, Some, SpellsWithin, WasFedInto, [], accepted_no_fault, ap, empty_fault}
+use Rattle.tigercanon.proofs.Common.{if◌then◌else◌, is_device_fault, most_records, refl, seen, subst, tiger, tiger_is_sound}
+use Rattle.tigercanon.proofs.Common.{with_line_feeds, ℕ, ◌++◌, ◌+◌, ◌∙◌, ◌∷◌, ◌≡◌}
 use Rattle.tigercanon.proofs.FileParts.{no_device_reported}
+use Rattle.tl_load.specs.declared.fault.LoadFault.TheVariants as faults
 
 module _ {K : Type 0} (holds : K → List Record → Type 0) (l : LoadedInto K) where
   Comes : List (List ℕ) → List ℕ → Option LoadFault → Type 0

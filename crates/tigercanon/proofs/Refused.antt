@@ -1,17 +1,12 @@
 -- The exit status, and what it says about a job.
-use Rattle.tigercanon.proofs.Common.{◌≡◌, ◌≢◌, ◌⊎◌, ◌<◌, ◌≤◌, ◌∷◌, [], Result, Ok, Err, inl, inr, refl, sym, subst, ◌∙◌, ℕ, List}
-use Rattle.tigercanon.proofs.Common.{Option, arith, MatchResult, OnOk, Device, Mask, Job, Compare, Fault, Load, Link, Profile, Write}
-use Rattle.tigercanon.proofs.Common.{Memory, Ending, Done, Stopped, Opened, IsOfNoLines, GivenOutput, GivenSet, HoldsAccepted}
-use Rattle.tigercanon.proofs.Common.{ReportsSet, fault_line, IsOfMissing, Does, LeavesStopped, ReportsFor}
-use Rattle.std.proofs.Common.{Contains, IfErr, lit<}
+use Rattle.tigercanon.proofs.Common.{Compare, Contains, Device, DeviceFailed, Different, Does, Done, Ending, Err, Fault, GivenOutput}
+use Rattle.tigercanon.proofs.Common.{GivenSet, HoldsAccepted, IfErr, IsDifferent, IsDone, IsOfNoLines, IsPartOnly, IsReportedWhy, Job}
+use Rattle.tigercanon.proofs.Common.{LeavesStopped, Link, List, Load, Mask, Memory, Ok, OnOk, Option, Profile, RefusesOne, ReportsFor}
+use Rattle.tigercanon.proofs.Common.{ReportsNoDevice, ReportsSet, Result, Stopped, Write, [], ap, arith, fault_line, inl, inr, lit<, refl}
+use Rattle.tigercanon.proofs.Common.{status_of, status_of_outcome, sym, ℕ, ◌<◌, ◌∙◌, ◌∷◌, ◌≡◌, ◌≢◌, ◌≤◌, ◌⊎◌}
 use Rattle.county_chart.specs.declared.fault.LinkFault.TheVariants.{Memory as LinkMemory}
-use Rattle.tl_load.specs.declared.fault.LoadFault.TheVariants.{Memory as LoadMemory}
 use Rattle.county_chart.specs.declared.profile_fault.ProfileFault.TheVariants.{Memory as ProfileMemory}
-use Rattle.tigercanon.specs.declared.program.ending.Ending.TheVariants.{Different}
-use Rattle.tigercanon.specs.Devices.{DeviceFailed}
-use Rattle.tigercanon.specs.Running.{ReportsMissing}
-use Rattle.tigercanon.specs.Statuses.{status_of, status_of_outcome}
-use Rattle.tigercanon.specs.TwoSets.{IsDifferent, IsDone, IsPartOnly, IsReportedWhy, RefusesOne}
+use Rattle.tl_load.specs.declared.fault.LoadFault.TheVariants.{Memory as LoadMemory}
 
 -- each fault has one of the statuses above 1
 status_above : (f : Fault) → (1 < status_of f) × Contains (0 ∷ 1 ∷ 3 ∷ 4 ∷ 5 ∷ []) (status_of f)
@@ -129,10 +124,7 @@ pub unreported : {P : Type 0} (r : Result Ending Stopped) → OnOk r P → statu
 unreported (Ok ending) kept most = kept
 unreported (Err stopped) kept most = let above = (status_above stopped.fault).0 in absurd (omega (arith, above, most))
 
--- a missing file
-module _ {R : Type 0} (job : Job) (first second : List (Opened R)) where
-  pub missing_reported : (reported : List ℕ → Type 0) (r : Result Ending Stopped) → MatchResult r (λ _. ⊥) (IsOfMissing job first second)
-      → IfErr r (λ stopped. reported (fault_line stopped.fault stopped.set)) → ReportsMissing job first second reported
-  missing_reported reported (Ok ending) missing line = absurd missing
-  missing_reported reported (Err stopped) missing line =
-      (stopped.set, missing.1, subst (λ (fault : Fault). reported (fault_line fault stopped.set)) missing.0 line)
+-- a job with another status than a device's reported none
+pub no_device_reported : (r : Result Ending Stopped) → status_of_outcome r ≢ 4 → ReportsNoDevice r
+no_device_reported (Ok ending) other = tt
+no_device_reported (Err stopped) other = λ e. other (ap status_of e)

@@ -1,13 +1,7 @@
 -- A set is refused for the fault of its records.
-use Rattle.std.proofs.Common.{◌≡◌, Err, false, refl, subst}
-use Rattle.tigercanon.proofs.Common.{ℕ, List, Option, Record, tiger, SpellsWithin, spelled_fit, accepted_within}
-use Rattle.tigercanon.proofs.Common.{Fault, Load, Link, Profile, Write, Memory, ReportsRefusal, ReportsRead}
-use Rattle.tigercanon.proofs.Common.{AreRead, most_records}
-use Rattle.tl_layout.specs.Tables.{HoldsByType}
-use Rattle.tl_layout.specs.declared.tables.Tables.{Tables}
-use Rattle.county_chart.specs.Limits.{HoldsWithinLimits}
-use Rattle.tigercanon.specs.Faults.{RefusesRecords, ReportsRefusalOfRead}
-use Rattle.tigercanon.specs.Normalising.{is_stopped}
+use Rattle.tigercanon.proofs.Common.{AreRead, Err, Fault, HoldsByType, HoldsWithinLimits, Link, List, Load, Memory, Option, Profile, Record}
+use Rattle.tigercanon.proofs.Common.{RefusesRecords, ReportsRead, ReportsRefusal, ReportsRefusalOfRead, SpellsWithin, Tables, Write}
+use Rattle.tigercanon.proofs.Common.{accepted_within, false, is_stopped, most_records, refl, spelled_fit, subst, tiger, ℕ, ◌≡◌}
 
 -- parts are refused for the fault of their records
 pub set_refused : (parts : List (List ℕ)) (records : List Record) → SpellsWithin tiger most_records parts records → (f : Fault)

@@ -1,16 +1,21 @@
 -- Faults reported for parts that were read, as faults reported for parts and for two sets.
-use Rattle.tigercanon.proofs.Common.{◌≢◌, ℕ, List, Result, Err, inl, inr, refl, ap, Record, IsNotDevice, LoadFault}
-use Rattle.tigercanon.proofs.Common.{ReportsRefusalOfOneRead, IsWantOfMemory, ReportsRefusal, ReportsRefusalOfRead, IsAcceptedSet}
-use Rattle.tigercanon.proofs.Common.{Fault, Load, Link, Profile, Write, Memory, CompareFault, In}
-use Rattle.std.proofs.Common.{IfErr}
-use Rattle.tl_load.specs.declared.fault.LoadFault.TheVariants as faults
+use Rattle.tigercanon.proofs.Common.{CompareFault, IsAcceptedSet, IsWantOfMemory, Memory, ReportsRefusal, accepted_no_fault, tiger_is_sound}
+use Rattle.tigercanon.proofs.Common.{Err, Fault, IfErr, Link, List, Load, Record, Result, Write, ap, inl, inr, refl, tiger, ℕ, ◌≢◌}
+use Rattle.tigercanon.proofs.Common.{IfErr-at_err, IfErr-weaker, IsFirstFault, IsNotDevice, LoadFault, Profile, SpellsWithin, most_records}
+use Rattle.tigercanon.proofs.Common.{IsOfLines, ReportsMemoryOfAccepted, ReportsRefusalOfOne, ReportsRefusalOfOneRead, ReportsRefusalOfRead}
+use Rattle.tigercanon.proofs.Sets.{accepted_set_not_refused}
+use Rattle.tigercanon.specs.declared.library.comparing.CompareFault.TheVariants.{In, Memory as NoMemory}
 use Rattle.county_chart.specs.declared.fault.LinkFault.TheVariants.{Memory as LinkMemory}
 use Rattle.county_chart.specs.declared.profile_fault.ProfileFault.TheVariants.{Memory as ProfileMemory}
-use Rattle.tigercanon.specs.Comparing.{ReportsMemoryOfAccepted, ReportsRefusalOfOne}
-use Rattle.tigercanon.specs.declared.library.comparing.CompareFault.TheVariants.{Memory as NoMemory}
-use Rattle.tigercanon.proofs.CanonicalTexts.{err_holds, if_err_by}
-use Rattle.tigercanon.proofs.Sets.{accepted_set_not_refused}
-use Rattle.tigercanon.proofs.Succeeding.{memory_alone}
+use Rattle.tl_load.specs.declared.fault.LoadFault.TheVariants as faults
+
+-- parts that spell records can only be refused for lack of memory
+pub memory_alone : (parts : List (List ℕ)) (records : List Record) (f : LoadFault) → SpellsWithin tiger most_records parts records
+    → (IsOfLines f → IsFirstFault parts f) → IsNotDevice f → IsWantOfMemory (Load f)
+memory_alone parts records faults.Device accepts first other = other
+memory_alone parts records faults.Memory accepts first other = tt
+memory_alone parts records f accepts first other =
+    absurd (accepted_no_fault tiger tiger_is_sound most_records parts records _ accepts (first tt))
 
 is_not_device : (f : LoadFault) → f ≢ faults.Device → IsNotDevice f
 is_not_device faults.Device other = other refl
@@ -29,13 +34,13 @@ module _ (parts : List (List ℕ)) (records : List Record) (accepted : IsAccepte
 
 module _ {T : Type 0} (parts : List (List ℕ)) (r : Result T Fault) (reported : IfErr r (ReportsRefusalOfRead parts)) where
   pub reported_refused : IfErr r (ReportsRefusal parts)
-  reported_refused = if_err_by r (λ f h. h.0) reported
+  reported_refused = IfErr-weaker r _ _ (λ f h. h.0) reported
 
   pub reported_no_device : r ≢ Err (Load faults.Device)
-  reported_no_device e = (err_holds (ReportsRefusalOfRead parts) r (Load faults.Device) e reported).1 refl
+  reported_no_device e = (IfErr-at_err (ReportsRefusalOfRead parts) e reported).1 refl
 
   pub reported_succeeds : (records : List Record) → IsAcceptedSet parts records → IfErr r IsWantOfMemory
-  reported_succeeds records accepted = if_err_by r (accepted_wants_memory parts records accepted) reported
+  reported_succeeds records accepted = IfErr-weaker r _ _ (accepted_wants_memory parts records accepted) reported
 
 -- the same for two sets
 module _ (a b : List (List ℕ)) where

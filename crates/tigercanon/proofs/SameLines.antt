@@ -1,9 +1,7 @@
 -- Sets with the same lines are accepted alike, refused alike except for a faulty line's part and line, and have one canonical text.
-use Rattle.tigercanon.proofs.Common.{◌≡◌, ℕ, List, refl, ap, Record, tiger, SpellsWithin, County, most_records, IsAcceptedSet}
-use Rattle.tigercanon.proofs.Common.{IsSetRefusal, IsCanonicalTextInView, Fault, Load, Link, Profile, Write, Memory}
-use Rattle.tl_load.specs.Lines.{HaveSameLines}
-use Rattle.tl_load.proofs.CutParts.{spells_as, fault_elsewhere}
-use Rattle.tigercanon.specs.Sets.{refusal_without_place}
+use Rattle.tigercanon.proofs.Common.{County, Fault, HaveSameLines, IsAcceptedSet, IsCanonicalTextInView, IsSetRefusal, Link, List, Load}
+use Rattle.tigercanon.proofs.Common.{Memory, Profile, Record, SpellsWithin, Write, ap, fault_elsewhere, most_records, refl}
+use Rattle.tigercanon.proofs.Common.{refusal_without_place, spells_as, tiger, ℕ, ◌≡◌}
 
 module _ (parts others : List (List ℕ)) (same : HaveSameLines parts others) where
   spelled_alike : (records : List Record) → SpellsWithin tiger most_records parts records → SpellsWithin tiger most_records others records

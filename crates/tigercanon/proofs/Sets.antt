@@ -1,31 +1,15 @@
 -- Each set is accepted or has one refusal; two sets have one canonical text exactly if their counties are the same.
-use Rattle.tigercanon.proofs.Common.{◌≡◌, ◌⊎◌, ℕ, List, [], ◌∷◌, refl, sym, ap, ◌∙◌, subst, inl, inr, All, text_of, Record}
-use Rattle.tigercanon.proofs.Common.{SpellsWithin, LoadFault, tiger_is_sound, spelled_fit, accepted_within, County, county_of, AreSame}
-use Rattle.tigercanon.proofs.Common.{IsView, plain, IsOnlyTextInView, most_records, IsAcceptedSet, IsSetRefusal}
-use Rattle.tigercanon.proofs.Common.{IsCanonicalTextInView, Fault, Load, Link, Profile, Write, Memory, IsFirstBrokenClause}
-use Rattle.tigercanon.proofs.Common.{one_canonical_same}
-use Rattle.std.proofs.Common.{lit≤}
-use Rattle.std.specs.List.{AllByRecursion}
-use Rattle.std.proofs.lemmas.List.Elements.{All-from_recursion, recursion_from_All}
-use Rattle.tl_layout.specs.Limits.{IsWithinLimit}
-use Rattle.tl_layout.specs.RecordText.{FitsRecord}
-use Rattle.tl_load.specs.Choice.{tiger}
-use Rattle.tl_load.specs.Outcome.{Spells, FaultAt, IsSpelled, IsFaulty}
-use Rattle.tl_load.proofs.Reading.{one_verdict}
-use Rattle.tl_load.proofs.TextLemmas.{text_spells, text_spells_only}
-use Rattle.canonical_form.specs.Accepted.{IsAccepted, RecordsRefusal, Unlinked, OutOfProfile, IsRefusal}
-use Rattle.canonical_form.specs.Strict.{IsStrictInView}
-use Rattle.tigercanon.specs.Normalising.{IsOnlyText}
-use Rattle.tigercanon.specs.Sets.{IsCanonicalText}
-use Rattle.county_chart.specs.LinkRules.{IsLinked, IsFirstBrokenRule}
-use Rattle.county_chart.proofs.Rules.LinkFaults.{linked_has_none, one_first_rule}
-use Rattle.county_chart.proofs.Profile.ProfileFaults.{profile_has_none, one_first_clause}
-use Rattle.canonical_form.proofs.CanonicalLists.Accepted.{accepted_or_refused, same_canonical_text}
-use Rattle.canonical_form.proofs.CanonicalLists.Accepted.{canonical_accepted, canonical_as_it_is, canonical_of_itself}
-use Rattle.canonical_form.proofs.CanonicalLists.Ascending.{canonical_exists}
-use Rattle.canonical_form.proofs.Arrangements.ArrangedNumbers.{canonical_within}
-use Rattle.canonical_form.proofs.CanonicalLists.StrictLists.{strict_in_view}
-use Rattle.county_chart.proofs.Sameness.Equivalence.{same-reflexive}
+use Rattle.tigercanon.proofs.Common.{All, IsAccepted, IsOnlyText, IsRefusal, LoadFault, one_verdict, spelled_fit, spelled_once, text_spells}
+use Rattle.tigercanon.proofs.Common.{All-from_recursion, IsCanonicalTextInView, IsFirstBrokenClause, one_canonical_same, recursion_from_All}
+use Rattle.tigercanon.proofs.Common.{AllByRecursion, IsCanonicalText, accepted_within, one_first_clause, profile_has_none, text_spells_only}
+use Rattle.tigercanon.proofs.Common.{AreSame, County, FaultAt, IsLinked, IsView, Memory, Profile, Record, Unlinked, county_of, inl, text_of}
+use Rattle.tigercanon.proofs.Common.{Fault, IsStrictInView, RecordsRefusal, linked_has_none, one_first_rule, same-reflexive, strict_in_view}
+use Rattle.tigercanon.proofs.Common.{FitsRecord, IsFirstBrokenRule, IsOnlyTextInView, accepted_no_fault, canonical_exists, canonical_within}
+use Rattle.tigercanon.proofs.Common.{IsAcceptedSet, IsSetRefusal, IsWithinLimit, OutOfProfile, SpellsWithin, most_records, tiger_is_sound}
+use Rattle.tigercanon.proofs.Common.{Link, List, Load, Spells, Write, [], ap, inr, lit≤, plain, refl, subst, sym, ℕ, ◌∙◌, ◌∷◌, ◌≡◌, ◌⊎◌}
+use Rattle.tl_load.specs.{Choice.tiger, Outcome.IsFaulty, Outcome.IsSpelled}
+use Rattle.canonical_form.proofs.CanonicalLists.Accepted.{accepted_or_refused, canonical_accepted, canonical_as_it_is, canonical_of_itself}
+use Rattle.canonical_form.proofs.CanonicalLists.Accepted.{same_canonical_text}
 
 pub set_accepted_or_refused : (parts : List (List ℕ))
     → ((records : List Record) × IsAcceptedSet parts records) ⊎ ((refusal : Fault) × IsSetRefusal parts refusal)
@@ -46,19 +30,11 @@ set_accepted_or_refused parts = go (one_verdict tiger tiger_is_sound most_record
 -- the records that accepted parts spell are one list, and then no line is faulty
 pub one_list : (parts : List (List ℕ)) (records others : List Record) → SpellsWithin tiger most_records parts records
     → SpellsWithin tiger most_records parts others → records ≡ others
-one_list parts records others a b = go (one_verdict tiger tiger_is_sound most_records parts)
-  where
-    go : IsSpelled tiger most_records parts ⊎ IsFaulty tiger most_records parts → records ≡ others
-    go (inl s) = s.only records a.spells ∙ sym (s.only others b.spells)
-    go (inr f) = absurd (f.none records a)
+one_list parts records others a b = spelled_once tiger tiger_is_sound parts records others a.spells b.spells
 
 spelled_not_faulty : (parts : List (List ℕ)) (records : List Record) (fault : LoadFault) → SpellsWithin tiger most_records parts records
     → FaultAt tiger most_records parts fault → ⊥
-spelled_not_faulty parts records fault a h = go (one_verdict tiger tiger_is_sound most_records parts)
-  where
-    go : IsSpelled tiger most_records parts ⊎ IsFaulty tiger most_records parts → ⊥
-    go (inl s) = s.none fault h
-    go (inr f) = f.none records a
+spelled_not_faulty = accepted_no_fault tiger tiger_is_sound most_records
 
 pub accepted_set_not_refused : (parts : List (List ℕ)) (records : List Record) (refusal : Fault) → IsAcceptedSet parts records
     → IsSetRefusal parts refusal → ⊥

@@ -1,14 +1,9 @@
 -- What a job over sources and a sink did.
-use Rattle.tigercanon.proofs.Common.{◌≡◌, ◌+◌, inl, inr, ℕ, List, ◌∷◌, Option, None, Result, Ok, Err, refl, sym, ap, subst, WriteFault}
-use Rattle.tigercanon.proofs.Common.{Device, masked, Mask, Job, Compare, Respell, Fault, Load, Link, Profile, Write, Memory, Ending}
-use Rattle.tigercanon.proofs.Common.{Done, Stopped, StopsReading, set_of_sources, to_sink, IsOfNoLines}
-use Rattle.tigercanon.proofs.Common.{ReportsRefusalOfRead, ReportsRead, GivenOutput, GivenSet, ReportsSet, AreRead, OneFailed}
-use Rattle.tigercanon.proofs.Common.{SomeUnread, IsSetRefusal, Does, IsTextOf, LeavesStopped, ReportsFor}
-use Rattle.std.specs.Prelude.{true, false}
-use Rattle.command_line.specs.declared.plans.Job.TheVariants.{Normalise}
-use Rattle.tigercanon.specs.Devices.{PrintsTo}
-use Rattle.tigercanon.specs.Normalising.{AreRefusedParts, IsCutOffInView, is_of_sink}
-use Rattle.tigercanon.specs.Outcomes.{Reports}
+use Rattle.tigercanon.proofs.Common.{AreRead, Compare, GivenSet, IsTextOf, Normalise, OneFailed, PrintsTo, Profile, Reports, ap, is_of_sink}
+use Rattle.tigercanon.proofs.Common.{AreRefusedParts, IsCutOffInView, IsSetRefusal, LeavesStopped, Ok, ReportsRefusalOfRead, set_of_sources}
+use Rattle.tigercanon.proofs.Common.{Device, Ending, Fault, Memory, Option, Respell, Result, Stopped, Write, false, masked, subst, to_sink}
+use Rattle.tigercanon.proofs.Common.{Does, Done, Err, Job, Link, List, Load, Mask, None, inl, inr, refl, sym, true, ◌+◌, ◌∷◌, ◌≡◌}
+use Rattle.tigercanon.proofs.Common.{GivenOutput, IsOfNoLines, ReportsFor, ReportsRead, ReportsSet, SomeUnread, StopsReading, WriteFault, ℕ}
 
 -- a source that failed couldn't be read
 unread_of_failed : {R : Type 0} (failed reads : R → ℕ) (before after : List R) → OneFailed failed before after
@@ -17,17 +12,7 @@ unread_of_failed failed reads (b ∷ bs) (n ∷ ns) (inl h) = inl (inl h.0)
 unread_of_failed failed reads (b ∷ bs) (n ∷ ns) (inr h) = inr (unread_of_failed failed reads bs ns h.1)
 unread_of_failed failed reads before after h = absurd h
 
--- ---- the reported fault if reading stopped, and if it didn't
-
 module _ (known : GivenSet) where
-  pub reading_reported : (fault : Fault) → StopsReading known.unread fault → Reports Respell known fault
-  reading_reported fault (inl h) = subst (Reports Respell known) (sym h.0) (((λ of. absurd of), (λ is. h.1)), tt)
-  reading_reported fault (inr e) = subst (Reports Respell known) (sym e) (tt, tt)
-
-  pub no_lines_stopped : (fault : Fault) → StopsReading known.unread fault → IsOfNoLines fault
-  no_lines_stopped fault (inl h) = subst IsOfNoLines (sym h.0) tt
-  no_lines_stopped fault (inr e) = subst IsOfNoLines (sym e) tt
-
   -- the fault of parts of the set, after reading
   pub read_reported : (parts : List (List ℕ)) → ((fault : Fault) → IsSetRefusal parts fault → known.refused fault) → (fault : Fault)
       → ReportsRefusalOfRead parts fault → ReportsSet known fault

@@ -1,11 +1,9 @@
 -- Two sets that were put into canonical form.
-use Rattle.tigercanon.proofs.Common.{◌≡◌, ◌≢◌, ◌∙◌, ℕ, List, refl, sym, ap, subst, text_of, County, county_of, IsCounty, packed}
-use Rattle.tigercanon.proofs.Common.{AreSame, Carries, Renumbering, packed_county, IsView, one_canonical_same, AreDifferentInView}
-use Rattle.tigercanon.proofs.Common.{AreOneMapInView, IsAcceptable, IsFound, CarriesSetInView, IsCanonSetInView}
-use Rattle.tigercanon.specs.Findings.{Finding, IsFoundOfCounties}
+use Rattle.tigercanon.proofs.Common.{AreDifferentInView, AreOneMapInView, AreSame, Carries, CarriesSetInView, County, Finding, IsAcceptable}
+use Rattle.tigercanon.proofs.Common.{IsCanonSetInView, IsCounty, IsFound, IsFoundOfCounties, IsView, List, Renumbering, ap, county_of}
+use Rattle.tigercanon.proofs.Common.{one_canonical_same, packed, packed_county, refl, subst, sym, text_of, ℕ, ◌∙◌, ◌≡◌, ◌≢◌}
+use Rattle.tigercanon.proofs.{CanonicalTexts.text_of_set, Sets.one_text_one_list, Sets.same_one_text}
 use Rattle.tigercanon.specs.Findings.Finding.{Carried, NoMemory, OneMap, TwoMaps}
-use Rattle.tigercanon.proofs.CanonicalTexts.{text_of_set}
-use Rattle.tigercanon.proofs.Sets.{one_text_one_list, same_one_text}
 
 -- counties with one packing are one county
 pub one_county : (a b : County) → IsCounty a → IsCounty b → packed a ≡ packed b → a ≡ b

@@ -1,20 +1,13 @@
 -- What the program's jobs do with sources and a sink that count their failures.
-use Rattle.std.specs.Prelude.{ℕ, ◌≡◌, ◌≢◌, ◌+◌, List, Option, None, Result, Ok, Err, IfErr, ◌⊎◌}
-use Rattle.command_line.specs.declared.plans.Job.{Job}
-use Rattle.command_line.specs.declared.plans.Job.TheVariants.{Normalise}
-use Rattle.tigercanon.specs.declared.program.ending.Ending.{Ending}
-use Rattle.tigercanon.specs.declared.program.ending.Stopped.{Stopped}
-use Rattle.tigercanon.specs.declared.program.files.Opened.{Opened}
-use Rattle.tl_load.specs.declared.fault.LoadFault.{LoadFault}
-use Rattle.tl_load.specs.declared.fault.LoadFault.TheVariants.{Device}
-use Rattle.tl_load.specs.declared.source.Counted.{Counted}
-use Rattle.tl_write.specs.declared.fault.WriteFault.{WriteFault}
-use Rattle.tigercanon.specs.declared.fault.Fault.{Fault}
-use Rattle.tigercanon.specs.declared.fault.Fault.TheVariants.{Load, Write, Memory}
-use Rattle.tigercanon.specs.Files.{bytes_of}
+use Rattle.std.specs.Prelude.{Err, IfErr, List, None, Ok, Option, Result, ℕ, ◌+◌, ◌≡◌, ◌≢◌, ◌⊎◌}
+use Rattle.command_line.specs.{declared.plans.Job.Job, declared.plans.Job.TheVariants.Normalise}
+use Rattle.tigercanon.specs.declared.fault.Fault.TheVariants.{Load, Memory, Write}
 use Rattle.tigercanon.specs.Normalising.{AreRefusedParts, StopsShort, Took}
-use Rattle.tigercanon.specs.Outcomes.{GivenOutput, GivenSet}
 use Rattle.tigercanon.specs.Reading.{AreRead, IsFaultOfRead, NoneFailed, SomeUnread}
+use Rattle.tigercanon.specs.{Files.bytes_of, Outcomes.GivenOutput, Outcomes.GivenSet, declared.program.files.Opened.Opened}
+use Rattle.tigercanon.specs.{declared.fault.Fault.Fault, declared.program.ending.Ending.Ending, declared.program.ending.Stopped.Stopped}
+use Rattle.tl_load.specs.{declared.fault.LoadFault.LoadFault, declared.fault.LoadFault.TheVariants.Device, declared.source.Counted.Counted}
+use Rattle.tl_write.specs.declared.fault.WriteFault.{WriteFault}
 
 -- the sources were read to their ends, and the parts that they gave are refused for this fault; or it is a fault in the lines of
 -- every set that begins with what was read, and the read that brought it was the last

@@ -1,9 +1,15 @@
 -- What the files of a set hold.
 use Rattle.std.below.core.specs.declared.int.u64.TheConstants.{MAX}
-use Rattle.std.specs.Prelude.{◌≡◌, ◌<◌, ℕ, Bool, true, false, List, [], ◌∷◌, Option, Some, None, IfSome, slice_get, map, All, Contains, ◌⊎◌}
+use Rattle.std.specs.Prelude.{◌≡◌, ◌<◌, ◌||◌, ℕ, Bool, true, false, List, [], ◌∷◌, Option, Some, None, IfSome, slice_get, map, All}
+use Rattle.std.specs.List.{list_any}
 use Rattle.tigercanon.specs.declared.program.files.Opened.{Opened}
 use Rattle.tigercanon.specs.declared.program.files.Opened.TheVariants.{Found, Absent, Failed}
 use Rattle.tl_load.specs.declared.source.Counted.{Counted}
+
+-- whether there is a file and it is absent
+abbrev pub is_absent : {R : Type 0} → Option (Opened R) → Bool
+is_absent (Some Absent) = true
+is_absent _ = false
 
 -- whether a file couldn't be opened
 abbrev pub is_failed : {R : Type 0} → Opened R → Bool
@@ -19,9 +25,9 @@ opened_of files = map (λ file. file.inner) files
 pub record AreReadable {R : Type 0} (files : List (Counted (Opened R))) : Type 0 where
   pub below : All (λ file. file.failures < MAX) files
 
--- a set lacks a file that it needs: the first is absent, or one couldn't be opened
-abbrev pub IsMissing : {R : Type 0} → List (Opened R) → Type 0
-IsMissing files = (slice_get files 0 ≡ Some Absent) ⊎ Contains files Failed
+-- whether a set lacks a file that it needs: the first is absent, or one couldn't be opened
+abbrev pub lacks_file : {R : Type 0} → List (Opened R) → Bool
+lacks_file files = is_absent (slice_get files 0) || list_any is_failed files
 
 -- the bytes that a file holds, if they are known; an absent file is an empty part
 abbrev pub bytes_of : {R : Type 0} → (R → Option (List ℕ)) → Opened R → Option (List ℕ)

@@ -1,6 +1,5 @@
 -- The parts of a set, lent as slices.
-use Rattle.std.specs.Borrow.{Bor}
-use Rattle.std.specs.Prelude.{ℕ, List, map}
+use Rattle.std.specs.{Borrow.Bor, Prelude.List, Prelude.map, Prelude.ℕ}
 
 -- the bytes of each part
 abbrev pub bytes_of_parts : List (Bor (List ℕ)) → List (List ℕ)

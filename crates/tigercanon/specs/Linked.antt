@@ -1,12 +1,8 @@
 -- What tables of linked records hold of a list of records, and of the parts that spell one.
-use Rattle.std.specs.Prelude.{ℕ, ◌≡◌, List}
-use Rattle.tl_layout.specs.declared.record_type.Record.{Record}
-use Rattle.tl_load.specs.Choice.{tiger}
-use Rattle.tl_load.specs.Outcome.{SpellsWithin}
-use Rattle.county_chart.specs.County.{county_of}
-use Rattle.county_chart.specs.LinkRules.{IsLinked}
-use Rattle.county_chart.specs.Packing.{Typed, type_after_type}
-use Rattle.tl_layout.specs.Limits.{most_records}
+use Rattle.std.specs.Prelude.{List, ℕ, ◌≡◌}
+use Rattle.tl_layout.specs.{Limits.most_records, declared.record_type.Record.Record}
+use Rattle.tl_load.specs.{Choice.tiger, Outcome.SpellsWithin}
+use Rattle.county_chart.specs.{County.county_of, LinkRules.IsLinked, Packing.Typed, Packing.type_after_type}
 
 -- the records fit together, and their county is that of the tables
 abbrev pub AreLinkedAs : Typed → List Record → Type 0

@@ -1,19 +1,15 @@
 -- The outcome of normalising a set: its canonical text, in memory or on a sink, or why there is none.
-use Rattle.std.specs.Prelude.{◌≡◌, ◌≢◌, ℕ, ◌<◌, ◌+◌, Bool, true, false, ◌++◌, List, length, take, Option, Result, Ok, Err, MatchResult}
-use Rattle.tl_layout.specs.RecordText.{text_of}
-use Rattle.tl_layout.specs.declared.record_type.Record.{Record}
+use Rattle.std.specs.Prelude.{Bool, Err, List, MatchResult, Ok, Option, Result, false, length, take, true, ℕ, ◌++◌, ◌+◌, ◌<◌, ◌≡◌, ◌≢◌}
+use Rattle.tl_layout.specs.{RecordText.text_of, declared.record_type.Record.Record}
 use Rattle.tl_load.specs.Loaded.{IsOfLines}
-use Rattle.county_chart.specs.County.{County, county_of}
-use Rattle.county_chart.specs.Renumbering.{AreSame}
 use Rattle.county_chart.specs.declared.fault.LinkFault.TheVariants.{Memory as LinkMemory}
-use Rattle.canonical_form.specs.Canonical.{IsCanonical}
-use Rattle.canonical_form.specs.CountyViews.{plain}
 use Rattle.county_chart.specs.declared.profile_fault.ProfileFault.TheVariants.{Memory as ProfileMemory}
-use Rattle.tigercanon.specs.Reading.{AreRead, IsFaultOfRead}
+use Rattle.county_chart.specs.{County.County, County.county_of, Renumbering.AreSame}
+use Rattle.canonical_form.specs.{Canonical.IsCanonical, CountyViews.plain}
 use Rattle.tigercanon.specs.Sets.{IsAcceptedSet, IsCanonicalTextInView, IsSetRefusal}
+use Rattle.tigercanon.specs.declared.fault.Fault.TheVariants.{Link, Load, Memory, Profile, Write}
+use Rattle.tigercanon.specs.{Reading.AreRead, Reading.IsFaultOfRead, declared.fault.Fault.Fault}
 use Rattle.tl_write.specs.declared.fault.WriteFault.{WriteFault}
-use Rattle.tigercanon.specs.declared.fault.Fault.{Fault}
-use Rattle.tigercanon.specs.declared.fault.Fault.TheVariants.{Load, Link, Profile, Write, Memory}
 
 -- each canonical list whose county is the same as that of the accepted parts has this text
 abbrev pub IsOnlyText : List (List ℕ) → List ℕ → Type 0

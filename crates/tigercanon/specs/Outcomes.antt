@@ -1,22 +1,17 @@
 -- What a job over a set did: what it printed, or why it printed nothing. The definitions apply to any set and any output, by what
 -- is known about them.
-use Rattle.std.specs.Prelude.{ℕ, ◌≡◌, ◌<◌, ◌+◌, ◌≢◌, List, length, take, Option, ◌⊎◌}
+use Rattle.std.specs.Prelude.{List, Option, length, take, ℕ, ◌+◌, ◌<◌, ◌≡◌, ◌≢◌, ◌⊎◌}
 use Rattle.std.specs.Io.KnownBytes.{Appends}
-use Rattle.tl_layout.specs.declared.record_type.Record.{Record}
-use Rattle.tl_load.specs.Loaded.{IsOfLines}
-use Rattle.tl_load.specs.declared.fault.LoadFault.TheVariants.{Device}
+use Rattle.tl_layout.specs.{declared.mask.Mask.Mask, declared.record_type.Record.Record}
+use Rattle.tl_load.specs.{Loaded.IsOfLines, declared.fault.LoadFault.TheVariants.Device}
 use Rattle.county_chart.specs.declared.fault.LinkFault.TheVariants.{Memory as LinkMemory}
 use Rattle.county_chart.specs.declared.profile_fault.ProfileFault.TheVariants.{Memory as ProfileMemory}
 use Rattle.county_chart.specs.MaskedCounty.{masked}
-use Rattle.tl_layout.specs.declared.mask.Mask.{Mask}
 use Rattle.command_line.specs.declared.plans.Job.{Job}
-use Rattle.command_line.specs.declared.plans.Job.TheVariants.{Respell, Normalise, Check, Fingerprint, Compare}
-use Rattle.tigercanon.specs.declared.fault.Fault.{Fault}
-use Rattle.tigercanon.specs.declared.fault.Fault.TheVariants.{Load, Link, Profile, Write, Memory}
-use Rattle.tigercanon.specs.Fingerprints.{SaysFingerprintInView}
-use Rattle.tigercanon.specs.Normalising.{Took}
-use Rattle.tigercanon.specs.Respelling.{IsRespelt}
+use Rattle.command_line.specs.declared.plans.Job.TheVariants.{Check, Compare, Fingerprint, Normalise, Respell}
+use Rattle.tigercanon.specs.declared.fault.Fault.TheVariants.{Link, Load, Memory, Profile, Write}
 use Rattle.tigercanon.specs.Sets.{IsAcceptedSet, IsCanonicalTextInView, SaysAccepted}
+use Rattle.tigercanon.specs.{Fingerprints.SaysFingerprintInView, Normalising.Took, Respelling.IsRespelt, declared.fault.Fault.Fault}
 
 -- what is known about a set that a job was given: what it means that these are its parts, that it is refused for this fault, and
 -- that it couldn't be read

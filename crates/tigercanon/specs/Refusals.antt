@@ -1,17 +1,15 @@
 -- The lines by which the program reports faults.
-use Rattle.std.specs.Prelude.{ℕ, ◌≡◌, List, [], ◌∷◌, ◌++◌, Option, Some, None, codes, string_bytes}
+use Rattle.std.specs.Prelude.{List, None, Option, Some, [], codes, string_bytes, ℕ, ◌++◌, ◌∷◌, ◌≡◌}
 use Rattle.std.specs.Fmt.{decimal}
-use Rattle.fault_report.specs.Reports.{bare, report_line}
-use Rattle.fault_report.specs.declared.kind.FaultKind.TheVariants as kind
-use Rattle.fault_report.specs.declared.report.FaultReport.{FaultReport}
+use Rattle.fault_report.specs.{Reports.bare, Reports.report_line, declared.report.FaultReport.FaultReport}
 use Rattle.tl_load.specs.Reports.{load_report}
-use Rattle.county_chart.specs.Reports.{link_report}
-use Rattle.county_chart.specs.ProfileReports.{profile_report}
+use Rattle.county_chart.specs.{ProfileReports.profile_report, Reports.link_report}
 use Rattle.tl_write.specs.Reports.{write_report}
 use Rattle.command_line.specs.declared.plans.PlanFault.{PlanFault}
-use Rattle.command_line.specs.declared.plans.PlanFault.TheVariants.{Usage, Memory as PlanMemory}
+use Rattle.command_line.specs.declared.plans.PlanFault.TheVariants.{Memory as PlanMemory, Usage}
 use Rattle.tigercanon.specs.declared.fault.Fault.{Fault}
-use Rattle.tigercanon.specs.declared.fault.Fault.TheVariants.{Load, Link, Profile, Write, Memory}
+use Rattle.tigercanon.specs.declared.fault.Fault.TheVariants.{Link, Load, Memory, Profile, Write}
+use Rattle.fault_report.specs.declared.kind.FaultKind.TheVariants as kind
 
 -- The report of a fault, from the layer that found it.
 abbrev pub report_of : Fault → FaultReport

@@ -1,19 +1,13 @@
 -- What the program's jobs do with files and with writers. Only the bytes of these are known, and nothing about their failures.
-use Rattle.std.specs.Prelude.{ℕ, ◌≡◌, List, Option, Some, None, ◌⊎◌}
+use Rattle.std.specs.Prelude.{Bool, IsTrue, List, Option, if◌then◌else◌, ℕ, ◌&&◌, ◌||◌}
 use Rattle.std.specs.Io.KnownBytes.{Appends, Keeps}
 use Rattle.tl_load.specs.declared.fault.LoadFault.TheVariants.{Device}
 use Rattle.tl_layout.specs.declared.mask.Mask.{Mask}
 use Rattle.command_line.specs.declared.plans.Job.{Job}
-use Rattle.command_line.specs.declared.plans.Job.TheVariants.{Compare}
-use Rattle.tigercanon.specs.declared.program.ending.Stopped.{Stopped}
-use Rattle.tigercanon.specs.declared.program.files.Opened.{Opened}
-use Rattle.tigercanon.specs.declared.fault.Fault.{Fault}
-use Rattle.tigercanon.specs.declared.fault.Fault.TheVariants.{Load}
-use Rattle.tigercanon.specs.Files.{AreHeld, IsMissing}
-use Rattle.tigercanon.specs.Outcomes.{GivenOutput, GivenSet}
-use Rattle.tigercanon.specs.Refusals.{fault_line}
-use Rattle.tigercanon.specs.Sets.{IsSetRefusal}
 use Rattle.tigercanon.specs.TwoSets.{IsDifferent, IsDone, IsPartOnly, IsReportedWhy, RefusesOne}
+use Rattle.tigercanon.specs.{Files.AreHeld, Files.lacks_file, Outcomes.GivenSet, Sets.IsSetRefusal, Stopping.reads_two}
+use Rattle.tigercanon.specs.{Outcomes.GivenOutput, Refusals.fault_line, Stopping.set_of_job, declared.program.files.Opened.Opened}
+use Rattle.tigercanon.specs.{declared.fault.Fault.Fault, declared.fault.Fault.TheVariants.Load, declared.program.ending.Stopped.Stopped}
 
 -- what the files hold is refused for this fault
 pub record AreRefused {R : Type 0} (remaining : R → Option (List ℕ)) (files : List (Opened R)) (fault : Fault) : Type 0 where
@@ -61,32 +55,18 @@ abbrev pub ReportsWhy : {R : Type 0} → Mask → Job → (R → Option (List �
 ReportsWhy mask job remaining first second old new reported status =
     IsReportedWhy mask job (set_of_files remaining first) (set_of_files remaining second) (to_writer old new) reported status
 
--- this holds for a set that the job reads
-abbrev pub HoldsForOne : Job → Type 0 → Type 0 → Type 0
-HoldsForOne Compare first second = first ⊎ second
-HoldsForOne job first second = first
-
--- it holds for the named set; if it does for both sets, the first is named, and a job that reads one set names none
-abbrev pub NamesOne : Job → Type 0 → Type 0 → Option ℕ → Type 0
-NamesOne Compare first second set = ((set ≡ Some 1) × first) ⊎ ((set ≡ Some 2) × ¬ first × second)
-NamesOne job first second set = (set ≡ None) × first
+-- whether a set that the job reads lacks a file that it needs, by whether each of two sets does
+abbrev pub lacks_one : Job → Bool → Bool → Bool
+lacks_one job first second = first || (reads_two job && second)
 
 -- a set that the job reads lacks a file that it needs
 abbrev pub IsMissingOne : {R : Type 0} → Job → List (Opened R) → List (Opened R) → Type 0
-IsMissingOne job first second = HoldsForOne job (IsMissing first) (IsMissing second)
+IsMissingOne job first second = IsTrue (lacks_one job (lacks_file first) (lacks_file second))
 
--- the named set lacks a file that it needs
-abbrev pub NamesMissing : {R : Type 0} → Job → List (Opened R) → List (Opened R) → Option ℕ → Type 0
-NamesMissing job first second set = NamesOne job (IsMissing first) (IsMissing second) set
-
--- a job stopped because one of its sets, which it names, lacks a file that it needs, by what is known of each set
-abbrev pub IsOfLacking : Job → Type 0 → Type 0 → Stopped → Type 0
-IsOfLacking job first second stopped = (stopped.fault ≡ Load Device) × NamesOne job first second stopped.set
-
--- a job stopped because a file is missing, and names the set that lacks it
-abbrev pub IsOfMissing : {R : Type 0} → Job → List (Opened R) → List (Opened R) → Stopped → Type 0
-IsOfMissing job first second = IsOfLacking job (IsMissing first) (IsMissing second)
+-- why a job stops if a file is missing: the set that lacks it is named, and if both sets lack one, the first
+abbrev pub stopped_at_missing : Job → Bool → Stopped
+stopped_at_missing job is_first = record { fault = Load Device; set = set_of_job job (if is_first then 1 else 2) }
 
 -- the reported line says that a file is missing, and which of two sets lacks it
 abbrev pub ReportsMissing : {R : Type 0} → Job → List (Opened R) → List (Opened R) → (List ℕ → Type 0) → Type 0
-ReportsMissing job first second reported = (set : Option ℕ) × NamesMissing job first second set × reported (fault_line (Load Device) set)
+ReportsMissing job first _ reported = reported (fault_line (Load Device) (set_of_job job (if lacks_file first then 1 else 2)))

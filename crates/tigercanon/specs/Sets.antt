@@ -1,21 +1,12 @@
 -- Sets of parts, each a list of bytes: which sets are accepted, what the others are refused for, and the canonical text of a set.
-use Rattle.std.specs.Prelude.{ℕ, ◌≡◌, ◌++◌, ◌∷◌, [], List, codes}
-use Rattle.tl_layout.specs.RecordText.{text_of}
-use Rattle.tl_layout.specs.declared.record_type.Record.{Record}
-use Rattle.tl_load.specs.Choice.{tiger}
-use Rattle.tl_load.specs.Outcome.{SpellsWithin}
-use Rattle.tl_load.specs.Verdicts.{without_place}
-use Rattle.county_chart.specs.County.{County, county_of}
-use Rattle.county_chart.specs.Packing.{packed}
-use Rattle.county_chart.specs.Renumbering.{Renumbering, Carries}
-use Rattle.county_chart.specs.LinkRules.{IsLinked, IsFirstBrokenRule}
-use Rattle.county_chart.specs.Profile.{IsFirstBrokenClause}
-use Rattle.canonical_form.specs.Accepted.{IsAccepted, IsCanonicalInView}
-use Rattle.canonical_form.specs.CountyViews.{plain}
-use Rattle.tl_layout.specs.Limits.{most_records}
-use Rattle.tigercanon.specs.Respelling.{IsFirstFault}
-use Rattle.tigercanon.specs.declared.fault.Fault.{Fault}
-use Rattle.tigercanon.specs.declared.fault.Fault.TheVariants.{Load, Link, Profile, Write, Memory}
+use Rattle.std.specs.Prelude.{List, [], codes, ℕ, ◌++◌, ◌∷◌, ◌≡◌}
+use Rattle.tl_layout.specs.{Limits.most_records, RecordText.text_of, declared.record_type.Record.Record}
+use Rattle.tl_load.specs.{Choice.tiger, Outcome.SpellsWithin, Verdicts.without_place}
+use Rattle.county_chart.specs.{County.County, County.county_of, LinkRules.IsFirstBrokenRule, LinkRules.IsLinked, Packing.packed}
+use Rattle.county_chart.specs.{Profile.IsFirstBrokenClause, Renumbering.Carries, Renumbering.Renumbering}
+use Rattle.canonical_form.specs.{Accepted.IsAccepted, Accepted.IsCanonicalInView, CountyViews.plain}
+use Rattle.tigercanon.specs.declared.fault.Fault.TheVariants.{Link, Load, Memory, Profile, Write}
+use Rattle.tigercanon.specs.{Respelling.IsFirstFault, declared.fault.Fault.Fault}
 
 -- the parts spell these records, which are accepted
 pub record IsAcceptedSet (parts : List (List ℕ)) (records : List Record) : Type 0 where

@@ -1,15 +1,13 @@
 -- The exit status for a job that stopped, and for a command line that isn't a plan.
-use Rattle.std.specs.Prelude.{ℕ, Result, Ok, Err}
+use Rattle.std.specs.Prelude.{Err, Ok, Result, ℕ}
 use Rattle.command_line.specs.declared.plans.PlanFault.{PlanFault}
-use Rattle.command_line.specs.declared.plans.PlanFault.TheVariants.{Usage, Memory as PlanMemory}
-use Rattle.tigercanon.specs.declared.fault.Fault.{Fault}
-use Rattle.tigercanon.specs.declared.fault.Fault.TheVariants.{Load, Link, Profile, Write, Memory}
-use Rattle.tigercanon.specs.declared.program.ending.Ending.{Ending}
-use Rattle.tigercanon.specs.declared.program.ending.Ending.TheVariants.{Done, Different}
-use Rattle.tigercanon.specs.declared.program.ending.Stopped.{Stopped}
+use Rattle.command_line.specs.declared.plans.PlanFault.TheVariants.{Memory as PlanMemory, Usage}
+use Rattle.tigercanon.specs.declared.fault.Fault.TheVariants.{Link, Load, Memory, Profile, Write}
+use Rattle.tigercanon.specs.declared.program.ending.Ending.TheVariants.{Different, Done}
+use Rattle.tigercanon.specs.{declared.fault.Fault.Fault, declared.program.ending.Ending.Ending, declared.program.ending.Stopped.Stopped}
 use Rattle.county_chart.specs.declared.fault.LinkFault.TheVariants.{Memory as LinkMemory}
-use Rattle.tl_load.specs.declared.fault.LoadFault.TheVariants.{Device, Memory as LoadMemory}
 use Rattle.county_chart.specs.declared.profile_fault.ProfileFault.TheVariants.{Memory as ProfileMemory}
+use Rattle.tl_load.specs.declared.fault.LoadFault.TheVariants.{Device, Memory as LoadMemory}
 
 -- the status for the fault of a job: 4 for a device, 5 for a failed allocation, and 3 for any other fault
 abbrev pub status_of : Fault → ℕ

@@ -1,20 +1,14 @@
 -- What a job did with the sets that it was given; a comparison has two.
-use Rattle.std.specs.Prelude.{ℕ, ◌≡◌, ◌++◌, ◌∷◌, [], List, Option, Some, None, Result, Ok, Err, ◌⊎◌, codes}
-use Rattle.command_line.specs.declared.plans.Job.{Job}
-use Rattle.command_line.specs.declared.plans.Job.TheVariants.{Compare}
-use Rattle.tigercanon.specs.declared.program.ending.Ending.{Ending}
-use Rattle.tigercanon.specs.declared.program.ending.Ending.TheVariants.{Done, Different}
-use Rattle.tigercanon.specs.declared.program.ending.Stopped.{Stopped}
-use Rattle.tigercanon.specs.declared.fault.Fault.{Fault}
-use Rattle.tigercanon.specs.declared.fault.Fault.TheVariants.{Write}
-use Rattle.county_chart.specs.MaskedCounty.{masked}
-use Rattle.tl_layout.specs.declared.mask.Mask.{Mask}
-use Rattle.tigercanon.specs.Comparing.{SaysSameInView, SaysDifferentInView}
-use Rattle.tigercanon.specs.Faults.{IsOfNoLines}
+use Rattle.std.specs.Prelude.{Err, List, None, Ok, Option, Result, Some, [], codes, ℕ, ◌++◌, ◌∷◌, ◌≡◌, ◌⊎◌}
+use Rattle.command_line.specs.{declared.plans.Job.Job, declared.plans.Job.TheVariants.Compare}
+use Rattle.tigercanon.specs.declared.program.ending.Ending.TheVariants.{Different, Done}
+use Rattle.tigercanon.specs.Comparing.{SaysDifferentInView, SaysSameInView}
 use Rattle.tigercanon.specs.Outcomes.{GivenOutput, GivenSet, HoldsAccepted, IsAnswer, IsAnswered, IsRead, Prints, PrintsFront, Refuses}
 use Rattle.tigercanon.specs.Outcomes.{Reports, ReportsSet}
-use Rattle.tigercanon.specs.Refusals.{fault_line}
-use Rattle.tigercanon.specs.Statuses.{status_of}
+use Rattle.tigercanon.specs.{Faults.IsOfNoLines, Refusals.fault_line, Statuses.status_of, declared.program.ending.Ending.Ending}
+use Rattle.tigercanon.specs.{declared.fault.Fault.Fault, declared.fault.Fault.TheVariants.Write, declared.program.ending.Stopped.Stopped}
+use Rattle.county_chart.specs.MaskedCounty.{masked}
+use Rattle.tl_layout.specs.declared.mask.Mask.{Mask}
 
 -- this holds for what two sets hold
 pub record OfTwoSets (holds : List (List ℕ) → List (List ℕ) → Type 0) (first second : GivenSet) : Type 0 where

@@ -4,7 +4,6 @@ pub(crate) mod checking;
 pub(crate) mod comparing;
 pub(crate) mod comparison;
 pub(crate) mod fingerprinting;
-pub(crate) mod hashing;
 pub(crate) mod linked;
 pub(crate) mod making;
 pub(crate) mod normalising;

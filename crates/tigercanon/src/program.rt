@@ -7,5 +7,4 @@ pub(crate) mod jobs;
 pub(crate) mod missing;
 pub(crate) mod reporting;
 pub(crate) mod running;
-pub(crate) mod two_sets;
 pub(crate) mod writing;

@@ -34,12 +34,11 @@ fn done(rt: &HostRuntime, planned: &Plan) -> Result<u8, AllocError> {
     let mut err = CountedOut::new(rt.stderr());
     Ok(run_counted(
         rt.alloc(),
-        planned.job,
+        planned,
         &mut first,
         &mut second,
         &mut out,
         &mut err,
-        planned.mask,
     ))
 }
 

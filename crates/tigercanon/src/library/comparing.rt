@@ -1,18 +1,12 @@
 //! Whether two sets are one map, as they are or under a mask.
 
-ghost use Rattle.std.specs.Prelude.{◌≡◌, ◌≢◌, Ok, Err, Some, ℕ, List, IfOk, IfErr, MatchResult, true, false};
+ghost use Rattle.std.specs.Prelude.{Err, IfErr, IfOk, List, MatchResult, Ok, Some, false, true, ℕ, ◌≡◌, ◌≢◌};
 ghost use Rattle.tigercanon.specs.Comparing.{AreDifferent, AreDifferentInView, AreOneMap, AreOneMapInView, IsAcceptable};
 ghost use Rattle.tigercanon.specs.Comparing.{ReportsMemoryOfAccepted, ReportsRefusalOfOne, ReportsRefusalOfOneRead};
+ghost use Rattle.tigercanon.specs.{Faults.ReportsRefusalOfRead, Findings.IsFound, LentParts.bytes_of_parts, Refusals.reported_of};
+ghost use Rattle.tigercanon.specs.{Sets.CarriesSet, Sets.CarriesSetInView, Sets.IsCanonSetInView, Stopping.stopped_by};
 ghost use Rattle.tigercanon.specs.declared.fault.Fault.{Fault};
-ghost use Rattle.tigercanon.specs.declared.library.comparing.CompareFault.TheVariants.{Memory};
-ghost use Rattle.tigercanon.specs.Faults.{ReportsRefusalOfRead};
-ghost use Rattle.tigercanon.specs.Findings.{IsFound};
-ghost use Rattle.tigercanon.specs.LentParts.{bytes_of_parts};
-ghost use Rattle.tigercanon.specs.Refusals.{reported_of};
-ghost use Rattle.tigercanon.specs.Stopping.{stopped_by};
-ghost use Rattle.tigercanon.specs.Sets.{CarriesSet, CarriesSetInView, IsCanonSetInView};
-ghost use Rattle.county_chart.specs.MaskedCounty.{masked};
-ghost use Rattle.county_chart.specs.Renumbering.{Renumbering};
+ghost use Rattle.county_chart.specs.{MaskedCounty.masked, Renumbering.Renumbering};
 ghost use Rattle.arranged_county.specs.Views.{arranged_county, source_of};
 
 use crate::fault::Fault;
@@ -71,14 +65,6 @@ impl fmt::Display for CompareFault {
             Ok(text) => f.write_str(text),
             Err(_) => Err(fmt::Error),
         }
-    }
-}
-
-impl From<AllocError> for CompareFault {
-    ghost from_gives = { λ _ made. made ≡ Memory };
-
-    fn from(_error: AllocError) -> CompareFault {
-        CompareFault::Memory
     }
 }
 
@@ -218,8 +204,10 @@ pub fn compare_masked(
     ensures succeeds { IfErr result (ReportsMemoryOfAccepted (bytes_of_parts a.now) (bytes_of_parts b.now)) }
 {
     let found: Result<Verdict, AllocError> = compare_unlinked(alloc, a, b, mask)?;
-    let verdict = found?;
-    Ok(verdict)
+    match found {
+        Ok(verdict) => Ok(verdict),
+        Err(_) => Err(CompareFault::Memory),
+    }
 }
 
 /// Whether two sets of parts are one map, as for [`compare`], but without making the renaming.

@@ -1,10 +1,9 @@
 //! What a comparison of two sets in canonical form returns: a renaming of one onto the other, or only whether they are one map.
 
-ghost use Rattle.std.specs.Prelude.{◌≡◌, IfOk, if◌then◌else◌};
+ghost use Rattle.std.specs.Prelude.{IfOk, if◌then◌else◌, ◌≡◌};
 ghost use Rattle.tigercanon.specs.Findings.{Finding, IsFoundOfCounties, finding_of};
 ghost use Rattle.tigercanon.specs.Findings.Finding.{OneMap, TwoMaps};
-ghost use Rattle.county_chart.specs.Packing.{packed};
-ghost use Rattle.county_chart.specs.Renumbering.{Carries};
+ghost use Rattle.county_chart.specs.{Packing.packed, Renumbering.Carries};
 ghost use Rattle.arranged_county.specs.Views.{arranged_county, source_of};
 
 use crate::library::comparing::Verdict;

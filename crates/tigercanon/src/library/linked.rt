@@ -1,33 +1,18 @@
 //! Linked records, and their county, which reads the records' tables.
 
-ghost use Rattle.std.specs.Prelude.{◌≡◌, ℕ, List, OnOk, IfOk, IfErr};
-ghost use Rattle.tigercanon.specs.Comparing.{IsAcceptable};
-ghost use Rattle.tigercanon.specs.Faults.{RefusesRecords, ReportsRefusalOfRead};
-ghost use Rattle.tigercanon.specs.Linked.{AreLinkedAs, IsLinkedSet};
-ghost use Rattle.tigercanon.specs.Sets.{IsViewedSet};
-ghost use Rattle.county_chart.specs.County.{county_of};
-ghost use Rattle.county_chart.specs.Limits.{HoldsWithinLimits};
-ghost use Rattle.county_chart.specs.Packing.{type_after_type};
+ghost use Rattle.std.specs.Prelude.{IfErr, IfOk, List, OnOk, ℕ, ◌≡◌};
+ghost use Rattle.tigercanon.specs.{Comparing.IsAcceptable, Faults.RefusesRecords, Faults.ReportsRefusalOfRead, Linked.AreLinkedAs};
+ghost use Rattle.tigercanon.specs.{Linked.IsLinkedSet, Sets.IsViewedSet};
+ghost use Rattle.county_chart.specs.{County.county_of, Packing.type_after_type};
 ghost use Rattle.tl_layout.specs.declared.record_type.Record.{Record};
-ghost use Rattle.tl_layout.specs.Tables.{HoldsByType};
 ghost use Rattle.canonical_form.specs.CountyViews.{plain};
 
 use crate::fault::Fault;
 use crate::library::unlinked::UnlinkedSet;
 use bumpalo::Bump;
 use std::alloc::Global;
-use tl_county::{Chart, CountyOver, LinkFault, LinkedRecords, link_in_order};
-use tl_layout::Tables;
+use tl_county::{Chart, CountyOver, LinkFault, LinkedRecords};
 use tl_profile::{Admitted, admit_linked};
-
-/// Links tables of records that are within their limits. The order in the tables has no meaning.
-pub(crate) fn link_records(alloc: Global, tables: Tables) -> Result<LinkedRecords, Fault>
-    requires { HoldsWithinLimits tables }
-    ensures linked { IfOk result (λ linked. (records : List Record) → HoldsByType tables records → AreLinkedAs linked records) }
-    ensures refused { IfErr result (λ fault. (records : List Record) → HoldsByType tables records → RefusesRecords records fault) }
-{
-    Ok(link_in_order(alloc, tables)?)
-}
 
 /// The county of linked records, over their tables and an arena, which outlive it.
 fn county_of_linked<'a>(

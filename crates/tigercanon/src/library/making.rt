@@ -1,12 +1,10 @@
 //! The one way from a set to a product of its map: the set is linked and admitted, put under a mask and into canonical form.
 
-ghost use Rattle.std.specs.Prelude.{◌≡◌, ℕ, List, IfOk, IfErr};
-ghost use Rattle.tigercanon.specs.Faults.{RefusesRecords, ReportsRefusalOfRead};
-ghost use Rattle.tigercanon.specs.Linked.{AreLinkedAs, IsLinkedSet};
-ghost use Rattle.tigercanon.specs.Sets.{IsCanonSetInView, IsViewedSet};
+ghost use Rattle.std.specs.Prelude.{IfErr, IfOk, List, ℕ, ◌≡◌};
+ghost use Rattle.tigercanon.specs.{Faults.RefusesRecords, Faults.ReportsRefusalOfRead, Linked.AreLinkedAs, Linked.IsLinkedSet};
+ghost use Rattle.tigercanon.specs.{Sets.IsCanonSetInView, Sets.IsViewedSet};
 ghost use Rattle.county_chart.specs.MaskedCounty.{masked};
-ghost use Rattle.tl_layout.specs.declared.mask.Mask.{Mask};
-ghost use Rattle.tl_layout.specs.declared.record_type.Record.{Record};
+ghost use Rattle.tl_layout.specs.{declared.mask.Mask.Mask, declared.record_type.Record.Record};
 ghost use Rattle.canonical_form.specs.CountyViews.{plain};
 ghost use Rattle.arranged_county.specs.Views.{arranged_county, source_of};
 
@@ -65,28 +63,8 @@ fn make_masked<D, P: Product<D>, C: Chart + Drop>(
     Ok(made)
 }
 
-/// Makes the product from an admitted county under a mask. A mask that leaves nothing out costs nothing.
-fn make<D, P: Product<D>, C: Chart + Drop>(
-    alloc: Global,
-    admitted: Admitted<C>,
-    product: P,
-    device: &mut D,
-    mask: Mask,
-) -> Result<P::Out, AllocError>
-    requires { P.IsReady product device.old }
-    ensures made { IfOk result (λ made. (parts : List (List ℕ)) → IsViewedSet plain parts (C.county admitted)
-        → P.Answers mask parts product device.old made device.new) }
-    ensures untouched { IfErr result (λ _. device.new ≡ device.old) }
-{
-    if mask.is_none() {
-        make_masked(alloc, admitted, product, device, mask)
-    } else {
-        let masked_county = admitted_masked(alloc, admitted, mask)?;
-        make_masked(alloc, masked_county, product, device, mask)
-    }
-}
-
-/// Makes the product from linked records under a mask. Their county is kept in their tables and an arena.
+/// Makes the product from linked records under a mask. Their county is kept in their tables and an arena. A mask that leaves nothing
+/// out costs nothing.
 pub(crate) fn make_of_linked<'a, D, P: Product<D>>(
     alloc: Global,
     arena: &'a Bump,
@@ -102,7 +80,11 @@ pub(crate) fn make_of_linked<'a, D, P: Product<D>>(
     ensures untouched { IfErr result (λ _. device.new ≡ device.old) }
 {
     let admitted = admitted_county(alloc, arena, linked)?;
-    Ok(make(alloc, admitted, product, device, mask)?)
+    if mask.is_none() {
+        return Ok(make_masked(alloc, admitted, product, device, mask)?);
+    }
+    let masked_county = admitted_masked(alloc, admitted, mask)?;
+    Ok(make_masked(alloc, masked_county, product, device, mask)?)
 }
 
 /// Makes the product from a set under a mask.

@@ -1,25 +1,24 @@
 //! The canonical text of a set, without a mask or under one.
 
-ghost use Rattle.std.specs.Prelude.{◌≡◌, ◌≢◌, ◌<◌, ◌+◌, ◌∷◌, [], Err, ℕ, List, All, false, length, IfOk, IfErr, if◌then◌else◌};
-ghost use Rattle.tigercanon.specs.Faults.{IsWantOfMemory, ReportsRefusal};
-ghost use Rattle.tigercanon.specs.LentParts.{bytes_of_parts};
-ghost use Rattle.tigercanon.specs.Linked.{IsLinkedSet};
-ghost use Rattle.tigercanon.specs.Normalising.{AreNormalised, AreNormalisedInView, IsCutOff, IsCutOffInView, IsOnlyText, IsOnlyTextInView, ReportsRead, Took, is_of_sink, is_stopped};
+ghost use Rattle.std.specs.Prelude.{All, Err, IfErr, IfOk, List, [], false, if◌then◌else◌, length, ℕ, ◌+◌, ◌<◌, ◌∷◌, ◌≡◌, ◌≢◌};
+ghost use Rattle.tigercanon.specs.Normalising.{AreNormalised, AreNormalisedInView, IsCutOff, IsCutOffInView, IsOnlyText, IsOnlyTextInView};
+ghost use Rattle.tigercanon.specs.Normalising.{ReportsRead, Took, is_of_sink, is_stopped};
 ghost use Rattle.tigercanon.specs.Reading.{AreRead, NoneFailed, OneFailed};
-ghost use Rattle.tigercanon.specs.Sets.{CarriesSet, CarriesSetInView, IsAcceptedSet, IsCanonicalText, IsCanonicalTextInView, IsOneCanonicalText, IsOneCanonicalTextInView};
+ghost use Rattle.tigercanon.specs.Sets.{CarriesSet, CarriesSetInView, IsAcceptedSet, IsCanonicalText, IsCanonicalTextInView};
+ghost use Rattle.tigercanon.specs.Sets.{IsOneCanonicalText, IsOneCanonicalTextInView};
+ghost use Rattle.tigercanon.specs.{Faults.IsWantOfMemory, Faults.ReportsRefusal, LentParts.bytes_of_parts, Linked.IsLinkedSet};
 ghost use Rattle.county_chart.specs.MaskedCounty.{masked};
 ghost use Rattle.tl_layout.specs.declared.record_type.Record.{Record};
 ghost use Rattle.tl_write.specs.declared.fault.WriteFault.{WriteFault};
 
 use crate::fault::Fault;
-use crate::library::linked::link_records;
 use crate::library::making::{make_of, make_of_linked};
 use crate::library::products::{Text, TextAndRenaming, Written};
 use crate::library::reading::load_sources;
 use bumpalo::Bump;
 use renamings::Renaming;
 use std::alloc::Global;
-use tl_county::LinkedRecords;
+use tl_county::{LinkedRecords, link_in_order};
 use tl_layout::{Mask, Tables};
 use tl_load::{LoadFault, Source};
 use tl_write::Sink;
@@ -132,7 +131,7 @@ fn link_sources<R: Source>(alloc: Global, parts: &mut [R]) -> Result<LinkedRecor
     ensures no_device { result ≢ Err (Fault.Load LoadFault.Device) → NoneFailed R.failed parts.old parts.new }
 {
     let tables: Tables = load_sources(alloc, parts)?;
-    link_records(alloc, tables)
+    Ok(link_in_order(alloc, tables)?)
 }
 
 /// Reads the parts from their sources, writes their canonical text to the sink, and returns how many bytes the text has. No part

@@ -1,21 +1,19 @@
 //! What the calls make from a canonical county: its text in memory, the renaming onto it, its text on a sink, and its hash.
 
 ghost use Rattle.sha2.specs.Sha256.{sha256};
-ghost use Rattle.std.specs.Prelude.{◌≡◌, ◌<◌, [], ◌∷◌, IfOk};
-ghost use Rattle.tigercanon.specs.Fingerprints.{IsFingerprintInView};
-ghost use Rattle.tigercanon.specs.Normalising.{IsWrittenInView};
+ghost use Rattle.std.specs.Prelude.{IfOk, [], ◌<◌, ◌∷◌, ◌≡◌};
 ghost use Rattle.tigercanon.specs.Sets.{CarriesSetInView, IsCanonicalTextInView};
-ghost use Rattle.county_chart.specs.MaskedCounty.{masked};
-ghost use Rattle.county_chart.specs.Packing.{packed};
+ghost use Rattle.tigercanon.specs.{Fingerprints.IsFingerprintInView, Normalising.IsWrittenInView};
+ghost use Rattle.county_chart.specs.{MaskedCounty.masked, Packing.packed};
 ghost use Rattle.tl_layout.specs.RecordText.{text_of};
 ghost use Rattle.arranged_county.specs.Views.{arranged_county};
 
-use crate::library::hashing::Hashing;
 use crate::library::making::Product;
 use renamings::Renaming;
+use sha2::{Digest, Sha256};
 use std::alloc::{AllocError, Global};
 use tl_county::Chart;
-use tl_layout::Mask;
+use tl_layout::{DeviceFault, Mask};
 use tl_number::CanonCounty;
 use tl_write::{CountedOut, Sink, WriteFault, write_to};
 
@@ -49,14 +47,39 @@ fn text_in_memory<C: Chart>(alloc: Global, county: &CanonCounty<C>) -> Result<Ve
     }
 }
 
+/// A sink that takes everything written to it and keeps only the SHA-256 hash. It never fails.
+#[derive(Drop)]
+struct Hashing {
+    hasher: Sha256,
+}
+
+impl Sink for Hashing {
+    ghost use Rattle.sha2.specs.Hashers.{Holds256};
+
+    ghost failed = { λ _. 0 };
+
+    ghost holds = { λ s. Holds256 s.hasher };
+
+    fn failures(&self) -> u64 {
+        0
+    }
+
+    fn write(&mut self, buf: &[u8]) -> Result<usize, DeviceFault> {
+        self.hasher.update(buf);
+        Ok(buf.len())
+    }
+}
+
 /// The SHA-256 hash of the text of a canonical county. The text is hashed as it is written, and isn't kept.
 fn hash_of<C: Chart>(county: &CanonCounty<C>) -> [u8; 32]
     ensures { result ≡ sha256 (text_of (packed (arranged_county county.now))) }
 {
-    let mut hashing = Hashing::new();
+    let mut hashing = Hashing {
+        hasher: Sha256::new(),
+    };
     // Hashing never fails.
     let _ = write_to(county, &mut hashing);
-    hashing.hash()
+    hashing.hasher.finalize()
 }
 
 /// Makes the canonical text, in memory.

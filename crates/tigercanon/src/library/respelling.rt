@@ -1,13 +1,9 @@
 //! Records in canonical spelling, in the order of their lines.
 
-ghost use Rattle.std.specs.Prelude.{◌≢◌, Err, List, IfOk, IfErr};
-ghost use Rattle.tigercanon.specs.Faults.{ReportsFirstFault, IsWantOfMemory};
-ghost use Rattle.tigercanon.specs.LentParts.{bytes_of_parts};
-ghost use Rattle.tl_layout.specs.Limits.{most_records};
-ghost use Rattle.tigercanon.specs.Respelling.{IsRespelt};
-ghost use Rattle.tl_layout.specs.declared.record_type.Record.{Record};
-ghost use Rattle.tl_load.specs.Choice.{tiger};
-ghost use Rattle.tl_load.specs.Outcome.{SpellsWithin};
+ghost use Rattle.std.specs.Prelude.{Err, IfErr, IfOk, List, ◌≢◌};
+ghost use Rattle.tigercanon.specs.{Faults.IsWantOfMemory, Faults.ReportsFirstFault, LentParts.bytes_of_parts, Respelling.IsRespelt};
+ghost use Rattle.tl_layout.specs.{Limits.most_records, declared.record_type.Record.Record};
+ghost use Rattle.tl_load.specs.{Choice.tiger, Outcome.SpellsWithin};
 
 use crate::fault::Fault;
 use crate::library::reading::load;

@@ -1,14 +1,12 @@
 //! Sets whose records aren't linked yet: parts in memory, and what a loader was fed.
 
-ghost use Rattle.std.specs.Prelude.{◌≡◌, ℕ, List, [], IfErr, IfOk, IfSome};
-ghost use Rattle.tigercanon.specs.Faults.{ReportsRefusalOfRead};
-ghost use Rattle.tigercanon.specs.Linked.{IsLinkedSet};
+ghost use Rattle.std.specs.Prelude.{IfErr, IfOk, IfSome, List, [], ℕ, ◌≡◌};
+ghost use Rattle.tigercanon.specs.{Faults.ReportsRefusalOfRead, Linked.IsLinkedSet};
 
 use crate::fault::Fault;
-use crate::library::linked::link_records;
 use crate::library::reading::load;
 use std::alloc::Global;
-use tl_county::LinkedRecords;
+use tl_county::{LinkedRecords, link_in_order};
 use tl_layout::Tables;
 use tl_load::LoaderFor;
 
@@ -37,16 +35,14 @@ impl<'a, 'b> UnlinkedSet for &'a [&'b [u8]] {
 
     fn link(self, alloc: Global) -> Result<LinkedRecords, Fault> {
         let tables: Tables = load(alloc, self)?;
-        link_records(alloc, tables)
+        Ok(link_in_order(alloc, tables)?)
     }
 }
 
 /// What a loader was fed, if it has no fault of a device.
 impl UnlinkedSet for LoaderFor<Tables> {
-    ghost use Rattle.tl_layout.specs.Limits.{most_records};
-    ghost use Rattle.tl_layout.specs.Tables.{HoldsByType};
-    ghost use Rattle.tl_load.specs.Keeping.{WasFedInto};
-    ghost use Rattle.tl_load.specs.Loaded.{IsNotDevice};
+    ghost use Rattle.tl_layout.specs.{Limits.most_records, Tables.HoldsByType};
+    ghost use Rattle.tl_load.specs.{Keeping.WasFedInto, Loaded.IsNotDevice};
 
     ghost IsReady = { λ loader. ((parts : List (List ℕ)) × WasFedInto HoldsByType most_records loader parts [])
         × IfSome loader.fault IsNotDevice };
@@ -55,6 +51,6 @@ impl UnlinkedSet for LoaderFor<Tables> {
 
     fn link(self, alloc: Global) -> Result<LinkedRecords, Fault> {
         let tables = self.finish()?;
-        link_records(alloc, tables)
+        Ok(link_in_order(alloc, tables)?)
     }
 }

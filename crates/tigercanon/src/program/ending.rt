@@ -1,17 +1,13 @@
 //! How jobs end, and how the program reports it.
 
-ghost use Rattle.std.specs.Prelude.{◌≡◌, ◌<◌, IfErr, None, OnOk};
-ghost use Rattle.tigercanon.specs.Devices.{PrintsTo};
-ghost use Rattle.tigercanon.specs.Outcomes.{ReportsLineTo};
-ghost use Rattle.tigercanon.specs.Refusals.{fault_line};
-ghost use Rattle.tigercanon.specs.Statuses.{status_of, status_of_outcome};
+ghost use Rattle.std.specs.Prelude.{IfErr, None, OnOk, ◌<◌, ◌≡◌};
+ghost use Rattle.tigercanon.specs.{Devices.PrintsTo, Outcomes.ReportsLineTo, Refusals.fault_line, Statuses.status_of_outcome};
 ghost use Rattle.tigercanon.specs.Stopping.{stopped_by};
 
 use crate::fault::Fault;
 use crate::library::comparing::CompareFault;
-use crate::program::writing::write_whole;
-use fault_report::{Line, push};
-use tl_write::Sink;
+use fault_report::push;
+use tl_write::{Sink, write_bytes};
 
 /// How a completed job ended.
 #[derive(Clone, Copy, Debug, PartialEq, Eq)]
@@ -38,10 +34,7 @@ impl From<CompareFault> for Stopped {
                 fault,
                 set: Some(set),
             },
-            CompareFault::Memory => Stopped {
-                fault: Fault::Memory,
-                set: None,
-            },
+            CompareFault::Memory => Stopped::from(Fault::Memory),
         }
     }
 }
@@ -55,32 +48,12 @@ impl From<Fault> for Stopped {
     }
 }
 
-/// The line that reports why a job stopped: the refusal, and which of two sets it belongs to.
-fn refusal_line_of(stopped: Stopped) -> Line
-    ensures { result.items ≡ fault_line stopped.fault stopped.set }
-{
-    let mut line = stopped.fault.line(stopped.set);
-    push(&mut line, b"\n");
-    line
-}
-
 /// Writes a line to a sink, or a beginning of it if the sink fails.
 pub(crate) fn write_line<E: Sink>(line: &[u8], err: &mut E)
     requires { E.failed err.old < u64.MAX }
     ensures { ReportsLineTo E.failed E.holds err.old err.new line.now }
 {
-    let _ = write_whole(line, err);
-}
-
-/// Writes to a sink, in one line, why a job stopped, and returns the exit status.
-pub(crate) fn report_stopped<E: Sink>(stopped: Stopped, err: &mut E) -> u8
-    requires { E.failed err.old < u64.MAX }
-    ensures status { result ≡ status_of stopped.fault }
-    ensures reported { ReportsLineTo E.failed E.holds err.old err.new (fault_line stopped.fault stopped.set) }
-{
-    let line = refusal_line_of(stopped);
-    write_line(line.as_slice(), err);
-    stopped.fault.status()
+    let _ = write_bytes(line, err);
 }
 
 /// Writes to a sink, in one line, why a job stopped, if it did, and returns the exit status.
@@ -93,11 +66,16 @@ pub(crate) fn report_outcome<E: Sink>(outcome: Result<Ending, Stopped>, err: &mu
     match outcome {
         Ok(Ending::Done) => 0,
         Ok(Ending::Different) => 1,
-        Err(stopped) => report_stopped(stopped, err),
+        Err(stopped) => {
+            let mut line = stopped.fault.line(stopped.set);
+            push(&mut line, b"\n");
+            write_line(line.as_slice(), err);
+            stopped.fault.status()
+        }
     }
 }
 
-/// Prints the text of a job that ends in this way.
+/// Prints the text of a job that ends in this way, or a beginning of it if the sink fails.
 pub(crate) fn print_text<W: Sink>(
     text: &[u8],
     ending: Ending,
@@ -106,11 +84,8 @@ pub(crate) fn print_text<W: Sink>(
     requires { W.failed out.old < u64.MAX }
     ensures { PrintsTo W.failed W.holds out.old out.new text.now ending result }
 {
-    match write_whole(text, out) {
-        Ok(()) => Ok(ending),
-        Err(fault) => Err(Stopped {
-            fault: Fault::Write(fault),
-            set: None,
-        }),
+    match write_bytes(text, out) {
+        Ok(_) => Ok(ending),
+        Err(fault) => Err(Stopped::from(Fault::Write(fault))),
     }
 }

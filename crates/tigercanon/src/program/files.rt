@@ -1,10 +1,8 @@
 //! The files of a set: the outcomes of opening them, and the files as sources.
 
-ghost use Rattle.std.specs.Io.{ReadsAtMost};
-ghost use Rattle.std.specs.Io.KnownBytes.{ReadConsumes};
-ghost use Rattle.std.specs.IoError.{error_kind};
-ghost use Rattle.std.specs.Prelude.{◌≡◌, ◌≢◌, ◌↔◌, Contains, IfErr, IfOk, IsErr, IsTrue, Ok, Some, slice_get};
-ghost use Rattle.tigercanon.specs.Files.{AreReadable, AreOpened, IsMissing, bytes_of, is_failed, opened_of};
+ghost use Rattle.std.specs.Prelude.{IfErr, IfOk, IsErr, Ok, slice_get, ◌≡◌, ◌≢◌};
+ghost use Rattle.std.specs.{Io.KnownBytes.ReadConsumes, Io.ReadsAtMost, IoError.error_kind};
+ghost use Rattle.tigercanon.specs.Files.{AreOpened, AreReadable, bytes_of, is_absent, is_failed, lacks_file, opened_of};
 
 use std::alloc::{AllocError, Global};
 use std::io::{self, Error, ErrorKind, Read};
@@ -55,19 +53,33 @@ impl<R: Read> Read for Opened<R> {
     }
 }
 
-/// Whether a set lacks a file that it needs: one couldn't be opened, or the first is absent.
-pub(crate) fn is_missing_a_file<R>(files: &[Opened<R>]) -> bool
-    ensures { IsTrue result ↔ IsMissing files.now }
+fn is_first_absent<R>(files: &[Opened<R>]) -> bool
+    ensures { result ≡ is_absent (slice_get files.now 0) }
 {
-    matches!(files.first(), Some(Opened::Absent))
-        || files.iter().any(|file| matches!(file, Opened::Failed))
+    match files.first() {
+        Some(file) => matches!(file, Opened::Absent),
+        None => false,
+    }
+}
+
+fn has_failed<R>(file: &Opened<R>) -> bool
+    ensures { result ≡ is_failed file.now }
+{
+    matches!(file, Opened::Failed)
+}
+
+/// Whether a set lacks a file that it needs: the first is absent, or one couldn't be opened.
+pub(crate) fn lacks_file<R>(files: &[Opened<R>]) -> bool
+    ensures { result ≡ lacks_file files.now }
+{
+    is_first_absent(files) || files.iter().any(|file| has_failed(file))
 }
 
 /// A file as a source that counts its failures. Each read of one that couldn't be opened fails.
 pub type CountedFile<R> = Counted<Opened<R>>;
 
-fn is_first_absent<R>(files: &[CountedFile<R>]) -> bool
-    ensures { IsTrue result ↔ (slice_get (opened_of files.now) 0 ≡ Some Opened.Absent) }
+fn is_first_counted_absent<R>(files: &[CountedFile<R>]) -> bool
+    ensures { result ≡ is_absent (slice_get (opened_of files.now) 0) }
 {
     match files.first() {
         Some(file) => matches!(file.get_ref(), Opened::Absent),
@@ -75,24 +87,17 @@ fn is_first_absent<R>(files: &[CountedFile<R>]) -> bool
     }
 }
 
-/// Whether the file couldn't be opened.
-fn has_failed<R>(file: &CountedFile<R>) -> bool
+fn has_counted_failed<R>(file: &CountedFile<R>) -> bool
     ensures { result ≡ is_failed file.now.inner }
 {
     matches!(file.get_ref(), Opened::Failed)
 }
 
-fn has_failed_one<R>(files: &[CountedFile<R>]) -> bool
-    ensures { IsTrue result ↔ Contains (opened_of files.now) Opened.Failed }
-{
-    files.iter().any(|file| has_failed(file))
-}
-
 /// The same for files that count their failures.
-pub(crate) fn is_missing_a_counted_file<R>(files: &[CountedFile<R>]) -> bool
-    ensures { IsTrue result ↔ IsMissing (opened_of files.now) }
+pub(crate) fn lacks_counted_file<R>(files: &[CountedFile<R>]) -> bool
+    ensures { result ≡ lacks_file (opened_of files.now) }
 {
-    is_first_absent(files) || has_failed_one(files)
+    is_first_counted_absent(files) || files.iter().any(|file| has_counted_failed(file))
 }
 
 /// The files of a set as sources, one each, that haven't failed.

@@ -4,30 +4,27 @@
 //! that the whole result was written if the sink didn't fail.
 
 ghost use Rattle.hex.specs.Hex.{encode_lower};
-ghost use Rattle.std.specs.Prelude.{◌≡◌, ◌≢◌, ◌<◌, ◌++◌, ◌∷◌, [], All, Err, IfErr, IfOk, string_bytes};
+ghost use Rattle.std.specs.Prelude.{All, Err, IfErr, IfOk, [], string_bytes, ◌++◌, ◌<◌, ◌∷◌, ◌≡◌, ◌≢◌};
 ghost use Rattle.tigercanon.specs.Devices.{ReportsNoDevice, set_of_sources, to_sink};
-ghost use Rattle.tigercanon.specs.Outcomes.{IsAnswered, Reports};
-ghost use Rattle.tigercanon.specs.Reading.{NoneFailed};
-ghost use Rattle.tigercanon.specs.Respelling.{IsRespelt};
-ghost use Rattle.tigercanon.specs.TwoSets.{Does, DoesAlone};
+ghost use Rattle.tigercanon.specs.TwoSets.{Does, DoesAlone, IsTextOf, ReportsOne, line_of_ending};
+ghost use Rattle.tigercanon.specs.{Outcomes.IsAnswered, Outcomes.Reports, Reading.NoneFailed, Respelling.IsRespelt};
 ghost use Rattle.tl_layout.specs.Masked.{no_mask};
 
 use crate::fault::Fault;
+use crate::library::comparing::{FIRST, SECOND, compare_unlinked, tag_set};
 use crate::library::linked::judge;
 use crate::library::making::make_of;
 use crate::library::normalising::normalise_to_masked;
 use crate::library::products::Hash;
 use crate::library::reading::read_to_ends;
 use crate::program::ending::{Ending, Stopped, print_text};
-use crate::program::two_sets::compare_sets;
 use command_line::Job;
 use std::alloc::Global;
 use tl_layout::{Mask, Tables};
 use tl_load::{CanonicalText, LoadFault, Source};
 use tl_write::Sink;
 
-/// The records of a set in canonical spelling, once all of it is read. Reports a source that can't be read before a fault in the
-/// lines.
+/// The records of a set in canonical spelling, once all of it is read.
 fn spelling_of<R: Source>(alloc: Global, set: &mut [R]) -> Result<CanonicalText, Fault>
     requires { All (λ part. R.failed part < u64.MAX) set.old }
     ensures respelt { IfOk result (λ text. IsAnswered IsRespelt
@@ -38,41 +35,6 @@ fn spelling_of<R: Source>(alloc: Global, set: &mut [R]) -> Result<CanonicalText,
 {
     let loader = read_to_ends::<CanonicalText, R>(alloc, set)?;
     Ok(loader.finish()?)
-}
-
-/// Prints the records of a set in canonical spelling, once all of it is read and judged.
-fn respell_set<R: Source, W: Sink>(
-    alloc: Global,
-    set: &mut [R],
-    out: &mut W,
-) -> Result<Ending, Stopped>
-    requires set { All (λ part. R.failed part < u64.MAX) set.old }
-    requires out { W.failed out.old < u64.MAX }
-    ensures did { DoesAlone no_mask Job.Respell (set_of_sources Job.Respell R.remaining R.given R.failed R.reads set.old set.new)
-        (to_sink W.failed W.holds out.old out.new) result }
-    // If the fault isn't a device's, no source has failed.
-    ensures no_device { ReportsNoDevice result → NoneFailed R.failed set.old set.new }
-{
-    let text = spelling_of(alloc, set)?;
-    print_text(&text.bytes, Ending::Done, out)
-}
-
-/// Prints the canonical text of a set under a mask, once it is accepted. Reads no further than the read that brings a fault.
-fn normalise_set<R: Source, W: Sink>(
-    alloc: Global,
-    set: &mut [R],
-    out: &mut W,
-    mask: Mask,
-) -> Result<Ending, Stopped>
-    requires set { All (λ part. R.failed part < u64.MAX) set.old }
-    requires out { W.failed out.old < u64.MAX }
-    ensures did { DoesAlone mask Job.Normalise (set_of_sources Job.Normalise R.remaining R.given R.failed R.reads set.old set.new)
-        (to_sink W.failed W.holds out.old out.new) result }
-    // If the fault isn't a device's, no source has failed.
-    ensures no_device { ReportsNoDevice result → NoneFailed R.failed set.old set.new }
-{
-    normalise_to_masked(alloc, set, out, mask)?;
-    Ok(Ending::Done)
 }
 
 /// Prints that a set is accepted, once all of it is read and judged.
@@ -123,8 +85,46 @@ fn fingerprint_set<R: Source, W: Sink>(
     print_text(line.as_bytes(), Ending::Done, out)
 }
 
-/// Does a job over the sources of its sets. The mask applies to the jobs that print or compare maps; respelling and checking read
-/// everything.
+/// Reads two sets, each part to its end, and compares them under a mask once both are read.
+fn compare_sources<R: Source>(
+    alloc: Global,
+    first: &mut [R],
+    second: &mut [R],
+    mask: Mask,
+) -> Result<Ending, Stopped>
+    requires first { All (λ part. R.failed part < u64.MAX) first.old }
+    requires second { All (λ part. R.failed part < u64.MAX) second.old }
+    ensures verdict { IfOk result (λ ending. IsTextOf mask Job.Compare
+        (set_of_sources Job.Compare R.remaining R.given R.failed R.reads first.old first.new)
+        (set_of_sources Job.Compare R.remaining R.given R.failed R.reads second.old second.new) ending (line_of_ending ending)) }
+    ensures refused { IfErr result (λ stopped. ReportsOne (set_of_sources Job.Compare R.remaining R.given R.failed R.reads first.old first.new)
+        (set_of_sources Job.Compare R.remaining R.given R.failed R.reads second.old second.new) stopped.fault stopped.set) }
+    // If the fault isn't a device's, no source has failed.
+    ensures no_device { ReportsNoDevice result → NoneFailed R.failed first.old first.new × NoneFailed R.failed second.old second.new }
+{
+    let one = tag_set(FIRST, read_to_ends::<Tables, R>(alloc, first))?;
+    let other = tag_set(SECOND, read_to_ends::<Tables, R>(alloc, second))?;
+    let is_one_map = compare_unlinked(alloc, one, other, mask)?;
+    if is_one_map {
+        Ok(Ending::Done)
+    } else {
+        Ok(Ending::Different)
+    }
+}
+
+/// The line that a comparison prints.
+fn line_of_ending(ending: Ending) -> &'static [u8]
+    ensures { result.now ≡ line_of_ending ending }
+{
+    match ending {
+        Ending::Done => b"same\n",
+        Ending::Different => b"different\n",
+    }
+}
+
+/// Does a job over the sources of its sets. Normalising reads no further than the read that brings a fault. Every other job reads its
+/// sets to their ends, and reports a part that can't be read before a fault in the lines. The mask applies to the jobs that print or
+/// compare maps; respelling and checking read everything.
 pub(crate) fn do_job<R: Source, W: Sink>(
     alloc: Global,
     job: Job,
@@ -142,10 +142,19 @@ pub(crate) fn do_job<R: Source, W: Sink>(
     ensures no_device { ReportsNoDevice result → NoneFailed R.failed first.old first.new × NoneFailed R.failed second.old second.new }
 {
     match job {
-        Job::Respell => respell_set(alloc, first, out),
-        Job::Normalise => normalise_set(alloc, first, out, mask),
+        Job::Respell => {
+            let text = spelling_of(alloc, first)?;
+            print_text(&text.bytes, Ending::Done, out)
+        }
+        Job::Normalise => {
+            normalise_to_masked(alloc, first, out, mask)?;
+            Ok(Ending::Done)
+        }
         Job::Check => check_set(alloc, first, out),
         Job::Fingerprint => fingerprint_set(alloc, first, out, mask),
-        Job::Compare => compare_sets(alloc, first, second, out, mask),
+        Job::Compare => {
+            let ending = compare_sources(alloc, first, second, mask)?;
+            print_text(line_of_ending(ending), ending, out)
+        }
     }
 }

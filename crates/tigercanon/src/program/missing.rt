@@ -1,8 +1,7 @@
 //! Files that a job needs and that are missing.
 
-ghost use Rattle.std.specs.Prelude.{◌≡◌, IfErr, IsTrue, OnOk};
-ghost use Rattle.tigercanon.specs.Running.{HoldsForOne, IsOfLacking};
-ghost use Rattle.tigercanon.specs.Stopping.{set_of_job};
+ghost use Rattle.std.specs.Prelude.{IfErr, IsTrue, OnOk, false, ◌≡◌};
+ghost use Rattle.tigercanon.specs.{Running.lacks_one, Running.stopped_at_missing, Stopping.set_of_job};
 
 use crate::fault::Fault;
 use crate::library::comparing::{FIRST, SECOND};
@@ -19,9 +18,7 @@ pub(crate) fn stopped_in(job: Job, set: u8, fault: Fault) -> Stopped
             fault,
             set: Some(set),
         },
-        Job::Respell | Job::Normalise | Job::Check | Job::Fingerprint => {
-            Stopped { fault, set: None }
-        }
+        Job::Respell | Job::Normalise | Job::Check | Job::Fingerprint => Stopped::from(fault),
     }
 }
 
@@ -32,8 +29,9 @@ pub(crate) fn refuse_missing(
     first_lacks_one: bool,
     second_lacks_one: bool,
 ) -> Result<(), Stopped>
-    ensures found { OnOk result (¬ HoldsForOne job (IsTrue first_lacks_one) (IsTrue second_lacks_one)) }
-    ensures missing { IfErr result (IsOfLacking job (IsTrue first_lacks_one) (IsTrue second_lacks_one)) }
+    ensures found { OnOk result (lacks_one job first_lacks_one second_lacks_one ≡ false) }
+    ensures missing { IfErr result (λ stopped. IsTrue (lacks_one job first_lacks_one second_lacks_one)
+        × (stopped ≡ stopped_at_missing job first_lacks_one)) }
 {
     let fault = Fault::Load(LoadFault::Device);
     if first_lacks_one {

@@ -1,13 +1,12 @@
 //! How the program reports a command line that isn't a plan, and the status that it exits with.
 
 ghost use Rattle.std.specs.IoError.{error_kind};
-ghost use Rattle.std.specs.Prelude.{◌≡◌, ◌<◌, IfErr, IfOk};
-ghost use Rattle.tigercanon.specs.Outcomes.{ReportsLineTo};
+ghost use Rattle.std.specs.Prelude.{IfErr, IfOk, ◌<◌, ◌≡◌};
 ghost use Rattle.tigercanon.specs.Refusals.{IsUsage, not_utf8, plan_text_of};
-ghost use Rattle.tigercanon.specs.Statuses.{plan_status_of};
+ghost use Rattle.tigercanon.specs.{Outcomes.ReportsLineTo, Statuses.plan_status_of};
 
 use crate::fault::Fault;
-use crate::program::ending::{Stopped, report_stopped, write_line};
+use crate::program::ending::{Stopped, report_outcome, write_line};
 use command_line::PlanFault;
 use std::alloc::Global;
 use std::io::{Error, ErrorKind};
@@ -42,13 +41,7 @@ pub fn report<E: Sink>(fault: &PlanFault, err: &mut E) -> u8
             write_line(text.as_bytes(), err);
             2
         }
-        PlanFault::Memory => report_stopped(
-            Stopped {
-                fault: Fault::Memory,
-                set: None,
-            },
-            err,
-        ),
+        PlanFault::Memory => report_outcome(Err(Stopped::from(Fault::Memory)), err),
     }
 }
 

@@ -1,74 +1,43 @@
 //! What the program does, over files that are already open.
 
 ghost use Rattle.std.specs.Io.KnownBytes.{Keeps};
-ghost use Rattle.std.specs.Prelude.{◌≡◌, ◌<◌, ◌≤◌, ◌∷◌, [], Contains, IfErr, IfOk, MatchResult, Ok, OnOk, is_ok};
-ghost use Rattle.std.specs.Prelude.{IsTrue, if◌then◌else◌};
-ghost use Rattle.tigercanon.specs.Files.{AreOpened};
-ghost use Rattle.tigercanon.specs.Outcomes.{ReportsLine};
-ghost use Rattle.tigercanon.specs.Refusals.{fault_line};
-ghost use Rattle.tigercanon.specs.Running.{IsMissingOne, IsOfMissing, IsRefusedBy, PrintsDifferent, PrintsDone, PrintsSome, ReportsMissing, ReportsWhy, set_of_files, to_writer};
-ghost use Rattle.tigercanon.specs.Statuses.{status_of_outcome};
-ghost use Rattle.tigercanon.specs.Stopping.{set_of_job};
-ghost use Rattle.tigercanon.specs.TwoSets.{Does, ReportsFor};
+ghost use Rattle.std.specs.Prelude.{Contains, Err, IfErr, IfOk, OnOk, [], ◌<◌, ◌∷◌, ◌≡◌, ◌≤◌};
+ghost use Rattle.tigercanon.specs.Running.{IsMissingOne, IsRefusedBy, PrintsDifferent, PrintsDone, PrintsSome, ReportsMissing, ReportsWhy};
+ghost use Rattle.tigercanon.specs.Running.{set_of_files, stopped_at_missing, to_writer};
+ghost use Rattle.tigercanon.specs.{Files.AreOpened, Files.lacks_file, Outcomes.ReportsLine, Refusals.fault_line};
+ghost use Rattle.tigercanon.specs.{Statuses.status_of_outcome, Stopping.set_of_job, TwoSets.Does};
 
 use crate::fault::Fault;
 use crate::library::comparing::{FIRST, SECOND};
 use crate::program::ending::{Ending, Stopped, report_outcome};
-use crate::program::files::{CountedFile, Opened, is_missing_a_file, open_files};
+use crate::program::files::{CountedFile, Opened, lacks_file, open_files};
 use crate::program::jobs::do_job;
 use crate::program::missing::{refuse_missing, stopped_in};
 use crate::program::writing::LentOut;
 use command_line::Job;
-use std::alloc::{AllocError, Global};
+use std::alloc::Global;
 use std::io::{Read, Write};
 use tl_layout::Mask;
 use tl_load::Source;
 
-/// The sources of both sets, if there was memory for them. Otherwise the report names the first set, or the second if the first has
-/// its sources.
-fn both_opened<S: Drop>(
+/// The files of one of a job's sets as sources that haven't failed, if there is memory for them.
+fn open_set<R: Read + Drop>(
+    alloc: Global,
     job: Job,
-    first: Result<Vec<S>, AllocError>,
-    second: Result<Vec<S>, AllocError>,
-) -> Result<(Vec<S>, Vec<S>), Stopped>
-    ensures opened { IfOk result (λ sets. (first ≡ Ok sets.0) × (second ≡ Ok sets.1)) }
-    ensures all { OnOk first (OnOk second (IsTrue (is_ok result))) }
-    ensures memory { IfErr result (λ stopped. stopped ≡ record {
-      fault = Fault.Memory;
-      set = set_of_job job (if is_ok first then 2 else 1);
-    }) }
+    set: u8,
+    files: Vec<Opened<R>>,
+) -> Result<Vec<CountedFile<R>>, Stopped>
+    ensures opened { IfOk result (λ sources. AreOpened ⟦<CountedFile<R> as Source>⟧.remaining ⟦<CountedFile<R> as Source>⟧.failed sources.items
+        R.remaining files.items) }
+    ensures memory { IfErr result (λ stopped. stopped ≡ record { fault = Fault.Memory; set = set_of_job job set }) }
 {
-    let first = match first {
-        Ok(sources) => sources,
-        Err(error) => return Err(stopped_in(job, FIRST, Fault::from(error))),
-    };
-    match second {
-        Ok(second) => Ok((first, second)),
-        Err(error) => Err(stopped_in(job, SECOND, Fault::from(error))),
+    match open_files(alloc, files) {
+        Ok(sources) => Ok(sources),
+        Err(error) => Err(stopped_in(job, set, Fault::from(error))),
     }
 }
 
-/// The files of both sets of a job as sources that haven't failed. No file that the job needs is missing.
-fn open_sets<R: Read + Drop>(
-    alloc: Global,
-    job: Job,
-    first: Vec<Opened<R>>,
-    second: Vec<Opened<R>>,
-) -> Result<(Vec<CountedFile<R>>, Vec<CountedFile<R>>), Stopped>
-    ensures found { OnOk result (¬ IsMissingOne job first.items second.items) }
-    ensures missing { IsMissingOne job first.items second.items → IfErr result (IsOfMissing job first.items second.items) }
-    ensures first { IfOk result (λ sets. AreOpened ⟦<CountedFile<R> as Source>⟧.remaining ⟦<CountedFile<R> as Source>⟧.failed sets.0.items
-        R.remaining first.items) }
-    ensures second { IfOk result (λ sets. AreOpened ⟦<CountedFile<R> as Source>⟧.remaining ⟦<CountedFile<R> as Source>⟧.failed sets.1.items
-        R.remaining second.items) }
-    ensures stopped { IfErr result (λ stopped. ReportsFor job (set_of_files R.remaining first.items) (set_of_files R.remaining second.items)
-        stopped.fault stopped.set) }
-{
-    refuse_missing(job, is_missing_a_file(&first), is_missing_a_file(&second))?;
-    both_opened(job, open_files(alloc, first), open_files(alloc, second))
-}
-
-/// Opens the files of a job's sets and does the job over them.
+/// Opens the files of a job's sets, unless one that it needs is missing, and does the job over them.
 fn run_files<R: Read + Drop, W: Write>(
     alloc: Global,
     job: Job,
@@ -79,10 +48,12 @@ fn run_files<R: Read + Drop, W: Write>(
 ) -> Result<Ending, Stopped>
     ensures did { Does mask job (set_of_files R.remaining first.items) (set_of_files R.remaining second.items)
         (to_writer (W.contents out.old) (W.contents out.new)) result }
-    ensures missing { IsMissingOne job first.items second.items → MatchResult result (λ _. ⊥) (IsOfMissing job first.items second.items) }
+    ensures missing { IsMissingOne job first.items second.items → result ≡ Err (stopped_at_missing job (lacks_file first.items)) }
     ensures missing_silent { IsMissingOne job first.items second.items → Keeps (W.contents out.old) (W.contents out.new) }
 {
-    let (mut first, mut second) = open_sets(alloc, job, first, second)?;
+    refuse_missing(job, lacks_file(&first), lacks_file(&second))?;
+    let mut first = open_set(alloc, job, FIRST, first)?;
+    let mut second = open_set(alloc, job, SECOND, second)?;
     let mut text = LentOut::new(out);
     let outcome = do_job(alloc, job, &mut first, &mut second, &mut text, mask);
     text.give_back();

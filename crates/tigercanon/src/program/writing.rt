@@ -1,11 +1,10 @@
-//! Writes texts to a sink, and lends a writer as a sink.
+//! A sink over a writer.
 
-ghost use Rattle.std.specs.Prelude.{◌≡◌, ◌<◌, ◌+◌, OnOk, IfErr};
-ghost use Rattle.tigercanon.specs.Normalising.{StopsShort, Took};
+ghost use Rattle.std.specs.Prelude.{◌≡◌};
 
 use std::io::Write;
 use tl_layout::DeviceFault;
-use tl_write::{Sink, WriteFault, write_bytes};
+use tl_write::Sink;
 
 /// A sink over a lent writer. Every error of the writer counts as a failure, and so does a write that takes none of a nonempty
 /// buffer. No failed write is tried again.
@@ -56,16 +55,4 @@ impl<W: Write> Sink for LentOut<'_, W> {
             }
         }
     }
-}
-
-/// Writes the text to a sink, or a beginning of it if the sink fails. No failed write is tried again.
-pub(crate) fn write_whole<W: Sink>(text: &[u8], out: &mut W) -> Result<(), WriteFault>
-    requires { W.failed out.old < u64.MAX }
-    ensures whole { OnOk result (Took W.holds out.old out.new text.now) }
-    ensures none_failed { OnOk result (W.failed out.new ≡ W.failed out.old) }
-    ensures stopped { IfErr result (λ e. StopsShort W.holds out.old out.new text.now e.written) }
-    ensures failed { IfErr result (λ _. W.failed out.new ≡ W.failed out.old + 1) }
-{
-    write_bytes(text, out)?;
-    Ok(())
 }

@@ -1,5 +1,4 @@
-use Rattle.tigercanon.proofs.Common.{refl, err_from_is_err_and}
-use Rattle.tigercanon.proofs.Reported.{one_refused, one_succeeds}
+use Rattle.tigercanon.proofs.{Common.err_from_is_err_and, Common.refl, Reported.one_refused, Reported.one_succeeds}
 use Rattle.tigercanon.proofs.library.comparing.compare_masked.Goals as goal
 
 pub returns-in_err-found-clause-refused : goal.returns-in_err-found-clause-refused

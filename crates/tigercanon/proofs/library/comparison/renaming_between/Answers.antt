@@ -1,5 +1,4 @@
-use Rattle.tigercanon.proofs.Common.{◌≡◌, sym, subst, IfOk-weaker, Carries}
-use Rattle.canonical_form.specs.WholeArrangements.{arranged_by}
+use Rattle.tigercanon.proofs.Common.{Carries, IfOk-weaker, arranged_by, subst, sym, ◌≡◌}
 use Rattle.tigercanon.proofs.Verdicts.{one_county}
 use Rattle.tigercanon.proofs.library.comparison.renaming_between.Goals as goal
 

@@ -1,6 +1,4 @@
-use Rattle.tigercanon.proofs.Common.{err_from_is_err_and}
-use Rattle.tigercanon.proofs.Masking.{viewed_acceptable}
-use Rattle.tigercanon.proofs.Refusing.{refused_of_read}
+use Rattle.tigercanon.proofs.{Common.err_from_is_err_and, Masking.viewed_acceptable, Refusing.refused_of_read}
 use Rattle.tigercanon.proofs.library.linked.judge.Goals as goal
 
 pub returns-clause-accepted : goal.returns-clause-accepted

@@ -1,9 +1,5 @@
-use Rattle.tigercanon.proofs.Common.{◌∙◌, ap, subst, sym, masked, County, packed, masked_view}
-use Rattle.canonical_form.specs.Accepted.{IsCanonicalInView}
-use Rattle.canonical_form.specs.Arrangement.{arranged}
-use Rattle.canonical_form.specs.Tidy.{IsLeastChoice}
-use Rattle.arranged_county.specs.Views.{arrangement_in}
-use Rattle.canonical_form.proofs.CanonicalLists.Ascending.{choice_is_canonical}
+use Rattle.tigercanon.proofs.Common.{County, IsCanonicalInView, IsLeastChoice, ap, arranged, arrangement_in, choice_is_canonical, masked}
+use Rattle.tigercanon.proofs.Common.{masked_view, packed, subst, sym, ◌∙◌}
 use Rattle.tigercanon.proofs.library.making.make_masked.Goals as goal
 
 pub returns-clause-made : goal.returns-clause-made

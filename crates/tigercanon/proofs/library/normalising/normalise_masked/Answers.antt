@@ -1,11 +1,9 @@
-use Rattle.tigercanon.proofs.Common.{refl, err_from_is_err_and, masked, masked_view}
-use Rattle.tigercanon.proofs.CanonicalTexts.{again, ok_holds, one_text_accepted}
-use Rattle.tigercanon.proofs.Sets.{only_text, text_as_it_is}
-use Rattle.tigercanon.proofs.Reported.{accepted_wants_memory}
+use Rattle.tigercanon.proofs.{CanonicalTexts.again, Common.IfOk-at_ok, Common.masked, Common.masked_view, Common.refl, Sets.text_as_it_is}
+use Rattle.tigercanon.proofs.{CanonicalTexts.one_text_accepted, Common.err_from_is_err_and, Reported.accepted_wants_memory, Sets.only_text}
 use Rattle.tigercanon.proofs.library.normalising.normalise_masked.Goals as goal
 
 pub returns-clause-canonical : goal.returns-clause-canonical
-returns-clause-canonical c = ok_holds _ _ _ c.in_ok-text.was (c.in_ok-made.ensures.made _ refl)
+returns-clause-canonical c = IfOk-at_ok _ c.in_ok-text.was (c.in_ok-made.ensures.made _ refl)
 
 pub returns-clause-only : goal.returns-clause-only
 returns-clause-only c = only_text (masked c.args.mask) (masked_view c.args.mask) _ _ (returns-clause-canonical c)

@@ -1,29 +1,27 @@
-use Rattle.std.proofs.Common.{◌+◌, ◌∙◌, ap, cond, sym}
-use Rattle.tigercanon.proofs.Common.{◌≡◌, ◌<◌, length, subst, take, err_from_is_err_and, masked, masked_view, Took}
-use Rattle.tigercanon.proofs.CanonicalTexts.{match_err, match_ok}
-use Rattle.tigercanon.proofs.Refusing.{not_stopped, read_refused}
-use Rattle.tigercanon.proofs.Sets.{only_text}
+use Rattle.tigercanon.proofs.Common.{MatchResult-at_err, MatchResult-at_ok, Took, ap, cond, err_from_is_err_and, length, masked}
+use Rattle.tigercanon.proofs.Common.{masked_view, subst, sym, take, ◌+◌, ◌<◌, ◌∙◌, ◌≡◌}
+use Rattle.tigercanon.proofs.{Refusing.not_stopped, Refusing.read_refused, Sets.only_text}
 use Rattle.tigercanon.proofs.library.normalising.normalise_to_masked.Goals as goal
 
 pub returns-clause-written : goal.returns-clause-written
 returns-clause-written g c =
     let l = c.in_ok-linked.ensures.linked in
     let w = c.in_ok-made.ensures.made l.0 l.2 in
-    let out = match_ok _ _ c.in_ok-made.made _ c.in_ok-written.was w.out in
+    let out = MatchResult-at_ok _ _ _ c.in_ok-written.was w.out in
     let only = only_text (masked c.args.mask) (masked_view c.args.mask) l.0 w.text w.canonical in
     (w.text, record { parts = l.0; read = l.1; canonical = w.canonical; only = only }, out.0.0, out.0.1)
 
 pub returns-clause-failures : goal.returns-clause-failures
 returns-clause-failures g c =
     let l = c.in_ok-linked.ensures.linked in
-    let w = c.in_ok-made.ensures.made l.0 l.2 in (match_ok _ _ c.in_ok-made.made _ c.in_ok-written.was w.out).1
+    let w = c.in_ok-made.ensures.made l.0 l.2 in (MatchResult-at_ok _ _ _ c.in_ok-written.was w.out).1
 
 pub returns-in_err-written-clause-stopped : goal.returns-in_err-written-clause-stopped
 returns-in_err-written-clause-stopped g c =
     let p = err_from_is_err_and c.from_residual-in_err-written.result c.from_residual-in_err-written.ensures.1 in
     let l = c.in_ok-linked.ensures.linked in
     let w = c.in_ok-made.ensures.made l.0 l.2 in
-    let out = match_err _ _ c.in_ok-made.made _ c.in_err-written.was w.out in
+    let out = MatchResult-at_err _ _ _ c.in_err-written.was w.out in
     let only = only_text (masked c.args.mask) (masked_view c.args.mask) l.0 w.text w.canonical in
     rw (p.1, p.2) (λ fault is.
     let e : c.in_err-written.field-0.0.written ≡ fault.written = cc in
@@ -39,7 +37,7 @@ returns-in_err-written-clause-failures g c =
     let p = err_from_is_err_and c.from_residual-in_err-written.result c.from_residual-in_err-written.ensures.1 in
     let l = c.in_ok-linked.ensures.linked in
     let w = c.in_ok-made.ensures.made l.0 l.2 in
-    rw (p.1, p.2) (match_err _ _ c.in_ok-made.made _ c.in_err-written.was w.out).1
+    rw (p.1, p.2) (MatchResult-at_err _ _ _ c.in_err-written.was w.out).1
 
 pub returns-in_err-made-clause-failures : goal.returns-in_err-made-clause-failures
 returns-in_err-made-clause-failures g c =

@@ -1,17 +1,15 @@
-use Rattle.tigercanon.proofs.Common.{refl, err_from_is_err_and, masked, masked_view}
-use Rattle.tigercanon.proofs.CanonicalTexts.{ok_holds}
-use Rattle.tigercanon.proofs.Sets.{only_text}
-use Rattle.tigercanon.proofs.Reported.{accepted_wants_memory}
+use Rattle.tigercanon.proofs.Common.{IfOk-at_ok, err_from_is_err_and, masked, masked_view, refl}
+use Rattle.tigercanon.proofs.{Reported.accepted_wants_memory, Sets.only_text}
 use Rattle.tigercanon.proofs.library.normalising.normalise_with_renaming_masked.Goals as goal
 
 pub returns-clause-canonical : goal.returns-clause-canonical
-returns-clause-canonical c = (ok_holds _ _ _ c.in_ok-answer.was (c.in_ok-made.ensures.made _ refl)).0
+returns-clause-canonical c = (IfOk-at_ok _ c.in_ok-answer.was (c.in_ok-made.ensures.made _ refl)).0
 
 pub returns-clause-only : goal.returns-clause-only
 returns-clause-only c = only_text (masked c.args.mask) (masked_view c.args.mask) _ _ (returns-clause-canonical c)
 
 pub returns-clause-carries : goal.returns-clause-carries
-returns-clause-carries c = (ok_holds _ _ _ c.in_ok-answer.was (c.in_ok-made.ensures.made _ refl)).1
+returns-clause-carries c = (IfOk-at_ok _ c.in_ok-answer.was (c.in_ok-made.ensures.made _ refl)).1
 
 pub returns-in_err-made-clause-refused : goal.returns-in_err-made-clause-refused
 returns-in_err-made-clause-refused c =

@@ -1,6 +1,5 @@
-use Rattle.tigercanon.proofs.Common.{◌+◌, ◌∙◌, ap, [], subst, IsOfLines, WasFedInto, most_records, IsFirstFault}
-use Rattle.tl_layout.proofs.Exits.{exit_with}
-use Rattle.tigercanon.proofs.Parts.{parts_of, parts_so_far, fault_of_all, fault_of_closed}
+use Rattle.tigercanon.proofs.Common.{IsFirstFault, IsOfLines, WasFedInto, [], ap, exit_with, most_records, subst, ◌+◌, ◌∙◌}
+use Rattle.tigercanon.proofs.Parts.{fault_of_all, fault_of_closed, parts_of, parts_so_far}
 use Rattle.tigercanon.proofs.library.reading.load.Goals as goal
 
 pub returns-in_err-feed-clause-faulty : goal.returns-in_err-feed-clause-faulty

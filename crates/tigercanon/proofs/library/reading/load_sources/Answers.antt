@@ -1,9 +1,10 @@
-use Rattle.tigercanon.proofs.Common.{◌≡◌, ◌+◌, ◌∙◌, ◌<◌, ℕ, [], ◌∷◌, ◌++◌, Err, inl, inr, sym, ap, arith, subst, length-append}
-use Rattle.tigercanon.proofs.Common.{err_from_is_err_and, MAX, most_records}
-use Rattle.tl_load.specs.declared.fault.LoadFault.TheVariants as faults
-use Rattle.tigercanon.proofs.CanonicalTexts.{if_ok_by, if_err_by}
-use Rattle.tigercanon.proofs.ReadParts.{all_read, but_once_at, nothing_more, none_more, one_failed, one_more_at, untouched_at, up_to_at}
+use Rattle.tigercanon.proofs.Common.{Err, IfErr-weaker, IfOk-weaker, MAX, [], ap, arith, err_from_is_err_and, inl, inr, length-append}
+use Rattle.tigercanon.proofs.Common.{most_records, subst, sym, ℕ, ◌++◌, ◌+◌, ◌<◌, ◌∙◌, ◌∷◌, ◌≡◌}
+use Rattle.tigercanon.proofs.ReadParts.{all_read, but_once_at, none_more, nothing_more, one_failed, one_more_at, untouched_at, up_to_at}
 use Rattle.tigercanon.proofs.RecordedFaults.{counted_device, counted_none, none_recorded, recorded_fault}
+use Rattle.tl_load.specs.declared.fault.LoadFault.TheVariants as faults
+use Rattle.std.proofs.Math.ListN.{set}
+use Rattle.tigercanon.specs.Reading.{WasWellBefore}
 use Rattle.tigercanon.proofs.library.reading.load_sources.Goals as goal
 
 pub read_part_by-requires-clause-failures : goal.read_part_by-requires-clause-failures
@@ -25,6 +26,13 @@ returns-in_err-read_part_by-clause-faulty g c =
     let f = c.in_err-read_part_by.ensures.fed in
     let fault = c.in_err-read_part_by.field-0.0 in
     let s = c.in_err-read_part_by.ensures.stops c.loop-source.invariant.no_fault in
+    let well : WasWellBefore g.R.Source.remaining g.R.Source.given g.R.Source.reads c.args.sources.now (set c.loop-source.sources i x) = (
+      r.0,
+      s.taken,
+      but_once_at g.R.Source.remaining g.R.Source.given g.R.Source.reads _ _ r.0 i d x s.last s.taken r.1 r.2 c.loop-source-test.true s.gave
+          s.one_read,
+      s.should most_records r.0 [] r.3,
+    ) in
     elim (f.3 most_records r.0 [] r.3) [
       | inl (end, fed) ↦ (
         r.0 ++ f.0 ∷ [],
@@ -32,26 +40,14 @@ returns-in_err-read_part_by-clause-faulty g c =
         nothing_more g.R.Source.remaining g.R.Source.given _ _ _
             (one_more_at g.R.Source.remaining g.R.Source.given _ _ r.0 i d x r.1 r.2 c.loop-source-test.true f.0 f.1 end),
         recorded_fault g.K.Collector.holds c.read_part_by.new.self fault _ _ c.in_err-read_part_by.ensures.reported fed lines,
-        (
-          r.0,
-          s.taken,
-          but_once_at g.R.Source.remaining g.R.Source.given g.R.Source.reads _ _ r.0 i d x s.last s.taken r.1 r.2 c.loop-source-test.true
-              s.gave s.one_read,
-          s.should most_records r.0 [] r.3,
-        ),
+        well,
       )
       | inr fed ↦ (
         r.0,
         f.0,
         up_to_at g.R.Source.remaining g.R.Source.given _ _ r.0 i d x r.1 r.2 c.loop-source-test.true f.0 f.1,
         recorded_fault g.K.Collector.holds c.read_part_by.new.self fault _ _ c.in_err-read_part_by.ensures.reported fed lines,
-        (
-          r.0,
-          s.taken,
-          but_once_at g.R.Source.remaining g.R.Source.given g.R.Source.reads _ _ r.0 i d x s.last s.taken r.1 r.2 c.loop-source-test.true
-              s.gave s.one_read,
-          s.should most_records r.0 [] r.3,
-        ),
+        well,
       )
     ])
 
@@ -97,7 +93,7 @@ loop-source-preserved g c =
 pub returns-clause-loaded : goal.returns-clause-loaded
 returns-clause-loaded g c =
     let r = c.loop-source.invariant.read in
-    if_ok_by c.finish.result (λ kept h. (
+    IfOk-weaker c.finish.result _ _ (λ kept h. (
       r.0,
       all_read g.R.Source.remaining g.R.Source.given _ _ r.0 r.1 (omega (arith, r.2, c.loop-source-test.false)),
       h.0,
@@ -109,6 +105,6 @@ returns-clause-loaded g c =
 pub returns-clause-faulty : goal.returns-clause-faulty
 returns-clause-faulty g c =
     let r = c.loop-source.invariant.read in
-    if_err_by c.finish.result (λ f at. λ lines.
+    IfErr-weaker c.finish.result _ _ (λ f at. λ lines.
     absurd (none_recorded g.K.Collector.holds c.loop-source.loader f r.0 c.loop-source.invariant.no_fault r.3 (at lines)))
     (c.finish.ensures.fault most_records r.0 [] r.3)

@@ -1,6 +1,4 @@
-use Rattle.tigercanon.proofs.Common.{◌≡◌, ◌∙◌, ℕ, ◌++◌, take, length, sym, subst, arith, RoseBy, most_records}
-use Rattle.std.proofs.lemmas.List.{length-take}
-use Rattle.tl_load.proofs.ReadSteps.{gave_more}
+use Rattle.tigercanon.proofs.Common.{RoseBy, arith, gave_more, length, length-take, most_records, subst, sym, take, ℕ, ◌++◌, ◌∙◌, ◌≡◌}
 use Rattle.tigercanon.proofs.FileParts.{rose_again, still_no_device}
 use Rattle.tigercanon.proofs.library.reading.read_to_end.Goals as goal
 

@@ -1,5 +1,4 @@
-use Rattle.std.proofs.lemmas.Result.{err_from_is_err_and}
-use Rattle.tigercanon.proofs.Succeeding.{memory_alone}
+use Rattle.tigercanon.proofs.{Common.err_from_is_err_and, Reported.memory_alone}
 use Rattle.tigercanon.proofs.library.respelling.respell.Goals as goal
 
 pub returns-in_err-text-clause-succeeds : goal.returns-in_err-text-clause-succeeds

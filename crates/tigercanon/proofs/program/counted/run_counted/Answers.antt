@@ -1,9 +1,5 @@
-use Rattle.tigercanon.proofs.Common.{◌∙◌, arith, sym}
-use Rattle.tigercanon.proofs.Missing.{lacking_status, no_device_reported, none_lacking}
-use Rattle.tigercanon.proofs.Refused.{device, different, done, missing_reported, status_is_one, unreported, why}
-use Rattle.tigercanon.specs.Devices.{set_of_counted}
-use Rattle.tigercanon.specs.Files.{opened_of}
-use Rattle.tigercanon.specs.Outcomes.{ReportsLineTo}
+use Rattle.tigercanon.proofs.Common.{IfErr-at_err, ap, arith, set_of_counted, status_of_outcome, sym, ◌∙◌}
+use Rattle.tigercanon.proofs.Refused.{device, different, done, no_device_reported, status_is_one, unreported, why}
 use Rattle.tigercanon.proofs.program.counted.run_counted.Goals as goal
 
 pub returns-clause-statuses : goal.returns-clause-statuses
@@ -13,25 +9,25 @@ pub returns-clause-done : goal.returns-clause-done
 returns-clause-done g c = λ zero.
     let o = c.do_counted-outcome in
     let is = sym c.report_outcome.ensures.status ∙ zero in
-    done c.args.mask c.args.job
-    (set_of_counted c.args.job g.R.Read.remaining c.args.first.now c.do_counted-outcome.new.first)
-    (set_of_counted c.args.job g.R.Read.remaining c.args.second.now c.do_counted-outcome.new.second)
-    _ o.result (o.ensures.did (none_lacking _ _ _ c.args.job o.result (λ four. absurd (omega (arith, is, four))) o.ensures.missing)) is
+    done c.args.plan.now.mask c.args.plan.now.job
+    (set_of_counted c.args.plan.now.job g.R.Read.remaining c.args.first.now c.do_counted-outcome.new.first)
+    (set_of_counted c.args.plan.now.job g.R.Read.remaining c.args.second.now c.do_counted-outcome.new.second)
+    _ o.result (o.ensures.did (λ missing. absurd (omega (arith, is, ap status_of_outcome (o.ensures.missing missing))))) is
 
 pub returns-clause-different : goal.returns-clause-different
 returns-clause-different g c = λ one.
     let o = c.do_counted-outcome in
     let is = sym c.report_outcome.ensures.status ∙ one in
-    different c.args.mask c.args.job
-    (set_of_counted c.args.job g.R.Read.remaining c.args.first.now c.do_counted-outcome.new.first)
-    (set_of_counted c.args.job g.R.Read.remaining c.args.second.now c.do_counted-outcome.new.second)
-    _ o.result (o.ensures.did (none_lacking _ _ _ c.args.job o.result (λ four. absurd (omega (arith, is, four))) o.ensures.missing)) is
+    different c.args.plan.now.mask c.args.plan.now.job
+    (set_of_counted c.args.plan.now.job g.R.Read.remaining c.args.first.now c.do_counted-outcome.new.first)
+    (set_of_counted c.args.plan.now.job g.R.Read.remaining c.args.second.now c.do_counted-outcome.new.second)
+    _ o.result (o.ensures.did (λ missing. absurd (omega (arith, is, ap status_of_outcome (o.ensures.missing missing))))) is
 
 pub returns-clause-reported : goal.returns-clause-reported
 returns-clause-reported g c = λ above none.
-    why c.args.mask c.args.job
-    (set_of_counted c.args.job g.R.Read.remaining c.args.first.now c.do_counted-outcome.new.first)
-    (set_of_counted c.args.job g.R.Read.remaining c.args.second.now c.do_counted-outcome.new.second)
+    why c.args.plan.now.mask c.args.plan.now.job
+    (set_of_counted c.args.plan.now.job g.R.Read.remaining c.args.first.now c.do_counted-outcome.new.first)
+    (set_of_counted c.args.plan.now.job g.R.Read.remaining c.args.second.now c.do_counted-outcome.new.second)
     _ c.do_counted-outcome.result c.report_outcome.result _ (c.do_counted-outcome.ensures.did none) c.report_outcome.ensures.status
     c.report_outcome.ensures.reported above
 
@@ -42,9 +38,9 @@ returns-clause-unreported g c = λ most.
 
 pub returns-clause-device : goal.returns-clause-device
 returns-clause-device g c = λ four none.
-    device c.args.mask c.args.job
-    (set_of_counted c.args.job g.R.Read.remaining c.args.first.now c.do_counted-outcome.new.first)
-    (set_of_counted c.args.job g.R.Read.remaining c.args.second.now c.do_counted-outcome.new.second)
+    device c.args.plan.now.mask c.args.plan.now.job
+    (set_of_counted c.args.plan.now.job g.R.Read.remaining c.args.first.now c.do_counted-outcome.new.first)
+    (set_of_counted c.args.plan.now.job g.R.Read.remaining c.args.second.now c.do_counted-outcome.new.second)
     _ _ c.report_outcome.result (returns-clause-reported g c (omega (arith, four)) none) four
 
 pub returns-clause-no_device : goal.returns-clause-no_device
@@ -54,11 +50,8 @@ returns-clause-no_device g c = λ other.
 
 pub returns-clause-missing : goal.returns-clause-missing
 returns-clause-missing g c = λ missing.
-    c.report_outcome.ensures.status
-    ∙ lacking_status _ _ c.args.job c.do_counted-outcome.result (c.do_counted-outcome.ensures.missing missing)
+    c.report_outcome.ensures.status ∙ ap status_of_outcome (c.do_counted-outcome.ensures.missing missing)
 
 pub returns-clause-missing_reported : goal.returns-clause-missing_reported
 returns-clause-missing_reported g c = λ missing.
-    missing_reported c.args.job (opened_of c.args.first.now) (opened_of c.args.second.now)
-    (ReportsLineTo g.E.Sink.failed g.E.Sink.holds c.args.err.now c.report_outcome.new.err) c.do_counted-outcome.result
-    (c.do_counted-outcome.ensures.missing missing) c.report_outcome.ensures.reported
+    IfErr-at_err _ (c.do_counted-outcome.ensures.missing missing) c.report_outcome.ensures.reported

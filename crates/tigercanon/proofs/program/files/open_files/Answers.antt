@@ -1,12 +1,7 @@
-use Rattle.tigercanon.proofs.Common.{List, Option, bytes_of, ℕ}
-use Rattle.std.proofs.Common.{rules, tests}
-use Rattle.std.proofs.lemmas.Iterator.{YieldsList-from_map_by}
-use Rattle.std.proofs.lemmas.Iterator.Adapters.{YieldsList-from_vec}
-use Rattle.std.proofs.lemmas.Iterator.Consumers.{map_from_collect}
-use Rattle.std.proofs.lemmas.Result.{IfOk-weaker}
+use Rattle.tigercanon.proofs.Common.{IfOk-weaker, List, Option, YieldsList-from_map_by, YieldsList-from_vec, bytes_of, map_from_collect}
+use Rattle.tigercanon.proofs.Common.{refl, rules, tests, ℕ}
 use Rattle.tigercanon.proofs.FileSources.{below_most, opened_from}
 use Rattle.tigercanon.proofs.program.files.open_files.Goals as goal
-use Rattle.std.proofs.Common.{refl}
 
 pub returns-clause-opened : goal.returns-clause-opened
 returns-clause-opened g c =

@@ -1,5 +1,4 @@
-use Rattle.tigercanon.proofs.Common.{refl, None, err_from_is_err_and, no_mask, Done, set_of_sources, to_sink}
-use Rattle.command_line.specs.declared.plans.Job.TheVariants.{Check}
+use Rattle.tigercanon.proofs.Common.{Check, Done, None, err_from_is_err_and, no_mask, refl, set_of_sources, to_sink}
 use Rattle.tigercanon.proofs.SourceSets.{left_untouched, read_reported, refused_of_read, text_printed}
 use Rattle.tigercanon.proofs.program.jobs.check_set.Goals as goal
 

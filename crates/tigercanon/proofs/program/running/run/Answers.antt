@@ -1,5 +1,4 @@
-use Rattle.tigercanon.proofs.Common.{arith, set_of_files}
-use Rattle.tigercanon.proofs.Refused.{refused, status_is_one, why}
+use Rattle.tigercanon.proofs.{Common.arith, Common.set_of_files, Refused.refused, Refused.status_is_one, Refused.why}
 use Rattle.tigercanon.proofs.program.running.run.Goals as goal
 
 pub returns-clause-statuses : goal.returns-clause-statuses

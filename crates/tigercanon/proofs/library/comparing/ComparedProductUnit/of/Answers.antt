@@ -1,5 +1,4 @@
-use Rattle.tigercanon.proofs.Common.{masked, masked_view}
-use Rattle.tigercanon.proofs.Verdicts.{found_of_sets}
+use Rattle.tigercanon.proofs.{Common.masked, Common.masked_view, Verdicts.found_of_sets}
 use Rattle.tigercanon.proofs.library.comparing.ComparedProductUnit.of.Goals as goal
 
 pub returns : goal.returns

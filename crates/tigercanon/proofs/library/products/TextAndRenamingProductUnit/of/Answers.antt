@@ -1,5 +1,4 @@
-use Rattle.tigercanon.proofs.Common.{masked, masked_view}
-use Rattle.tigercanon.proofs.CanonicalTexts.{carried_of_set, text_of_set}
+use Rattle.tigercanon.proofs.{CanonicalTexts.carried_of_set, CanonicalTexts.text_of_set, Common.masked, Common.masked_view}
 use Rattle.tigercanon.proofs.library.products.TextAndRenamingProductUnit.of.Goals as goal
 
 pub returns : goal.returns

@@ -1,5 +1,4 @@
-use Rattle.tigercanon.proofs.Common.{refl, masked, masked_view}
-use Rattle.tigercanon.proofs.CanonicalTexts.{goes_out, text_of_set}
+use Rattle.tigercanon.proofs.{CanonicalTexts.goes_out, CanonicalTexts.text_of_set, Common.masked, Common.masked_view, Common.refl}
 use Rattle.tigercanon.proofs.library.products.WrittenProduct.of.Goals as goal
 
 pub returns : goal.returns

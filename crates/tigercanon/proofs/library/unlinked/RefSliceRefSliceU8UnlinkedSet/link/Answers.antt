@@ -1,5 +1,5 @@
 use Rattle.tigercanon.proofs.Refusing.{within_limits}
 use Rattle.tigercanon.proofs.library.unlinked.RefSliceRefSliceU8UnlinkedSet.link.Goals as goal
 
-pub link_records-requires : goal.link_records-requires
-link_records-requires c = let l = c.in_ok-tables.ensures.spelled in within_limits _ _ l.0 l.1 l.2
+pub link_in_order-requires : goal.link_in_order-requires
+link_in_order-requires c = let l = c.in_ok-tables.ensures.spelled in within_limits _ _ l.0 l.1 l.2
