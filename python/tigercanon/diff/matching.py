@@ -40,7 +40,7 @@ class Matched(Generic[T]):
         return not any(self.counts[:3])
 
     def pair(self, found: list[Pair[T]], *keys: Callable[[T], Optional[Hashable]]) -> None:
-        """Pairs things of which each map has exactly one under a key, by one kind of key after another."""
+        """Pairs a thing of each map if both maps have exactly one under a key. Tries one kind of key after another."""
         for key in keys:
             pairs, self.first, self.second = pair_by(self.first, self.second, key)
             found += pairs
