@@ -4,7 +4,7 @@ pub use Rattle.std.proofs.Common.{append_assoc, arith, bit_and, codes, cond, dro
 pub use Rattle.std.proofs.Common.{length-set, lit<, lit≤, ltb, map, nat_eq, pos, refl, replicate, rules, slice_get, slice_set, subst, suc}
 pub use Rattle.std.proofs.Common.{sym, take, take-take, true, unwrap_or, w8, zero, ℕ, ℤ, ◌%◌, ◌*◌, ◌++◌, ◌+◌, ◌-◌, ◌/◌, ◌<◌, ◌==◌, ◌^◌, ◌∙◌}
 pub use Rattle.std.proofs.Common.{◌∷◌, ◌≡◌, ◌≤◌, ◌⊎◌}
-pub use Rattle.std.proofs.lemmas.Bool.{and_from, and_parts, cases_lt, eqb-true, le-leb, leb-true, ltb-true, ne_eqb}
+pub use Rattle.std.proofs.lemmas.Bool.{and_from, and_parts, cases_lt, eqb-true, le-leb, leb-true, lt-ltb, ltb-true, ne_eqb}
 pub use Rattle.std.proofs.lemmas.List.{append-nil, drop-drop, drop-take, drop_all, drop_more, length-map, length_push, take_all}
 pub use Rattle.std.proofs.lemmas.Simd.{Each1-get_or, bitmask_splat, length-zip2, map-map, mask_l-lt, tops_compared, zip2_splat}
 pub use Rattle.std.proofs.{Math.Nat.pow-le-pow_right, lemmas.List.Elements.All-push, lemmas.Nat.and_block, lemmas.Slice.Eq.slice_eq-Decides}
@@ -15,7 +15,7 @@ pub use Rattle.std.specs.{List.filter_map}
 pub use Rattle.tl_layout.specs.FieldTexts.{digits_text, lat_text, long_text, number_text, places_text, point_place_text, text_behind}
 pub use Rattle.tl_layout.specs.Laws.Type1ColumnLaws.{columns_are_text, content_behind, fields_again, text_of_columns}
 pub use Rattle.tl_layout.specs.RecordTypes.{Type1, Type2, Type4, Type5, Type6, Type7, Type8, TypeI, TypeP, as_type}
-pub use Rattle.tl_layout.specs.{AddressRanges.ranges_texts, FieldReading.pair_of, FieldReading.places_reading, Laws.PlaceLaws.pair_of_texts}
+pub use Rattle.tl_layout.specs.{AddressRanges.ranges_texts, FieldReading.coordinates_of, FieldReading.places_reading, Laws.PlaceLaws.pair_of_texts}
 pub use Rattle.tl_layout.specs.{Bytes.AreAllowed, Bytes.blanks, Bytes.columns, FieldFaults.gap, Names.name_texts}
 pub use Rattle.tl_layout.specs.{Columns.joined, Laws.ByteLaws.blanks_are_text, Laws.ColumnLaws.joined-before, declared.tables.Tables.Tables}
 pub use Rattle.tl_layout.specs.{CoordinateReading.minus_of, Coordinates.most_longitude, Laws.FieldLaws.reads_on, NumberReading.number_after}

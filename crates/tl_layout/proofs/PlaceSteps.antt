@@ -1,7 +1,7 @@
 -- Reading places one after another: the items that were read, followed by those of the remaining places.
 use Rattle.tl_layout.proofs.Common.{Bool, Err, FieldFault, List, None, Ok, Option, Result, Some, ZEROS, [], and_parts, ap, append-nil}
 use Rattle.tl_layout.proofs.Common.{append_assoc, arith, columns, drop, drop-drop, drop-take, eqb, eqb-true, false, gap, most_latitude}
-use Rattle.tl_layout.proofs.Common.{most_longitude, pair_of, reads_on, refl, subst, suc, suc-mul, sym, take, take-take, true, ℕ, ◌*◌, ◌++◌}
+use Rattle.tl_layout.proofs.Common.{most_longitude, coordinates_of, reads_on, refl, subst, suc, suc-mul, sym, take, take-take, true, ℕ, ◌*◌, ◌++◌}
 use Rattle.tl_layout.proofs.Common.{◌+◌, ◌-◌, ◌∙◌, ◌∷◌, ◌≡◌, ◌≤◌}
 use Rattle.tl_layout.specs.CoordinateReading.{coordinate_of, magnitude_of, signed_of}
 use Rattle.tl_layout.specs.FieldReading.{and_then, places_reading, point_or_none, point_or_none_at}
@@ -79,7 +79,7 @@ same_bytes (x ∷ xs) (y ∷ ys) h =
 
 -- a pair of zeros isn't a point
 zeros_read : (long lat : List ℕ) → long ≡ take 10 ZEROS → lat ≡ drop 10 ZEROS → (column : ℕ)
-    → pair_of column (coordinate_of most_longitude long) (coordinate_of most_latitude lat) ≡ Ok None
+    → coordinates_of column (coordinate_of most_longitude long) (coordinate_of most_latitude lat) ≡ Ok None
 unfolding coordinate_of signed_of magnitude_of number_after point_or_none
 zeros_read long lat e f column = rw (e, f) refl
 

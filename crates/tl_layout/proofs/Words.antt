@@ -1,6 +1,6 @@
 -- Eight digits in the bytes of a word, and their number.
 use Rattle.tl_layout.proofs.Common.{Bool, List, Some, bit_and, cond, drop, drop_all, false, get_or, le-leb, leb, leb-true, length, ltb-true}
-use Rattle.tl_layout.proofs.Common.{[], ap, lit<, ltb, map, refl, suc, true, zero, ℕ, ◌%◌, ◌*◌, ◌+◌, ◌-◌, ◌/◌, ◌<◌, ◌^◌, ◌∙◌, ◌∷◌, ◌≡◌, ◌≤◌}
+use Rattle.tl_layout.proofs.Common.{[], ap, lit<, lt-ltb, ltb, map, refl, suc, true, zero, ℕ, ◌%◌, ◌*◌, ◌+◌, ◌-◌, ◌/◌, ◌<◌, ◌^◌, ◌∙◌, ◌∷◌, ◌≡◌, ◌≤◌}
 use Rattle.tl_layout.proofs.Common.{and_block, and_from, and_mask, and_parts, and_self, arith, drop_blanks, drop_more, pow-succ', replicate}
 use Rattle.tl_layout.specs.{NumberField.is_blank, NumberField.is_digit, NumberReading.number_after}
 use lib.Lanes.{mask_l, sel_l}
@@ -45,6 +45,22 @@ pub full_mask : (p : ℕ → Bool) (xs : List ℕ) (i d : ℕ) → mask_l (map p
 full_mask p [] i d e lt = absurd (omega arith)
 full_mask p (x ∷ xs) i d e lt =
     one_lane p x xs i d (p x) refl (e ∙ pow-succ' 2 (length xs)) lt (λ j h k. full_mask p xs j d h k)
+
+-- if each lane passes a test, its mask has a bit for each lane
+pub mask_full : (p : ℕ → Bool) (xs : List ℕ) → ((k : ℕ) → k < length xs → p (get_or xs k 0) ≡ true) → mask_l (map p xs) + 1 ≡ 2 ^ length xs
+mask_full p [] each = refl
+mask_full p (x ∷ xs) each =
+    let rest = mask_full p xs (λ k lt. each (suc k) (omega (arith, lt))) in
+    let double = pow-succ' 2 (length xs) in
+    rw (each 0 (omega arith)) (omega (arith, rest, double))
+
+-- a digit is less than ten above the byte of 0
+pub digit_is_low : (b : ℕ) → is_digit b ≡ true → ltb ((b + (256 - 48)) % 256) 10 ≡ true
+digit_is_low b h =
+    let bounds = and_parts (leb 48 b) (leb b 57) h in
+    let low = leb-true 48 b bounds.0 in
+    let high = leb-true b 57 bounds.1 in
+    lt-ltb ((b + (256 - 48)) % 256) 10 (omega (arith, low, high))
 
 -- a byte is a digit if it is less than ten above the byte of 0
 pub digit_from : (b : ℕ) → b < 256 → ltb ((b + (256 - 48)) % 256) 10 ≡ true → is_digit b ≡ true

@@ -39,21 +39,21 @@ number_at first last line = number_or_none_at first last line >>= demanded (bad_
 unfoldable pub point_or_none : ℤ → ℤ → Option Coordinates
 point_or_none long lat = if unsigned_abs long + unsigned_abs lat == 0 then None else Some (record { long = long; lat = lat })
 
--- The pair that begins at this column: a malformed longitude is reported there, a malformed latitude at its own column, and
+-- the point of the pair that begins at this column: a malformed longitude is reported there, a malformed latitude at its own column, and
 -- half a point at the longitude's.
-abbrev pub pair_of : ℕ → Coordinate → Coordinate → Result (Option Coordinates) FieldFault
-pair_of column Malformed lat = Err (bad_point column)
-pair_of column Blank Malformed = Err (bad_point (column + 10))
-pair_of column (Value long) Malformed = Err (bad_point (column + 10))
-pair_of column Blank Blank = Ok None
-pair_of column Blank (Value lat) = Err (bad_point column)
-pair_of column (Value long) Blank = Err (bad_point column)
-pair_of column (Value long) (Value lat) = Ok (point_or_none long lat)
+abbrev pub coordinates_of : ℕ → Coordinate → Coordinate → Result (Option Coordinates) FieldFault
+coordinates_of column Malformed lat = Err (bad_point column)
+coordinates_of column Blank Malformed = Err (bad_point (column + 10))
+coordinates_of column (Value long) Malformed = Err (bad_point (column + 10))
+coordinates_of column Blank Blank = Ok None
+coordinates_of column Blank (Value lat) = Err (bad_point column)
+coordinates_of column (Value long) Blank = Err (bad_point column)
+coordinates_of column (Value long) (Value lat) = Ok (point_or_none long lat)
 
 -- how the pair that begins at this column is read if it may be no point
 unfoldable pub point_or_none_at : ℕ → List ℕ → Result (Option Coordinates) FieldFault
 point_or_none_at column line =
-    pair_of column (coordinate_of most_longitude (columns column (column + 9) line))
+    coordinates_of column (coordinate_of most_longitude (columns column (column + 9) line))
     (coordinate_of most_latitude (columns (column + 10) (column + 18) line))
 
 -- how the pair that begins at this column is read if it must be a point

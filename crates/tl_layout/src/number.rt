@@ -1,6 +1,6 @@
 //! Number fields.
 
-ghost use Rattle.std.specs.List.{list_all};
+ghost use Rattle.std.specs.{Bool.Decides, List.list_all};
 ghost use Rattle.std.specs.Prelude.{IfSome, IsTrue, Some, if◌then◌else◌, length, slice_index, true, ℕ, ◌%◌, ◌*◌, ◌+◌, ◌<◌, ◌==◌, ◌∷◌, ◌≡◌};
 ghost use Rattle.std.specs.Prelude.{◌≤◌};
 ghost use Rattle.tl_layout.specs.NumberReading.{drop_blanks, number_after, number_of};
@@ -33,7 +33,7 @@ pub fn is_blank(field: &[u8]) -> bool
 /// Whether each of eight bytes is a digit.
 #[inline(always)]
 pub fn are_digits(bytes: u8x8) -> bool
-    ensures { IsTrue result → (k : ℕ) → k < 8 → is_digit (slice_index bytes k) ≡ true }
+    ensures { Decides result ((k : ℕ) → k < 8 → is_digit (slice_index bytes k) ≡ true) }
 {
     let values = bytes - u8x8::splat(b'0');
     values.simd_lt(u8x8::splat(10)).to_bitmask() == 0xff

@@ -9,7 +9,7 @@ use Rattle.tl_layout.specs.Coordinates.{Coordinates, IsOnMap, most_latitude, mos
 use Rattle.tl_layout.specs.FieldTexts.{coordinate_text, lat_text, long_text, number_text}
 use Rattle.tl_layout.specs.Laws.CoordinateLaws.{blank_found, blank_only, coordinate_found, coordinate_only, coordinate_text_is_text}
 use Rattle.tl_layout.specs.Laws.CoordinateLaws.{coordinate_text_spells, coordinate_within}
-use Rattle.tl_layout.specs.FieldReading.{and_then, demanded, number_at, number_or_none_at, pair_of, point_at, point_or_none}
+use Rattle.tl_layout.specs.FieldReading.{and_then, demanded, number_at, number_or_none_at, coordinates_of, point_at, point_or_none}
 use Rattle.tl_layout.specs.FieldReading.{point_or_none_at, possible_number}
 use Rattle.tl_layout.specs.FieldMeaning.{SpellsNumber, SpellsNumberOrNone, SpellsPoint, SpellsPointOrNone}
 use Rattle.tl_layout.specs.declared.coordinate.Coordinate.TheVariants.{Blank, Malformed, Value}
@@ -128,7 +128,7 @@ pub ok_value : {A : Type 0} (x y : A) → ◌≡◌ {A = Result A FieldFault} (O
 ok_value x y h = (cc)
 
 pair_found : (column : ℕ) (long_field lat_field : List ℕ) (point : Option Coordinates) (long lat : Coordinate)
-    → coordinate_of most_longitude long_field ≡ long → coordinate_of most_latitude lat_field ≡ lat → pair_of column long lat ≡ Ok point
+    → coordinate_of most_longitude long_field ≡ long → coordinate_of most_latitude lat_field ≡ lat → coordinates_of column long lat ≡ Ok point
     → SpellsPointOrNone long_field lat_field point
 unfolding point_or_none
 pair_found column long_field lat_field point Malformed lat x y h = (cc)
@@ -153,7 +153,7 @@ unfolding point_or_none
 point_only long lat h = rw (ne_eqb (unsigned_abs long + unsigned_abs lat) 0 (λ e. omega arith)) refl
 
 pair_only : (column : ℕ) (long_field lat_field : List ℕ) (point : Option Coordinates) → SpellsPointOrNone long_field lat_field point
-    → pair_of column (coordinate_of most_longitude long_field) (coordinate_of most_latitude lat_field) ≡ Ok point
+    → coordinates_of column (coordinate_of most_longitude long_field) (coordinate_of most_latitude lat_field) ≡ Ok point
 unfolding point_or_none
 pair_only column long_field lat_field None (inl h) = rw (blank_only most_longitude long_field h.0, blank_only most_latitude lat_field h.1) refl
 pair_only column long_field lat_field None (inr h) =

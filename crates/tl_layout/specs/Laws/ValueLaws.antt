@@ -3,7 +3,7 @@ use Rattle.std.proofs.Common.{Err, List, None, Ok, Option, Result, Some, ap, fal
 use Rattle.std.proofs.Common.{◌+◌, ◌∙◌, ◌≡◌, ◌⊎◌}
 use Rattle.tl_layout.specs.Laws.CoordinateLaws.{blank_found, blank_only, coordinate_found, coordinate_only}
 use Rattle.tl_layout.specs.Coordinates.{Coordinates, most_latitude, most_longitude}
-use Rattle.tl_layout.specs.FieldReading.{and_then, demanded, number_at, number_or_none_at, pair_of, point_at, point_or_none_at}
+use Rattle.tl_layout.specs.FieldReading.{and_then, demanded, number_at, number_or_none_at, coordinates_of, point_at, point_or_none_at}
 use Rattle.tl_layout.specs.FieldReading.{possible_number}
 use Rattle.tl_layout.specs.FieldMeaning.{SpellsNumberPlace, SpellsPointOrNone, SpellsPointPlace}
 use Rattle.tl_layout.specs.FieldFaults.{HasMalformedLatitude, HasMalformedLongitude, IsMalformed, IsReportedOfPair, bad_number, bad_point}
@@ -141,7 +141,7 @@ err_value x y h = (cc)
 
 pair_reported : (line : List ℕ) (first : ℕ) (fault : FieldFault) (long lat : Coordinate)
     → coordinate_of most_longitude (columns first (first + 9) line) ≡ long
-    → coordinate_of most_latitude (columns (first + 10) (first + 18) line) ≡ lat → pair_of first long lat ≡ Err fault
+    → coordinate_of most_latitude (columns (first + 10) (first + 18) line) ≡ lat → coordinates_of first long lat ≡ Err fault
     → IsReportedOfPair line first fault
 pair_reported line first fault Malformed lat x y h =
     subst (IsReportedOfPair line first) (err_value _ fault h) (long_reported line first (malformed_found _ _ x))

@@ -8,4 +8,4 @@ unfolding digits_text
 returns-then-are_digits c signed =
     let columns = c.args.columns.now in
     coordinate_text_of 8 (get_or columns 0 0) columns (slice_range columns 1 (length columns)) (begins columns (omega arith)) (length_behind columns 8 c.requires)
-    (eight_digits columns c.requires (c.are_digits.ensures c.if-are_digits.true)) (c.is_sign.ensures signed)
+    (eight_digits columns c.requires (c.are_digits.ensures.0 c.if-are_digits.true)) (c.is_sign.ensures signed)

@@ -9,7 +9,7 @@ abbrev value_at : After-from_le_bytes-ones → ℕ → ℕ
 value_at c k = get_or c.args.bytes k 0 - 48
 
 digit_at : (c : After-from_le_bytes-ones) → (k : ℕ) → k < 8 → IsDigitOf (get_or c.args.bytes k 0) (value_at c k)
-digit_at c k lt = digit_of (get_or c.args.bytes k 0) (c.are_digits.ensures c.if-not-are_digits.false k lt)
+digit_at c k lt = digit_of (get_or c.args.bytes k 0) (c.are_digits.ensures.0 c.if-not-are_digits.false k lt)
 
 below : (c : After-from_le_bytes-ones) → (k : ℕ) → k < 8 → value_at c k < 10
 below c k lt = (digit_at c k lt).below
