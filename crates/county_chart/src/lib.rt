@@ -23,7 +23,7 @@ mod stored;
 
 pub use body_order::cmp_landmark_bodies;
 pub use chart::Chart;
-pub use chart_lists::LandmarkBodies;
+pub use chart_lists::{Feats, LandmarkBodies, Lands, Nodes, Polygons, Tlids};
 pub use directed_chain::{ChainFeats, ChainPoints, ChainRanges, DirectedChain};
 pub use fault::{LinkFault, LinkedType, SequencedType};
 pub use keys::key_set::KeySet;

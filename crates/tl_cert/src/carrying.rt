@@ -70,7 +70,7 @@ pub fn check<A: Chart, B: Chart>(
     carries_parts(alloc, a, b, &tables)
 }
 
-/// Whether the renaming carries `a` onto `b`, both seen under a mask. It allocates what [`check`] does, and if the mask leaves out
+/// Whether the renaming carries `a` onto `b`, both under a mask. It allocates what [`check`] does, and if the mask leaves out
 /// SOURCE also a copy of the contents of each county's landmarks.
 ///
 /// # Errors

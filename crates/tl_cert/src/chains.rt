@@ -39,7 +39,6 @@ fn is_node_there(
     }
 }
 
-/// The new key of a polygon.
 fn new_key(tables: &RenamingTables, key: PolygonKey) -> PolygonKey
     ensures { result ≡ image key_cmp tables.now.polygons key }
 {

@@ -10,7 +10,6 @@ mod carrying;
 mod chains;
 mod lent;
 mod links;
-mod lists;
 mod numbers_paired;
 mod pairing;
 mod parts;

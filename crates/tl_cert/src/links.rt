@@ -69,7 +69,6 @@ fn new_keys(
         .collect(alloc)
 }
 
-/// The keys of links.
 fn keys_of(alloc: Global, links: &[Rec8]) -> Result<Vec<LinkKey>, AllocError>
     ensures { IfOk result (λ keys. keys.items ≡ map link_sequence links.now) }
 {

@@ -6,9 +6,8 @@ ghost use Rattle.county_chart.specs.CountyRules.{feats, lands, nodes, polygon_ke
 ghost use Rattle.county_chart.specs.Renumbering.{NumbersArePaired};
 ghost use Rattle.ordered_lists.specs.{Orders.has_repeat, Orders.contains, Pairs.ArePaired};
 
-use crate::lists::{Feats, Lands, Nodes, Polygons, Tlids};
 use crate::pairing::are_paired;
-use county_chart::{Chart, PolygonKey, Tested, all_hold};
+use county_chart::{Chart, Feats, Lands, Nodes, PolygonKey, Polygons, Tested, Tlids, all_hold};
 use renamings::{Renaming, SortedNumbers};
 use std::alloc::{AllocError, Global};
 

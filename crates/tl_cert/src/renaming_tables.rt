@@ -19,7 +19,6 @@ pub(crate) struct RenamingTables<'a> {
 }
 
 impl<'a> RenamingTables<'a> {
-    /// The tables of a renaming.
     pub(crate) fn new(
         alloc: Global,
         renaming: &'a Renaming,

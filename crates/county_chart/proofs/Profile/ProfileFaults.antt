@@ -3,7 +3,7 @@ use Rattle.county_chart.proofs.Common.{Among, BodyP, County, Memory, Option, has
 use Rattle.county_chart.proofs.Common.{IsFirstBrokenClause, PolygonWithoutChain, inl, is_clause_broken, polygons_along, profile_fault_place}
 use Rattle.county_chart.proofs.Common.{IsInProfile, PolygonKey, ProfileFault, TooSymmetric, [], among-map, and_parts, any_among, false≢true}
 use Rattle.county_chart.proofs.Common.{List, cond, inr, is_eq, map, not, refl, subst, suc, sym, true, zero, ◌&&◌, ◌==◌, ◌∷◌, ◌≡◌, ◌⊎◌}
-use Rattle.county_chart.proofs.Rules.FirstFault.{first_computed, first_or_none, least_there, none_computed, none_there, not_first}
+use Rattle.county_chart.proofs.Rules.FirstFault.{first_or_none, not_first}
 use Rattle.county_chart.proofs.Rules.FirstFault.{one_first}
 
 -- the fault at a place
@@ -64,13 +64,3 @@ profile_has_none county fault within h = not_first (is_clause_broken county) pro
 
 pub one_first_clause : (county : County) (f g : ProfileFault) → IsFirstBrokenClause county f → IsFirstBrokenClause county g → f ≡ g
 one_first_clause county = one_first (is_clause_broken county) profile_fault_place fault_at fault_at-place
-
--- computed for a given county
-pub profile_computed : (county : County) → none_there (is_clause_broken county) profile_fault_place (all_faults county) ≡ true → IsInProfile
-    county
-profile_computed county e = none_computed (is_clause_broken county) profile_fault_place (all_faults county) (broken_among county) e
-
-pub first_clause_computed : (county : County) (fault : ProfileFault)
-    → least_there (is_clause_broken county) profile_fault_place fault (all_faults county) ≡ true → IsFirstBrokenClause county fault
-first_clause_computed county fault e = first_computed (is_clause_broken county) profile_fault_place (all_faults county)
-    (broken_among county) fault e

@@ -1,7 +1,7 @@
 -- If all faults are in a finite list, either there is none or exactly one is the first.
-use Rattle.county_chart.proofs.Common.{AllByRecursion, Among, Bool, IsFirst, IsKeyOrder, List, [], all_among, and_parts, ap, bytes_keys}
-use Rattle.county_chart.proofs.Common.{false, false≢true, inl, inr, is_gt, list_all, lists_keys, not, not-true, or_cases, place_cmp, refl}
-use Rattle.county_chart.proofs.Common.{rules, sym, true, upto, ℕ, ◌&&◌, ◌||◌, ◌∙◌, ◌∷◌, ◌≡◌, ◌⊎◌}
+use Rattle.county_chart.proofs.Common.{AllByRecursion, Among, Bool, IsFirst, IsKeyOrder, List, [], all_among, ap, bytes_keys}
+use Rattle.county_chart.proofs.Common.{false, false≢true, inl, inr, is_gt, lists_keys, place_cmp, refl}
+use Rattle.county_chart.proofs.Common.{rules, sym, true, upto, ℕ, ◌∙◌, ◌∷◌, ◌≡◌, ◌⊎◌}
 use Rattle.ordered_lists.proofs.ByKey.Keys.{order_antisymm, order_itself, order_total}
 
 pub place_keys : IsKeyOrder place_cmp
@@ -60,45 +60,3 @@ module _ {F : Type 0} (there : F → Bool) (place : F → List (List ℕ)) where
       → f ≡ g
   one_first at back f g h k = sym (back f) ∙ ap at (order_antisymm place_keys (place f) (place g) (h.least g k.there) (k.least f h.there))
       ∙ back g
-
-  -- the same by computing, over a list that has each present fault
-  abbrev pub none_there : List F → Bool
-  none_there cs = list_all (λ c. not (there c)) cs
-
-  abbrev pub least_there : F → List F → Bool
-  least_there f cs = there f && list_all (λ c. not (there c) || not (is_gt (place_cmp (place f) (place c)))) cs
-
-  none_by : (cs : List F) → none_there cs ≡ true → AllByRecursion (λ c. there c ≡ false) cs
-  none_by [] e = tt
-  none_by (c ∷ cs) e =
-      let both = and_parts (not (there c)) (list_all (λ d. not (there d)) cs) e in
-      (not-true (there c) both.0, none_by cs both.1)
-
-  least_by : (f : F) (cs : List F) → list_all (λ c. not (there c) || not (is_gt (place_cmp (place f) (place c)))) cs ≡ true
-      → AllByRecursion (λ c. there c ≡ true → is_gt (place_cmp (place f) (place c)) ≡ false) cs
-  least_by f [] e = tt
-  least_by f (c ∷ cs) e =
-      let both = and_parts (not (there c) || not (is_gt (place_cmp (place f) (place c))))
-      (list_all (λ d. not (there d) || not (is_gt (place_cmp (place f) (place d)))) cs) e in
-      ((λ t. at (or_cases (not (there c)) (not (is_gt (place_cmp (place f) (place c)))) both.0) t), least_by f cs both.1)
-    where
-      at : (not (there c) ≡ true) ⊎ (not (is_gt (place_cmp (place f) (place c))) ≡ true) → there c ≡ true
-          → is_gt (place_cmp (place f) (place c)) ≡ false
-      at (inl g) t = absurd (false≢true (sym (not-true (there c) g) ∙ t))
-      at (inr g) t = not-true (is_gt (place_cmp (place f) (place c))) g
-
-  pub none_computed : (cs : List F) → ((f : F) → there f ≡ true → Among f cs) → none_there cs ≡ true → (f : F) → there f ≡ false
-  none_computed cs all e f = go (there f) refl
-    where
-      go : (b : Bool) → there f ≡ b → there f ≡ false
-      go true t = all_among (λ c. there c ≡ false) f cs (none_by cs e) (all f t)
-      go false t = t
-
-  pub first_computed : (cs : List F) → ((f : F) → there f ≡ true → Among f cs) → (f : F) → least_there f cs ≡ true → IsFirst there place f
-  first_computed cs all f e =
-      let both = and_parts (there f) (list_all (λ c. not (there c) || not (is_gt (place_cmp (place f) (place c)))) cs) e in
-      record {
-        there = both.0;
-        least =
-            λ g t. all_among (λ c. there c ≡ true → is_gt (place_cmp (place f) (place c)) ≡ false) g cs (least_by f cs both.1) (all g t) t;
-      }

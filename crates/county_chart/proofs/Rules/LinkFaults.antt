@@ -8,7 +8,7 @@ use Rattle.county_chart.proofs.Common.{IsLinked, LinkFault, LinkTwice, NameTwice
 use Rattle.county_chart.proofs.Common.{Known, List, arith, cond, false, is_eq, nat_lt, ne_eqb, p_key, refl, rtsqs, rules, times, true, zero}
 use Rattle.county_chart.proofs.Common.{Record, eqb-true, flat_map, key_keys, link_key, ltb-true, of_type_i, of_type_p, contains, times-yes}
 use Rattle.county_chart.proofs.Common.{Six, [], inl, inr, map, not, suc, ℕ, ◌&&◌, ◌++◌, ◌<◌, ◌==◌, ◌∷◌, ◌≡◌, ◌⊎◌}
-use Rattle.county_chart.proofs.Rules.FirstFault.{first_computed, first_or_none, least_there, none_computed, none_there, not_first}
+use Rattle.county_chart.proofs.Rules.FirstFault.{first_or_none, not_first}
 use Rattle.county_chart.proofs.Rules.FirstFault.{one_first}
 use Rattle.county_chart.specs.declared.fault.{LinkFault.TheVariants.Memory, LinkedType.TheVariants.Four, LinkedType.TheVariants.Two}
 use Rattle.county_chart.specs.declared.fault.SequencedType.TheVariants as sequenced
@@ -202,12 +202,3 @@ linked_has_none records fault linked h = not_first (is_rule_broken records) link
 
 pub one_first_rule : (records : List Record) (f g : LinkFault) → IsFirstBrokenRule records f → IsFirstBrokenRule records g → f ≡ g
 one_first_rule records = one_first (is_rule_broken records) link_fault_place fault_at fault_at-place
-
--- by computing, for given records
-pub linked_computed : (records : List Record) → none_there (is_rule_broken records) link_fault_place (all_faults records) ≡ true → IsLinked
-    records
-linked_computed records e = none_computed (is_rule_broken records) link_fault_place (all_faults records) (broken_among records) e
-
-pub first_rule_computed : (records : List Record) (fault : LinkFault)
-    → least_there (is_rule_broken records) link_fault_place fault (all_faults records) ≡ true → IsFirstBrokenRule records fault
-first_rule_computed records fault e = search (rules, first_computed, broken_among)
