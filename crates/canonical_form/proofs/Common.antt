@@ -33,7 +33,7 @@ pub use Rattle.county_chart.proofs.Common.{Mask, None, Some, Two, cond, drop, re
 pub use Rattle.county_chart.proofs.Common.{all_left, all_take, cases_eq, chain_at, chain_of, distinct, eqb-true, feats_of, flat_map}
 pub use Rattle.county_chart.proofs.Common.{Option, has_body, in_order, key_keys, link_cmp, link_key, list_any, ltb-true, nat_keys, not-true}
 pub use Rattle.county_chart.proofs.Common.{P, among-permutation, apart_from_sorted, in_order-in_order, landmark_body_cmp, strict_from_order}
-pub use Rattle.county_chart.proofs.Common.{Ranges, on_total, one_tlid, only_one, or_cases, or_right, same-map, six_rtsq, six_tlid, take_all}
+pub use Rattle.county_chart.proofs.Common.{Ranges, on_total, one_tlid, or_cases, or_right, same-map, six_rtsq, six_tlid, take_all}
 pub use Rattle.county_chart.proofs.Common.{SameElements, all-in_order, all_selected, along_shapes, among-pieces, append_assoc}
 pub use Rattle.county_chart.proofs.Common.{Type4, Type5, Type6, Type7, Type8, TypeI, TypeP, arith, false, feats, first, image, is_eq, is_gt}
 pub use Rattle.county_chart.proofs.Common.{all_map, as_type, by_type, choices, differ, inverse, is_some, key_cmp, map-map, nat_cmp, of_type}
@@ -77,9 +77,9 @@ pub use Rattle.ordered_lists.proofs.Common.{le-ltb, length-filter, length-range_
 pub use Rattle.ordered_lists.proofs.Common.{then_total, true≢false}
 pub use Rattle.ordered_lists.proofs.Lists.InOrder.{in_order-equal, in_order-from_strict, in_order-itself, in_order-permutation}
 pub use Rattle.ordered_lists.proofs.Lists.InOrder.{in_order-unmap, not_greater, strict-equal, strict-map, strict-permutation, strict-unmap}
-pub use Rattle.ordered_lists.proofs.Lists.{ByPlace.all_at, Elements.flat_map_agree, Members.in_filter_map, Members.one_entry}
+pub use Rattle.ordered_lists.proofs.Lists.{ByPlace.all_at, Elements.flat_map-map, Elements.flat_map_agree, Members.in_filter_map, Members.one_entry}
 pub use Rattle.ordered_lists.proofs.Lists.{Members.to_filter_map, Permutations.apart-permutation_of, Permutations.in_order-is_permutation}
-pub use Rattle.ordered_lists.proofs.Lists.{Ranges.less, Ranges.places_below, Ranges.range_bounds, Ranges.range_strict, Reordered.apart-same}
+pub use Rattle.ordered_lists.proofs.Lists.{Ranges.less, Ranges.places_below, Ranges.range_bounds, Ranges.range_strict, Reordered.all_permuted, Reordered.apart-same}
 pub use Rattle.tl_layout.proofs.Common.{body_turned_fits, cases_lt, drop_all, lit≤, ◌%◌, ◌/◌}
 pub use Rattle.tl_layout.specs.{Laws.TurnedFits.ranges_turned_fit, Limits.count_of_type, Masked.no_mask, RecordText.text_of}
 pub use Rattle.tl_layout.specs.{RecordTypes.types, declared.record_type.Record.TheVariants.I, declared.record_type.Record.TheVariants.Six}
@@ -103,7 +103,7 @@ pub use Rattle.canonical_form.specs.{Canonical.AreRecordsInOrder, MovedChains.Ar
 pub use Rattle.canonical_form.specs.{Growth.Grows, CountyViews.IsView, Strict.IsStrict, Uses.landmark_key, Uses.name_key_cmp, Uses.uses_of_name}
 pub use Rattle.canonical_form.specs.{Growth.up_to, CountyViews.plain, Uses.all_uses, Uses.links_of, Uses.name_key, Uses.use_cmp, Uses.uses_from}
 pub use Rattle.canonical_form.specs.{MovedChains.AreWithin, MovedChains.other_way, NumberedChoices.moved, NumberedChoices.stood}
-pub use Rattle.std.proofs.Common.{below_more, max, min, slice_index, sum_by, take-append-drop}
+pub use Rattle.std.proofs.Common.{below_more, max, min, sum_by, take-append-drop}
 pub use Rattle.std.proofs.lemmas.Nat.{div-mul-add, mod-mul-add, mod_below, mul-add-lt, mul-le}
 pub use Rattle.std.proofs.{Math.Seq.take-append_seam, lemmas.Grind.flat_map-append, lemmas.List.Sorted.IsPermutation-insert}
 pub use Rattle.std.proofs.{lemmas.List.Sorted.IsPermutation-reverse, lemmas.List.Sums.sum_by-cons, lemmas.List.drop-map}

@@ -1,8 +1,7 @@
 -- Moving chains at the open places of the order of shapes, and the places at which no chain moves.
-use Rattle.std.specs.Prelude.{List, [], length, map, not, slice_get, ℕ, ⊤, ◌+◌, ◌<◌, ◌∷◌, ◌≡◌, ◌≤◌}
+use Rattle.std.specs.Prelude.{List, [], length, not, slice_get, ℕ, ⊤, ◌+◌, ◌<◌, ◌∷◌, ◌≡◌, ◌≤◌}
 use Rattle.std.specs.List.{AllByRecursion}
-use Rattle.county_chart.specs.{County.County, DirectedChains.directed_chain, declared.directed_chain.DirectedChain.DirectedChain}
-use Rattle.county_chart.specs.{declared.open_place.OpenPlace.OpenPlace}
+use Rattle.county_chart.specs.{County.County, declared.directed_chain.DirectedChain.DirectedChain, declared.open_place.OpenPlace.OpenPlace}
 use Rattle.canonical_form.specs.WholeArrangements.{AreWhole}
 
 -- the chain in the other direction
@@ -39,11 +38,3 @@ pub record AgreeButOpen (county : County) (places : List OpenPlace) (one other :
   pub within : AreWithin (length one) places
   pub in_order : ArePlacesInOrder places
   pub apart : AgreeApart places one other
-
--- two lists of directed chains have the same chain at a place, or both have none
-abbrev pub HaveSameChainAt : County → List DirectedChain → List DirectedChain → ℕ → Type 0
-HaveSameChainAt county one other place = slice_get (map (directed_chain county) one) place ≡ slice_get (map (directed_chain county) other) place
-
--- the same for each place below this one
-abbrev pub HaveSameChainsBelow : County → ℕ → List DirectedChain → List DirectedChain → Type 0
-HaveSameChainsBelow county end one other = (place : ℕ) → place < end → HaveSameChainAt county one other place

@@ -129,7 +129,7 @@ pub fn one_canonical_text_for_one_map()
 
 /// Through each view, an accepted list has canonical lists, all with the same text. Canonical lists of two accepted lists have
 /// the same text if the views of their counties are the same, and are equal only then. A canonical list is its own canonical
-/// list, both through the view and without it.
+/// list, both in the view and without it.
 pub fn one_canonical_text_in_each_view()
     ensures exists { (view : County → County) (records : List Record) →
         IsView view → IsAccepted records → (answer : List Record) × IsCanonicalInView view records answer }

@@ -1,19 +1,19 @@
 -- The arranged county is a county, and all its numbers are canonical for the arrangement's choice.
-use Rattle.canonical_form.proofs.Common.{AllByRecursion, IsPermutation-sym, IsStrictlySortedBy, in_order-is_permutation, landmarks_in_order}
-use Rattle.canonical_form.proofs.Common.{AllKeysContained, arranged_tlids, carried_polygon, in_order-equal, known_is_among, position_or_len}
-use Rattle.canonical_form.proofs.Common.{AllContained, IsArranged, IsKeyOrder, PolygonKey, all_weaker, first_seen, same_or_not, under_cenid}
-use Rattle.canonical_form.proofs.Common.{Among, Body7, BodyP, Chain, Grows, Known, arith, false, feats, image, is_eq, is_gt, placed, rights}
-use Rattle.canonical_form.proofs.Common.{Arrangement, County, IsAscending, among-unmap, among_known, nodes_along, renaming_of, uses_of_name}
-use Rattle.canonical_form.proofs.Common.{Arranges, IsInOrder, all_among, among-map, each_from, keys_known, known_all, length-map, link_keys}
-use Rattle.canonical_form.proofs.Common.{Carries, HasOneCenidEach, carried_landmark, landmark_key_cmp, strict_from_order, times-permutation}
-use Rattle.canonical_form.proofs.Common.{Fields8, IsApart, IsTrue, Option, [], all_map, key_cmp, length, lt-ltb, map-map, nat_cmp, times-no}
-use Rattle.canonical_form.proofs.Common.{IsCounty, List, Ordering, all_uses, arranged, in_order, map_agree, slice_get, contains, times-yes}
-use Rattle.canonical_form.proofs.Common.{IsPermutation, inl, link_part_keys, links_relinked, names_in_order, nodes_in_order, polygons_along}
-use Rattle.canonical_form.proofs.Common.{Some, ap, inr, lands, map, on, refl, subst, sym, times, up_to, ℕ, ◌∙◌, ◌∷◌, ◌≡◌, ◌≤◌, ◌⊎◌}
-use Rattle.canonical_form.proofs.Common.{all-in_order, carried_link, carried_name, in_order-map, landmark_key, name_key_cmp, polygon_keys}
-use Rattle.canonical_form.proofs.Common.{among-permutation, apart_from_sorted, ap₂, in_order-in_order, landmark_body_cmp, polygons_in_order}
-use Rattle.canonical_form.proofs.Common.{key_keys, link_cmp, links_of, ltb-true, name_key, nat_keys, new_keys, numbered, on_total, relinked}
-use Rattle.canonical_form.proofs.Sameness.CarriedCounty.{carried_closed, carried_whole, feats-turned}
+use Rattle.canonical_form.proofs.Common.{AllByRecursion, AllContained, AllKeysContained, Among, Arrangement, Arranges, Body7, BodyP}
+use Rattle.canonical_form.proofs.Common.{Carries, Chain, County, Fields8, Grows, HasOneCenidEach, IsApart, IsArranged, IsAscending}
+use Rattle.canonical_form.proofs.Common.{IsCounty, IsInOrder, IsKeyOrder, IsPermutation, IsStrictlySortedBy, IsTrue, Known, List, Option}
+use Rattle.canonical_form.proofs.Common.{Ordering, PolygonKey, Some, [], all-in_order, all_among, all_map, all_uses, all_weaker, among-map}
+use Rattle.canonical_form.proofs.Common.{among-unmap, among_known, ap, apart_from_sorted, ap₂, arith, arranged, arranged_tlids}
+use Rattle.canonical_form.proofs.Common.{carried_landmark, carried_link, carried_name, carried_polygon, contains, each_from, false, feats}
+use Rattle.canonical_form.proofs.Common.{first_seen, image, in_order, in_order-in_order, in_order-is_permutation, in_order-map, inl, inr}
+use Rattle.canonical_form.proofs.Common.{is_eq, is_gt, key_cmp, key_keys, keys_known, known_is_among, landmark_body_cmp, landmark_key}
+use Rattle.canonical_form.proofs.Common.{landmark_key_cmp, landmarks_in_order, lands, length, length-map, link_cmp, link_keys, links_of}
+use Rattle.canonical_form.proofs.Common.{links_relinked, lt-ltb, ltb-true, map, map-map, map_agree, name_key, name_key_cmp, names_in_order}
+use Rattle.canonical_form.proofs.Common.{nat_cmp, nat_keys, new_keys, nodes_along, nodes_in_order, numbered, on, on_total, placed}
+use Rattle.canonical_form.proofs.Common.{polygon_keys, polygons_along, polygons_in_order, position_or_len, refl, relinked, renaming_of}
+use Rattle.canonical_form.proofs.Common.{rights, same_or_not, slice_get, strict_from_order, subst, sym, times, times-no, times-permutation}
+use Rattle.canonical_form.proofs.Common.{times-yes, under_cenid, up_to, uses_of_name, ℕ, ◌∙◌, ◌∷◌, ◌≡◌, ◌≤◌, ◌⊎◌}
+use Rattle.canonical_form.proofs.Sameness.CarriedCounty.{all_carried, carried_closed, carried_whole, feats-turned}
 use Rattle.canonical_form.proofs.Arrangements.Carrying.{arrangement_carries, chains_arranged, feats_arranged, from_placed, keys_arranged}
 use Rattle.canonical_form.proofs.Arrangements.Carrying.{landmarks_arranged, lands_arranged, links_arranged, names_arranged}
 use Rattle.canonical_form.proofs.Arrangements.Carrying.{nodes_along_arranged, nodes_renamed, polygons_arranged, polygons_renamed}
@@ -21,8 +21,7 @@ use Rattle.canonical_form.proofs.Arrangements.Carrying.{polygons_to_placed, tlid
 use Rattle.canonical_form.proofs.Numbering.FirstSeen.{first_seen-grows, known_within, place_from, to_first_seen}
 use Rattle.canonical_form.proofs.Numbering.NewNumbers.{image-numbered, image-under_cenid}
 use Rattle.canonical_form.proofs.Arrangements.Placed.{chain_count, rights-numbered}
-use Rattle.canonical_form.proofs.Unique.SameLandmarks.{count-permutation, count-relanded, is_link, landmark_key_keys, links_of-in_order}
-use Rattle.canonical_form.proofs.Unique.SameLandmarks.{relanded, times-links}
+use Rattle.canonical_form.proofs.Unique.SameLandmarks.{landmark_key_keys, lands_known, links_kept, relanded}
 use Rattle.canonical_form.proofs.Unique.SameNames.{all_uses-all, all_uses-kept, name_key_keys, uses_of-renamed}
 use Rattle.canonical_form.proofs.Unique.SameNumbers.{counted_injective, kept_entry, polygons_along-kept}
 use Rattle.canonical_form.proofs.{Lists.Counting.up_to-strict, Numbering.SeenKeys.found_key, Unique.SameKeys.key_with}
@@ -125,24 +124,16 @@ module _ (county : County) (arrangement : Arrangement) (is : IsCounty county) (a
           ∙ sym j.2
 
   on_sides : AllKeysContained (polygons_along (arranged county arrangement).chains) (polygon_keys (arranged county arrangement))
-  on_sides = each_from (λ k. IsTrue (contains key_cmp k (polygons_along (arranged county arrangement).chains)))
-      (polygon_keys (arranged county arrangement))
-      (λ k m. let old = among-unmap (image key_cmp (renaming_of county arrangement).polygons) k (polygon_keys county)
-      (among-permutation k (polygon_keys (arranged county arrangement))
-      (map (image key_cmp (renaming_of county arrangement).polygons) (polygon_keys county))
-      (IsPermutation-sym (map (image key_cmp (renaming_of county arrangement).polygons) (polygon_keys county))
-      (polygon_keys (arranged county arrangement)) (keys_arranged county arrangement is arranges sides)) m) in
-      let listed : Known key_cmp (polygon_keys county) old.0 = among_known key_keys old.0 (polygon_keys county) old.1 in
-      let there : Known key_cmp along old.0 =
-      polygons_to_placed county arrangement is arranges old.0
-      (ltb-true 0 (times key_cmp old.0 (polygons_along county.chains))
-      (known_all key_keys (λ j. IsTrue (contains key_cmp j (polygons_along county.chains)))
-      (polygon_keys county) sides old.0 listed)) in
-      let new : Among k (map new_key along) =
-      subst (λ i. Among i (map new_key along)) (sym (old.2 ∙ image_new old.0 there))
-      (among-map new_key old.0 along (known_is_among key_keys old.0 along there)) in
-      lt-ltb 0 (times key_cmp k (polygons_along (arranged county arrangement).chains))
-      (among_known key_keys k (polygons_along (arranged county arrangement).chains) (subst (Among k) (sym polygons_are) new)))
+  on_sides = all_carried (λ k. IsTrue (contains key_cmp k (polygons_along county.chains)))
+      (λ k. IsTrue (contains key_cmp k (polygons_along (arranged county arrangement).chains)))
+      (image key_cmp (renaming_of county arrangement).polygons) (λ k side.
+      let there : Known key_cmp along k =
+      polygons_to_placed county arrangement is arranges k (ltb-true 0 (times key_cmp k (polygons_along county.chains)) side) in
+      let new : Among (new_key k) (map new_key along) = among-map new_key k along (known_is_among key_keys k along there) in
+      subst (λ j. IsTrue (contains key_cmp j (polygons_along (arranged county arrangement).chains))) (sym (image_new k there))
+      (lt-ltb 0 (times key_cmp (new_key k) (polygons_along (arranged county arrangement).chains))
+      (among_known key_keys (new_key k) (polygons_along (arranged county arrangement).chains) (subst (Among (new_key k)) (sym polygons_are) new))))
+      (polygon_keys county) (polygon_keys (arranged county arrangement)) (keys_arranged county arrangement is arranges sides) sides
 
   -- names keep their uses
   name_injective : (n m : ℕ) → Known nat_cmp (feats county) n → Known nat_cmp (feats county) m
@@ -200,32 +191,23 @@ module _ (county : County) (arrangement : Arrangement) (is : IsCounty county) (a
   links_permutation : IsPermutation (map (relanded f_land) relinks) (arranged county arrangement).links
   links_permutation = subst (λ ls. IsPermutation ls (arranged county arrangement).links) links_carried h.links
 
-  relinks_known : AllByRecursion (λ (l : Fields8). Known nat_cmp (lands county) l.land) relinks
-  relinks_known = all_map (λ (l : Fields8). Known nat_cmp (lands county) l.land) (relinked (new_keys county arrangement)) county.links
-      (all_weaker (λ (l : Fields8). IsTrue (contains nat_cmp l.land (lands county))) (λ l. Known nat_cmp (lands county) l.land)
-      (λ l t. ltb-true 0 (times nat_cmp l.land (lands county)) t) county.links is.closed.link_lands)
-
   links_ordered : IsInOrder link_cmp (arranged county arrangement).links
   links_ordered = subst (IsInOrder link_cmp) (sym (links_arranged county arrangement is arranges))
       (in_order-in_order link_keys.total (map (carried_link (renaming_of county arrangement)) county.links))
 
-  links_kept : (n : ℕ) → Known nat_cmp (lands county) n
+  same_under : (n : ℕ) → Known nat_cmp (lands county) n
       → links_of (arranged county arrangement).links (f_land n) ≡ links_of (links_relinked county arrangement) n
-  links_kept n d = in_order-equal link_part_keys (links_of (arranged county arrangement).links (f_land n))
-      (links_of (links_relinked county arrangement) n)
-      (links_of-in_order (arranged county arrangement).links links_ordered (f_land n))
-      (links_of-in_order (links_relinked county arrangement) (in_order-in_order link_keys.total relinks) n)
-      (λ k. times-links (arranged county arrangement).links (f_land n) k
-      ∙ sym (count-permutation (is_link (f_land n) k) (map (relanded f_land) relinks) (arranged county arrangement).links links_permutation)
-      ∙ count-relanded f_land (Known nat_cmp (lands county)) land_injective relinks relinks_known n d k
-      ∙ sym (count-permutation (is_link n k) (links_relinked county arrangement) relinks (in_order-is_permutation link_cmp relinks))
-      ∙ sym (times-links (links_relinked county arrangement) n k))
+  same_under = links_kept f_land (Known nat_cmp (lands county)) land_injective relinks (links_relinked county arrangement)
+      (arranged county arrangement).links
+      (all_map (λ (l : Fields8). Known nat_cmp (lands county) l.land) (relinked (new_keys county arrangement)) county.links
+      (lands_known county is.closed))
+      (in_order-in_order link_keys.total relinks) (in_order-is_permutation link_cmp relinks) links_ordered links_permutation
 
   landmarks_ordered : IsInOrder (on (landmark_key (arranged county arrangement).links) landmark_key_cmp) (arranged county arrangement).landmarks
   landmarks_ordered = subst (IsInOrder (on (landmark_key (arranged county arrangement).links) landmark_key_cmp))
       (sym (landmarks_arranged county arrangement is arranges))
       (ordered_kept landmark_key_keys f_land (links_of (links_relinked county arrangement)) (links_of (arranged county arrangement).links)
-      county.landmarks links_kept)
+      county.landmarks same_under)
 
   pub is_arranged : IsArranged (arranged county arrangement)
   is_arranged = record {

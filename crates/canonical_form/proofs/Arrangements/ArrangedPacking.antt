@@ -1,20 +1,21 @@
 -- The packing of an arranged county is an arranged list of records.
-use Rattle.canonical_form.proofs.Common.{AllByRecursion, AreFull, Body7, Chain, Coordinates, County, Fields2, Fields4, Fields6, Fields7}
-use Rattle.canonical_form.proofs.Common.{IsArranged, IsArrangedList, IsCounty, IsInOrder, IsPacked, IsStrictlySortedBy, List, Ordering}
-use Rattle.canonical_form.proofs.Common.{Ranges, SequencedType, AreRecordsInOrder, [], all_everywhere, all_weaker, ap, ap₂, arith, by_type_of}
-use Rattle.canonical_form.proofs.Common.{drop, false, filter_map, five_feat, flat_map, four_rtsq, four_tlid, i_tlid, in_order-from_strict}
-use Rattle.canonical_form.proofs.Common.{in_order-in_order, in_pieces, inner_points, is_gt, landmark_body_cmp, landmark_cmp}
-use Rattle.canonical_form.proofs.Common.{lefts-numbered_from, length, length-drop, length-map, length-numbered_from, length-take, link_cmp}
-use Rattle.canonical_form.proofs.Common.{map, map-id, map-map, map_agree_everywhere, min, nat_cmp, nat_cmp_total, numbered_from, of_number}
-use Rattle.canonical_form.proofs.Common.{of_type_2, of_type_4, of_type_6, on, on_total, one_tlid, p_polyid, packed, packed_by_type}
-use Rattle.canonical_form.proofs.Common.{packed_five, packed_fours, packed_i, packed_one, packed_p, packed_sevens, packed_sixes}
-use Rattle.canonical_form.proofs.Common.{packed_twos, pieces, refl, rights-numbered_from, rtsqs, seven_land, six_rtsq, six_tlid, subst, suc}
-use Rattle.canonical_form.proofs.Common.{sym, take, then_cmp, two_rtsq, two_tlid, type_after_type, up_to, zero, ℕ, ◌-◌, ◌∙◌, ◌∷◌, ◌≡◌, ◌≤◌}
-use Rattle.canonical_form.proofs.Packing.PackedGroups.{group_holds, groups_in_order}
-use Rattle.canonical_form.proofs.Packing.PackedNumbers.{eights, fives, four_own, fours, links_of_chains, numbered_strict, ones}
-use Rattle.canonical_form.proofs.Packing.PackedNumbers.{polygons_packed, seven_own, sevens, six_own, sixes, tlids_apart, two_own, twos}
+use Rattle.canonical_form.proofs.Common.{AllByRecursion, AreFull, AreRecordsInOrder, Body7, Chain, Coordinates, County, Fields2, Fields4}
+use Rattle.canonical_form.proofs.Common.{Fields6, Fields7, IsArranged, IsArrangedList, IsCounty, IsInOrder, IsPacked, IsStrictlySortedBy}
+use Rattle.canonical_form.proofs.Common.{List, Ordering, Ranges, SequencedType, [], all_everywhere, all_weaker, ap, ap₂, arith, by_type_of}
+use Rattle.canonical_form.proofs.Common.{drop, false, filter_map, five_feat, four_rtsq, four_tlid, i_tlid, in_order-from_strict}
+use Rattle.canonical_form.proofs.Common.{in_order-in_order, in_pieces, inner_points, is_gt, landmark_body_cmp, landmark_cmp, length}
+use Rattle.canonical_form.proofs.Common.{length-drop, length-map, length-take, link_cmp, map, map-id, map-map, min, nat_cmp, nat_cmp_total}
+use Rattle.canonical_form.proofs.Common.{of_number, of_type_2, of_type_4, of_type_6, on, on_total, one_tlid, p_polyid, packed}
+use Rattle.canonical_form.proofs.Common.{packed_by_type, packed_five, packed_fours, packed_i, packed_one, packed_p, packed_sevens}
+use Rattle.canonical_form.proofs.Common.{packed_sixes, packed_twos, pieces, refl, rtsqs, seven_land, six_rtsq, six_tlid, subst, suc, sym}
+use Rattle.canonical_form.proofs.Common.{take, then_cmp, two_rtsq, two_tlid, type_after_type, up_to, zero, ℕ, ◌-◌, ◌∙◌, ◌∷◌, ◌≡◌, ◌≤◌}
+use Rattle.canonical_form.proofs.Packing.PackedGroups.{groups_in_order}
+use Rattle.canonical_form.proofs.Packing.PackedNumbers.{contents_made, eights, fives, four_own, fours, links_of_chains, ones}
+use Rattle.canonical_form.proofs.Packing.PackedNumbers.{polygons_packed, rtsqs_counted, rtsqs_ordered, seven_own, sevens, six_own, sixes}
+use Rattle.canonical_form.proofs.Packing.PackedNumbers.{two_own, twos}
 use Rattle.canonical_form.proofs.{Packing.PackedCounty.packed_county, Packing.PackedLinked.packed_linked, Packing.TypeOrder.type_by_type}
 use Rattle.county_chart.specs.declared.fault.SequencedType.TheVariants as sequenced
+use Rattle.canonical_form.proofs.Packing.PackedChains.{in_group}
 
 -- pieces except the last are full
 full_pieces : {X : Type 0} (n most : ℕ) (xs : List X) → 1 ≤ n → length xs ≤ most → AreFull n (pieces n most xs)
@@ -42,27 +43,6 @@ in_order-made {X} {Y} cmp key make stated (y ∷ ys) h = (each ys h.0, in_order-
         → AllByRecursion (λ x. is_gt (cmp (key (make y)) (key x)) ≡ false) (map make zs)
     each [] a = tt
     each (z ∷ zs) a = (ap₂ (λ k j. is_gt (cmp k j)) (stated y) (stated z) ∙ a.0, each zs a.1)
-
--- records with the RTSQs 1, 2, 3, ..
-module _ {X Y : Type 0} (rtsq : X → ℕ) (make : ℕ × Y → X) (stated : (piece : ℕ × Y) → rtsq (make piece) ≡ piece.0) where
-  rtsqs_made : (ys : List Y) → map rtsq (map make (numbered_from 1 ys)) ≡ map (λ (piece : ℕ × Y). piece.0) (numbered_from 1 ys)
-  rtsqs_made ys = map-map rtsq make (numbered_from 1 ys)
-      ∙ map_agree_everywhere (λ piece. rtsq (make piece)) (λ (piece : ℕ × Y). piece.0) stated (numbered_from 1 ys)
-
-  rtsqs_ordered : (ys : List Y) → IsInOrder (on rtsq nat_cmp) (map make (numbered_from 1 ys))
-  rtsqs_ordered ys = in_order-from_strict rtsq (map make (numbered_from 1 ys))
-      (subst (IsStrictlySortedBy nat_cmp) (sym (rtsqs_made ys)) (numbered_strict 1 ys))
-
-  rtsqs_counted : (ys : List Y) → map rtsq (map make (numbered_from 1 ys)) ≡ up_to (length (map make (numbered_from 1 ys)))
-  rtsqs_counted ys = rtsqs_made ys ∙ lefts-numbered_from 1 ys
-      ∙ ap up_to (sym (length-map (numbered_from 1 ys) make ∙ length-numbered_from 1 ys))
-
-  contents_made : {Z : Type 0} (content : X → Z) (back : Y → Z) → ((piece : ℕ × Y) → content (make piece) ≡ back piece.1) → (ys : List Y)
-      → map content (map make (numbered_from 1 ys)) ≡ map back ys
-  contents_made content back holds ys =
-      map-map content make (numbered_from 1 ys)
-      ∙ map_agree_everywhere (λ piece. content (make piece)) (λ (piece : ℕ × Y). back piece.1) holds (numbered_from 1 ys)
-      ∙ sym (map-map back (λ (piece : ℕ × Y). piece.1) (numbered_from 1 ys)) ∙ ap (map back) (rights-numbered_from 1 ys)
 
 module _ (c : County) (is : IsCounty c) where
   make_2 : ℕ × Chain → ℕ × List Coordinates → Fields2
@@ -111,13 +91,6 @@ module _ (c : County) (is : IsCounty c) where
         (in_order-in_order (on_total p_polyid nat_cmp_total) (filter_map packed_p c.polygons));
   }
 
-  -- what holds of the records of each chain holds of those of each TLID
-  in_group : {X : Type 0} (number : X → ℕ) (pack : ℕ × Chain → List X) → ((e : ℕ × Chain) → AllByRecursion (λ x. number x ≡ e.0) (pack e))
-      → (P : List X → Type 0) → P [] → ((e : ℕ × Chain) → P (pack e)) → (xs : List X) → xs ≡ flat_map pack c.chains → (tlid : ℕ)
-      → P (of_number number tlid xs)
-  in_group number pack own P none each xs same tlid = subst (λ ys. P (of_number number tlid ys)) (sym same)
-      (group_holds number pack own P none c.chains (tlids_apart c is) (all_everywhere (λ e. P (pack e)) each c.chains) tlid)
-
   -- numbers that count from 1, as many as there are of them
   counted : {X : Type 0} (number : X → ℕ) (xs : List X) → map number xs ≡ up_to (length xs) → map number xs ≡ up_to (length (map number xs))
   counted number xs e = e ∙ ap up_to (sym (length-map xs number))
@@ -125,24 +98,24 @@ module _ (c : County) (is : IsCounty c) where
   packed_rtsqs : (rtype : SequencedType) (tlid : ℕ) → rtsqs rtype tlid (packed c) ≡ up_to (length (rtsqs rtype tlid (packed c)))
   unfolding make_2 make_4 make_6
   packed_rtsqs sequenced.Two tlid = counted two_rtsq (of_number two_tlid tlid (of_type_2 (packed c)))
-      (in_group two_tlid packed_twos two_own (λ xs. map two_rtsq xs ≡ up_to (length xs)) refl
+      (in_group c is two_tlid packed_twos two_own (λ xs. map two_rtsq xs ≡ up_to (length xs)) refl
       (λ e. rtsqs_counted two_rtsq (make_2 e) (λ piece. refl) (in_pieces 10 (inner_points e.1.points))) _ (twos c is) tlid)
   packed_rtsqs sequenced.Four tlid = counted four_rtsq (of_number four_tlid tlid (of_type_4 (packed c)))
-      (in_group four_tlid packed_fours four_own (λ xs. map four_rtsq xs ≡ up_to (length xs)) refl
+      (in_group c is four_tlid packed_fours four_own (λ xs. map four_rtsq xs ≡ up_to (length xs)) refl
       (λ e. rtsqs_counted four_rtsq (make_4 e) (λ piece. refl) (in_pieces 5 e.1.feats)) _ (fours c is) tlid)
   packed_rtsqs sequenced.Six tlid = counted six_rtsq (of_number six_tlid tlid (of_type_6 (packed c)))
-      (in_group six_tlid packed_sixes six_own (λ xs. map six_rtsq xs ≡ up_to (length xs)) refl
+      (in_group c is six_tlid packed_sixes six_own (λ xs. map six_rtsq xs ≡ up_to (length xs)) refl
       (λ e. rtsqs_counted six_rtsq (make_6 e) (λ piece. refl) e.1.ranges) _ (sixes c is) tlid)
 
   pub packed_is_packed : IsPacked (packed c)
   unfolding make_2 make_4 make_6
   packed_is_packed = record {
-    points = in_group two_tlid packed_twos two_own (λ xs. AreFull 10 (map (λ (r : Fields2). r.points) xs)) tt
+    points = in_group c is two_tlid packed_twos two_own (λ xs. AreFull 10 (map (λ (r : Fields2). r.points) xs)) tt
         (λ e. subst (AreFull 10)
         (sym (contents_made two_rtsq (make_2 e) (λ piece. refl) (λ (r : Fields2). r.points) (λ (piece : List Coordinates). piece)
         (λ piece. refl) (in_pieces 10 (inner_points e.1.points)) ∙ map-id (in_pieces 10 (inner_points e.1.points))))
         (full_pieces 10 (length (inner_points e.1.points)) (inner_points e.1.points) (omega arith) (omega arith))) _ (twos c is);
-    feats = in_group four_tlid packed_fours four_own (λ xs. AreFull 5 (map (λ (r : Fields4). r.feats) xs)) tt
+    feats = in_group c is four_tlid packed_fours four_own (λ xs. AreFull 5 (map (λ (r : Fields4). r.feats) xs)) tt
         (λ e. subst (AreFull 5)
         (sym (contents_made four_rtsq (make_4 e) (λ piece. refl) (λ (r : Fields4). r.feats) (λ (piece : List ℕ). piece) (λ piece. refl)
         (in_pieces 5 e.1.feats) ∙ map-id (in_pieces 5 e.1.feats)))

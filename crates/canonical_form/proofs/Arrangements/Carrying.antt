@@ -2,7 +2,7 @@
 use Rattle.canonical_form.proofs.Common.{AllByRecursion, AllKeysContained, all_everywhere, among-unpieces, apart-distinct, of_number-among, ℕ}
 use Rattle.canonical_form.proofs.Common.{Among, Body5, Body7, BodyP, Chain, County, IsTrue, Option, length, lt-ltb, nat_cmp, placed, rights}
 use Rattle.canonical_form.proofs.Common.{ArePaired, carried_polygon, chains_in_order, has_repeat-apart, landmark_key_cmp, polygons_in_order}
-use Rattle.canonical_form.proofs.Common.{Arrangement, IsApart, among-unmap, among_known, chain_nodes, image-known, nodes_along, under_cenid}
+use Rattle.canonical_form.proofs.Common.{Arrangement, IsApart, among-unmap, among_known, chain_nodes, nodes_along, under_cenid}
 use Rattle.canonical_form.proofs.Common.{Arranges, IsPermutation, among-pieces, among-turned, carried_chain, nodes_in_order, polygons_along}
 use Rattle.canonical_form.proofs.Common.{Bool, IsKeyOrder, PolygonKey, all_among, all_joined, all_known, entries_of, has_repeat, length-map}
 use Rattle.canonical_form.proofs.Common.{Carries, apart-permutation_of, in_order-is_permutation, known-permutation_to, rights-numbered_from}
@@ -30,6 +30,14 @@ images-numbered keys a =
     ap (map (image nat_cmp (numbered keys))) (sym (lefts-numbered keys))
     ∙ images-lefts nat_keys (numbered keys) (subst (IsApart nat_cmp) (sym (lefts-numbered keys)) a)
     ∙ rights-numbered keys
+
+-- images of keys that are known elsewhere are known among the images there
+known_mapped : {J K : Type 0} {by : J → J → Ordering} {cmp : K → K → Ordering} (p : IsKeyOrder by) (o : IsKeyOrder cmp) (f : J → K) (xs ys : List J)
+    → ((j : J) → Known by xs j → Known by ys j) → (k : K) → Known cmp (map f xs) k → Known cmp (map f ys) k
+known_mapped p o f xs ys h k l =
+    let j = among-unmap f k xs (known_is_among o k (map f xs) l) in
+    among_known o k (map f ys) (subst (λ i. Among i (map f ys)) (sym j.2)
+    (among-map f j.0 ys (known_is_among p j.0 ys (h j.0 (among_known p j.0 xs j.1)))))
 
 module _ (county : County) (arrangement : Arrangement) (is : IsCounty county) (arranges : Arranges arrangement county) where
   -- each placed chain is one of the county, turned or not
@@ -228,37 +236,23 @@ module _ (county : County) (arrangement : Arrangement) (is : IsCounty county) (a
   rights_apart = subst (IsApart nat_cmp) (sym node_rights)
       (apart_from_sorted nat_keys (up_to (length (nodes_in_order county arrangement))) (up_to-strict (length (nodes_in_order county arrangement))))
 
+  node_images : map (image nat_cmp (renaming_of county arrangement).nodes) (nodes_in_order county arrangement) ≡ rights (renaming_of county arrangement).nodes
+  node_images = ap (map (image nat_cmp (renaming_of county arrangement).nodes)) (sym node_lefts)
+      ∙ images-lefts nat_keys (renaming_of county arrangement).nodes lefts_apart
+
   new_node : (n : ℕ) → Known nat_cmp (rights (renaming_of county arrangement).nodes) n → Known nat_cmp (nodes (arranged county arrangement)) n
-  new_node n k =
-      let images : map (image nat_cmp (renaming_of county arrangement).nodes) (lefts (renaming_of county arrangement).nodes) ≡ rights
-      (renaming_of county arrangement).nodes = images-lefts nat_keys (renaming_of county arrangement).nodes lefts_apart in
-      let old = among-unmap (image nat_cmp (renaming_of county arrangement).nodes) n (lefts (renaming_of county arrangement).nodes)
-      (subst (Among n) (sym images) (known_is_among nat_keys n (rights (renaming_of county arrangement).nodes) k)) in
-      let seen : Known nat_cmp (nodes_in_order county arrangement) old.0 =
-      subst (λ l. Known nat_cmp l old.0) node_lefts (among_known nat_keys old.0 (lefts (renaming_of county arrangement).nodes) old.1) in
-      let along : Among old.0 (nodes_along (placed county arrangement)) =
-      known_is_among nat_keys old.0 (nodes_along (placed county arrangement))
-      (from_first_seen nat_keys (nodes_along (placed county arrangement)) old.0 seen) in
-      let new : Among n (nodes_along (arranged county arrangement).chains) =
-      subst (Among n) (sym nodes_along_arranged)
-      (subst (λ m. Among m (map (image nat_cmp (renaming_of county arrangement).nodes) (nodes_along (placed county arrangement)))) (sym old.2)
-      (among-map (image nat_cmp (renaming_of county arrangement).nodes) old.0 (nodes_along (placed county arrangement)) along)) in
-      known-distinct nat_keys (nodes_along (arranged county arrangement).chains) n
-      (among_known nat_keys n (nodes_along (arranged county arrangement).chains) new)
+  new_node n k = known-distinct nat_keys (nodes_along (arranged county arrangement).chains) n
+      (subst (λ ns. Known nat_cmp ns n) (sym nodes_along_arranged)
+      (known_mapped nat_keys nat_keys (image nat_cmp (renaming_of county arrangement).nodes) (nodes_in_order county arrangement)
+      (nodes_along (placed county arrangement)) (from_first_seen nat_keys (nodes_along (placed county arrangement))) n
+      (subst (λ ns. Known nat_cmp ns n) (sym node_images) k)))
 
   old_node : (n : ℕ) → Known nat_cmp (nodes (arranged county arrangement)) n → Known nat_cmp (rights (renaming_of county arrangement).nodes) n
-  old_node n k =
-      let along : Among n (map (image nat_cmp (renaming_of county arrangement).nodes) (nodes_along (placed county arrangement))) =
-      subst (Among n) nodes_along_arranged
-      (known_is_among nat_keys n (nodes_along (arranged county arrangement).chains)
-      (known_from_distinct nat_keys (nodes_along (arranged county arrangement).chains) n k)) in
-      let old = among-unmap (image nat_cmp (renaming_of county arrangement).nodes) n (nodes_along (placed county arrangement)) along in
-      let seen : Known nat_cmp (lefts (renaming_of county arrangement).nodes) old.0 =
-      subst (λ l. Known nat_cmp l old.0) (sym node_lefts)
-      (to_first_seen nat_keys (nodes_along (placed county arrangement)) old.0
-      (among_known nat_keys old.0 (nodes_along (placed county arrangement)) old.1)) in
-      subst (Known nat_cmp (rights (renaming_of county arrangement).nodes)) (sym old.2)
-      (image-known nat_keys (renaming_of county arrangement).nodes old.0 seen)
+  old_node n k = subst (λ ns. Known nat_cmp ns n) node_images
+      (known_mapped nat_keys nat_keys (image nat_cmp (renaming_of county arrangement).nodes) (nodes_along (placed county arrangement))
+      (nodes_in_order county arrangement) (to_first_seen nat_keys (nodes_along (placed county arrangement))) n
+      (subst (λ ns. Known nat_cmp ns n) nodes_along_arranged
+      (known_from_distinct nat_keys (nodes_along (arranged county arrangement).chains) n k)))
 
   pub paired_nodes : ArePaired (renaming_of county arrangement).nodes (nodes county) (nodes (arranged county arrangement))
   paired_nodes = record {

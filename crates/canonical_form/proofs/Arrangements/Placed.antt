@@ -1,14 +1,17 @@
 -- The chains of an arrangement, in their new order and direction and with their new numbers.
-use Rattle.canonical_form.proofs.Common.{AllByRecursion, Arrangement, Arranges, Bool, Chain, County, IsApart, IsCounty, IsPermutation}
-use Rattle.canonical_form.proofs.Common.{Known, List, Renumbering, [], all_weaker, ap, apart-permutation, apart_from_sorted, apart_tail}
-use Rattle.canonical_form.proofs.Common.{ap₂, arith, arranged_tlids, carried_chain, chains_in_order, cond, differ, entries_of, false}
-use Rattle.canonical_form.proofs.Common.{filter, flat_map, groups-permutation, image, images-lefts, inl, inr, is_eq, keys_known, known-here}
-use Rattle.canonical_form.proofs.Common.{known-later, known-permutation, known-permutation_to, known_cases, lefts-numbered_from, length}
-use Rattle.canonical_form.proofs.Common.{length-map, lt-ltb, map, map-append, map-map, map_agree_all, nat_cmp, nat_keys, nat_lt, numbered}
-use Rattle.canonical_form.proofs.Common.{numbered_from, of_number-all, only_one, placed, refl, renumbered, rights-numbered_from}
-use Rattle.canonical_form.proofs.Common.{same_or_not, contains, subst, suc, sym, times, times-no, times-of_number, times-yes, tlids, true}
-use Rattle.canonical_form.proofs.Common.{turned_if, turned_tlids, turns, up_to, zero, ℕ, ◌++◌, ◌∙◌, ◌∷◌, ◌≡◌, ◌≤◌, ◌⊎◌}
+use Rattle.canonical_form.proofs.Common.{AllByRecursion, Among, Arrangement, Arranges, Bool, Chain, County, IsApart, IsCounty}
+use Rattle.canonical_form.proofs.Common.{IsPermutation, Known, List, Renumbering, [], all_among, all_filter, all_map, all_themselves}
+use Rattle.canonical_form.proofs.Common.{all_weaker, among-map, among-unmap, among_known, ap, apart-permutation, apart_from_sorted, ap₂}
+use Rattle.canonical_form.proofs.Common.{arith, arranged_tlids, carried_chain, chains_in_order, common_steps, contains, each_from}
+use Rattle.canonical_form.proofs.Common.{entries_of, false, false≢true, filter, flat_map, groups-permutation, image, images-lefts}
+use Rattle.canonical_form.proofs.Common.{keys_known, known-permutation, known-permutation_to, known_all, known_is_among}
+use Rattle.canonical_form.proofs.Common.{lefts-numbered_from, length, length-map, lt-ltb, ltb-true, map, map-append, map-map, map_agree_all}
+use Rattle.canonical_form.proofs.Common.{nat_cmp, nat_keys, numbered, numbered_from, of_number-all, one_entry, placed, refl, renumbered}
+use Rattle.canonical_form.proofs.Common.{rights-numbered_from, rules, same_or_not, subst, suc, sym, times, times-cons, times-no, times-yes}
+use Rattle.canonical_form.proofs.Common.{tlids, to_filter, true, turned_if, turned_tlids, turns, up_to, ℕ, ◌++◌, ◌∙◌, ◌∷◌, ◌≡◌, ◌≤◌}
 use Rattle.canonical_form.proofs.{Lists.Counting.entries_equal, Lists.Counting.flat_map-map, Unique.SameNumbers.kept_entry}
+use Rattle.std.proofs.lemmas.Bool.{false_from_ne_true}
+use Rattle.canonical_form.proofs.Views.DirectedChains.{alone_under}
 
 -- numbered keys as pairs
 pub lefts-numbered : {K : Type 0} (keys : List K) → map (λ (pair : K × ℕ). pair.0) (numbered keys) ≡ keys
@@ -21,83 +24,39 @@ rights-numbered {K} keys = map-map (λ (pair : K × ℕ). pair.1) (λ (entry : �
 
 -- the chains that an arrangement turns
 pub turned_known : (arrangement : Arrangement) (k : ℕ) → Known nat_cmp (turned_tlids arrangement) k → Known nat_cmp (arranged_tlids arrangement) k
-turned_known [] k h = h
-turned_known (s ∷ arrangement) k h = go s.1 h (turned_known arrangement k)
-  where
-    go : (b : Bool) → Known nat_cmp (map (λ (t : ℕ × Bool). t.0) (cond b (s ∷ filter (λ t. t.1) arrangement) (filter (λ t. t.1) arrangement))) k
-        → (Known nat_cmp (turned_tlids arrangement) k → Known nat_cmp (arranged_tlids arrangement) k) → Known nat_cmp (s.0 ∷ arranged_tlids arrangement) k
-    go true l ih = at (known_cases nat_keys k s.0 (turned_tlids arrangement) l)
-      where
-        at : (k ≡ s.0) ⊎ (Known nat_cmp (turned_tlids arrangement) k × (is_eq (nat_cmp k s.0) ≡ false))
-            → Known nat_cmp (s.0 ∷ arranged_tlids arrangement) k
-        at (inl e) = subst (λ n. Known nat_cmp (s.0 ∷ arranged_tlids arrangement) n) (sym e) (known-here nat_keys s.0 (arranged_tlids arrangement))
-        at (inr m) = known-later nat_keys k s.0 (arranged_tlids arrangement) (ih m.0)
-    go false l ih = known-later nat_keys k s.0 (arranged_tlids arrangement) (ih l)
+turned_known arrangement = known_all nat_keys (Known nat_cmp (arranged_tlids arrangement)) (turned_tlids arrangement)
+    (all_map (Known nat_cmp (arranged_tlids arrangement)) (λ (t : ℕ × Bool). t.0) (filter (λ (t : ℕ × Bool). t.1) arrangement)
+    (all_filter (λ (t : ℕ × Bool). Known nat_cmp (arranged_tlids arrangement) t.0) (λ t. t.1) arrangement (keys_known nat_keys arrangement)))
+
+few_turned : (arrangement : Arrangement) (k : ℕ) → times nat_cmp k (turned_tlids arrangement) ≤ times nat_cmp k (arranged_tlids arrangement)
+few_turned [] k = omega arith
+few_turned (s ∷ arrangement) k =
+    grind (arith, common_steps, same_or_not, nat_keys, times-cons, times-yes, times-no, few_turned arrangement k)
 
 pub turned_apart : (arrangement : Arrangement) → IsApart nat_cmp (arranged_tlids arrangement) → IsApart nat_cmp (turned_tlids arrangement)
-turned_apart [] a k = omega arith
-turned_apart (s ∷ arrangement) a k = go s.1 (turned_apart arrangement (apart_tail nat_keys s.0 (arranged_tlids arrangement) a))
-  where
-    go : (b : Bool) → IsApart nat_cmp (turned_tlids arrangement)
-        → times nat_cmp k (map (λ (t : ℕ × Bool). t.0) (cond b (s ∷ filter (λ t. t.1) arrangement) (filter (λ t. t.1) arrangement))) ≤ 1
-    go true ih = at (same_or_not nat_keys k s.0)
-      where
-        at : (k ≡ s.0) ⊎ (is_eq (nat_cmp k s.0) ≡ false) → times nat_cmp k (s.0 ∷ turned_tlids arrangement) ≤ 1
-        at (inl e) = none (times nat_cmp k (turned_tlids arrangement)) refl
-          where
-            none : (n : ℕ) → times nat_cmp k (turned_tlids arrangement) ≡ n → times nat_cmp k (s.0 ∷ turned_tlids arrangement) ≤ 1
-            none zero f = omega (arith, times-yes nat_keys k s.0 (turned_tlids arrangement) e, f)
-            none (suc n) f = absurd (let l : Known nat_cmp (arranged_tlids arrangement) k = turned_known arrangement k (omega (arith, f)) in
-                omega (arith, l, times-yes nat_keys k s.0 (arranged_tlids arrangement) e, a k))
-        at (inr ne) = omega (arith, times-no nat_keys k s.0 (turned_tlids arrangement) ne, ih k)
-    go false ih = ih k
+turned_apart arrangement a k = omega (arith, few_turned arrangement k, a k)
+
+all_turned : (arrangement : Arrangement) → AllByRecursion (λ (t : ℕ × Bool). t.1 ≡ true) (filter (λ (t : ℕ × Bool). t.1) arrangement)
+all_turned [] = tt
+all_turned (s ∷ arrangement) = search (rules, all_turned arrangement)
 
 -- an arrangement turns exactly the chains that it turns
 pub turns_as_stated : (arrangement : Arrangement) → IsApart nat_cmp (arranged_tlids arrangement)
     → AllByRecursion (λ s. contains nat_cmp s.0 (turned_tlids arrangement) ≡ s.1) arrangement
-turns_as_stated [] a = tt
-turns_as_stated (s ∷ arrangement) a = (
-  here s.1 refl,
-  all_weaker (λ t. (contains nat_cmp t.0 (turned_tlids arrangement) ≡ t.1) × (is_eq (nat_cmp t.0 s.0) ≡ false))
-      (λ t. contains nat_cmp t.0 (turned_tlids (s ∷ arrangement)) ≡ t.1) (λ t h. later s.1 t h.0 h.1) arrangement
-      (both arrangement (turns_as_stated arrangement (apart_tail nat_keys s.0 (arranged_tlids arrangement) a)) (apart_others arrangement (λ t l. l))),
-)
+turns_as_stated arrangement a = each_from (λ s. contains nat_cmp s.0 (turned_tlids arrangement) ≡ s.1) arrangement (λ s m. go s m s.1 refl)
   where
-    none : times nat_cmp s.0 (arranged_tlids arrangement) ≤ 0
-    none = omega (arith, times-yes nat_keys s.0 s.0 (arranged_tlids arrangement) refl, a s.0)
-
-    here : (b : Bool) → s.1 ≡ b → contains nat_cmp s.0 (map (λ (t : ℕ × Bool). t.0)
-        (cond s.1 (s ∷ filter (λ t. t.1) arrangement) (filter (λ t. t.1) arrangement))) ≡ s.1
-    here true e = ap (λ b. contains nat_cmp s.0 (map (λ (t : ℕ × Bool). t.0)
-        (cond b (s ∷ filter (λ t. t.1) arrangement) (filter (λ t. t.1) arrangement)))) e
-        ∙ lt-ltb 0 (times nat_cmp s.0 (s.0 ∷ turned_tlids arrangement)) (known-here nat_keys s.0 (turned_tlids arrangement)) ∙ sym e
-    here false e = ap (λ b. contains nat_cmp s.0 (map (λ (t : ℕ × Bool). t.0)
-        (cond b (s ∷ filter (λ t. t.1) arrangement) (filter (λ t. t.1) arrangement)))) e ∙ unknown (times nat_cmp s.0 (turned_tlids arrangement)) refl ∙ sym e
-      where
-        unknown : (n : ℕ) → times nat_cmp s.0 (turned_tlids arrangement) ≡ n → contains nat_cmp s.0 (turned_tlids arrangement) ≡ false
-        unknown zero f = ap (nat_lt 0) f
-        unknown (suc n) f = absurd (let l : Known nat_cmp (arranged_tlids arrangement) s.0 = turned_known arrangement s.0 (omega (arith, f)) in
-            omega (arith, l, none))
-
-    later : (b : Bool) (t : ℕ × Bool) → contains nat_cmp t.0 (turned_tlids arrangement) ≡ t.1 → is_eq (nat_cmp t.0 s.0) ≡ false
-        → contains nat_cmp t.0 (map (λ (u : ℕ × Bool). u.0) (cond b (s ∷ filter (λ u. u.1) arrangement) (filter (λ u. u.1) arrangement))) ≡ t.1
-    later true t h ne = ap (nat_lt 0) (times-no nat_keys t.0 s.0 (turned_tlids arrangement) ne) ∙ h
-    later false t h ne = h
-
-    both : (ts : Arrangement) → AllByRecursion (λ t. contains nat_cmp t.0 (turned_tlids arrangement) ≡ t.1) ts
-        → AllByRecursion (λ t. is_eq (nat_cmp t.0 s.0) ≡ false) ts
-        → AllByRecursion (λ t. (contains nat_cmp t.0 (turned_tlids arrangement) ≡ t.1) × (is_eq (nat_cmp t.0 s.0) ≡ false)) ts
-    both [] g h = tt
-    both (t ∷ ts) g h = ((g.0, h.0), both ts g.1 h.1)
-
-    apart_others : (ts : Arrangement) → ((k : ℕ) → Known nat_cmp (arranged_tlids ts) k → Known nat_cmp (arranged_tlids arrangement) k)
-        → AllByRecursion (λ t. is_eq (nat_cmp t.0 s.0) ≡ false) ts
-    apart_others [] h = tt
-    apart_others (t ∷ ts) h = (
-      differ nat_keys t.0 s.0 (λ e. let l : Known nat_cmp (arranged_tlids arrangement) s.0 =
-          subst (Known nat_cmp (arranged_tlids arrangement)) e (h t.0 (known-here nat_keys t.0 (arranged_tlids ts))) in omega (arith, l, none)),
-      apart_others ts (λ k l. h k (known-later nat_keys k t.0 (arranged_tlids ts) l)),
-    )
+    go : (s : ℕ × Bool) → Among s arrangement → (b : Bool) → s.1 ≡ b → contains nat_cmp s.0 (turned_tlids arrangement) ≡ b
+    go s m true e = lt-ltb 0 (times nat_cmp s.0 (turned_tlids arrangement)) (among_known nat_keys s.0 (turned_tlids arrangement)
+        (among-map (λ (t : ℕ × Bool). t.0) s (filter (λ t. t.1) arrangement) (to_filter (λ (t : ℕ × Bool). t.1) s arrangement m e)))
+    go s m false e = false_from_ne_true (contains nat_cmp s.0 (turned_tlids arrangement)) (λ yes.
+        let t = among-unmap (λ (t : ℕ × Bool). t.0) s.0 (filter (λ t. t.1) arrangement)
+        (known_is_among nat_keys s.0 (turned_tlids arrangement) (ltb-true 0 (times nat_cmp s.0 (turned_tlids arrangement)) yes)) in
+        let there : Among t.0 arrangement =
+        all_among (λ u. Among u arrangement) t.0 (filter (λ t. t.1) arrangement)
+        (all_filter (λ u. Among u arrangement) (λ (u : ℕ × Bool). u.1) arrangement (all_themselves arrangement)) t.1 in
+        let same : s ≡ t.0 = one_entry nat_keys arrangement a s t.0 m there t.2 in
+        false≢true (sym e ∙ ap (λ (u : ℕ × Bool). u.1) same
+        ∙ all_among (λ u. u.1 ≡ true) t.0 (filter (λ t. t.1) arrangement) (all_turned arrangement) t.1))
 
 module _ (county : County) (arrangement : Arrangement) (is : IsCounty county) (arranges : Arranges arrangement county) where
   pub arrangement_apart : IsApart nat_cmp (arranged_tlids arrangement)
@@ -115,15 +74,8 @@ module _ (county : County) (arrangement : Arrangement) (is : IsCounty county) (a
   -- a known TLID has one chain
   pub one_chain : (n : ℕ) → Known nat_cmp (tlids county) n → (entry : ℕ × Chain) × (entries_of county.chains n ≡ entry ∷ []) × (entry.0 ≡ n)
   one_chain n k =
-      let once : times nat_cmp n (tlids county) ≤ 1 = apart_from_sorted nat_keys (tlids county) is.ascending.chains n in
-      let count : times nat_cmp n (tlids county) ≡ length (entries_of county.chains n) =
-      times-of_number (λ (entry : ℕ × Chain). entry.0) n county.chains in
-      let one : (entry : ℕ × Chain) × (entries_of county.chains n ≡ entry ∷ []) =
-      only_one (entries_of county.chains n) (omega (arith, once, count, k)) in
-      let all : AllByRecursion (λ (entry : ℕ × Chain). entry.0 ≡ n) (one.0 ∷ []) =
-      subst (AllByRecursion (λ (entry : ℕ × Chain). entry.0 ≡ n)) one.1
-      (of_number-all (λ (entry : ℕ × Chain). entry.0) n county.chains) in
-      (one.0, one.1, all.0)
+      let e = among-unmap (λ (entry : ℕ × Chain). entry.0) n county.chains (known_is_among nat_keys n (tlids county) k) in
+      (e.0, ap (entries_of county.chains) e.2 ∙ alone_under county is e.0 e.1, sym e.2)
 
   pub arrangement_known : AllByRecursion (λ (s : ℕ × Bool). Known nat_cmp (tlids county) s.0) arrangement
   arrangement_known = all_weaker (λ (s : ℕ × Bool). Known nat_cmp (arranged_tlids arrangement) s.0) (λ s. Known nat_cmp (tlids county) s.0)

@@ -1,16 +1,16 @@
 -- A canonical list of records is the packing of its county: chains, names and landmarks.
-use Rattle.canonical_form.proofs.Common.{AllByRecursion, AreFull, Chain, Coordinates, Fields1, Fields2, Fields4, Fields5, Fields6, Fields7}
-use Rattle.canonical_form.proofs.Common.{FieldsI, IsInOrder, IsLinked, IsPacked, IsStrictlySortedBy, Known, LinkedType, List, NoChain}
-use Rattle.canonical_form.proofs.Common.{Ranges, Record, AreRecordsInOrder, [], all_known, all_unmap, ap, apart_chains, ap₂, arith, chain_of}
-use Rattle.canonical_form.proofs.Common.{chain_tlids, chains_of, distinct, distinct-strict, five_feat, flat_map, four_rtsq, four_tlid}
-use Rattle.canonical_form.proofs.Common.{further_names, i_tlid, in_order, in_order-from_strict, in_order-itself, in_order-map, in_pieces}
-use Rattle.canonical_form.proofs.Common.{known-distinct, landmark_body_cmp, landmark_cmp, landmarks_of, last_point, length, length-map}
-use Rattle.canonical_form.proofs.Common.{linked_tlids, lt-ltb, ltb-true, map, map-append, map-id, map-map, map_agree_all, names_of, nat_cmp}
-use Rattle.canonical_form.proofs.Common.{nat_keys, needed, numbered_from, of_number, of_number-all, of_type_1, of_type_2, of_type_4}
-use Rattle.canonical_form.proofs.Common.{of_type_5, of_type_6, of_type_7, of_type_i, on, one_tlid, packed_five, packed_fours, packed_i}
-use Rattle.canonical_form.proofs.Common.{packed_one, packed_sevens, packed_sixes, packed_twos, refl, seven_land, shape_points, six_rtsq}
-use Rattle.canonical_form.proofs.Common.{six_tlid, contains, strict_from_order, subst, sym, the_link, then_cmp, times, two_rtsq, two_tlid}
-use Rattle.canonical_form.proofs.Common.{up_to, without_last, ℕ, ◌++◌, ◌==◌, ◌∙◌, ◌∷◌, ◌≡◌, ◌≤◌}
+use Rattle.canonical_form.proofs.Common.{AllByRecursion, AreFull, AreRecordsInOrder, Chain, Coordinates, Fields1, Fields2, Fields4, Fields5}
+use Rattle.canonical_form.proofs.Common.{Fields6, Fields7, FieldsI, IsInOrder, IsLinked, IsPacked, IsStrictlySortedBy, Known, LinkedType}
+use Rattle.canonical_form.proofs.Common.{List, NoChain, Ranges, Record, [], all_known, all_unmap, ap, apart_chains, ap₂, arith, chain_of}
+use Rattle.canonical_form.proofs.Common.{chain_tlids, chains_of, contains, distinct, distinct-strict, five_feat, flat_map, flat_map_agree}
+use Rattle.canonical_form.proofs.Common.{four_rtsq, four_tlid, further_names, i_tlid, in_order, in_order-from_strict, in_order-itself}
+use Rattle.canonical_form.proofs.Common.{in_order-map, in_pieces, known-distinct, landmark_body_cmp, landmark_cmp, landmarks_of, last_point}
+use Rattle.canonical_form.proofs.Common.{length, length-map, linked_tlids, lt-ltb, ltb-true, map, map-append, map-id, map-map}
+use Rattle.canonical_form.proofs.Common.{map_agree_all, names_of, nat_cmp, nat_keys, needed, numbered_from, of_number, of_number-all}
+use Rattle.canonical_form.proofs.Common.{of_type_1, of_type_2, of_type_4, of_type_5, of_type_6, of_type_7, of_type_i, on, one_tlid}
+use Rattle.canonical_form.proofs.Common.{packed_five, packed_fours, packed_i, packed_one, packed_sevens, packed_sixes, packed_twos, refl}
+use Rattle.canonical_form.proofs.Common.{seven_land, shape_points, six_rtsq, six_tlid, strict_from_order, subst, sym, the_link, then_cmp}
+use Rattle.canonical_form.proofs.Common.{times, two_rtsq, two_tlid, up_to, without_last, ℕ, ◌++◌, ◌==◌, ◌∙◌, ◌∷◌, ◌≡◌, ◌≤◌}
 use Rattle.canonical_form.proofs.Lists.Counting.{flat_map-map, up_to-strict}
 use Rattle.canonical_form.proofs.Lists.Grouping.{grouped, in_order-filter, in_order-weaker, parts_in_order, pieces-joined, rtsqs-back}
 use Rattle.canonical_form.proofs.Lists.Grouping.{then-first}
@@ -26,10 +26,6 @@ inner_back s (p ∷ q ∷ ps) e = ap (λ rs. p ∷ rs) (inner_back s (q ∷ ps) 
 last_back : (s : Coordinates) (ps : List Coordinates) (e : Coordinates) → last_point (s ∷ (ps ++ (e ∷ []))) ≡ e
 last_back s [] e = refl
 last_back s (p ∷ ps) e = last_back p ps e
-
-flat_map-agree : {X Y : Type 0} (f g : X → List Y) → ((x : X) → f x ≡ g x) → (xs : List X) → flat_map f xs ≡ flat_map g xs
-flat_map-agree f g h [] = refl
-flat_map-agree f g h (x ∷ xs) = ap₂ (λ ys zs. ys ++ zs) (h x) (flat_map-agree f g h xs)
 
 -- In a linked list each type 1 record has one type I record, and the chains are the type 1 records with their type I records.
 module _ (records : List Record) (linked : IsLinked records) where
@@ -126,15 +122,12 @@ module _ (records : List Record) (linked : IsLinked records) where
         in_order-itself (on rtsq nat_cmp) xs
         (in_order-from_strict rtsq xs (subst (IsStrictlySortedBy nat_cmp) (sym e) (up_to-strict (length xs))))
 
-    joined_pieces : {X Y : Type 0} (f : X → List Y) (xs : List X) → flat_map f xs ≡ flat_map (λ l. l) (map f xs)
-    joined_pieces f xs = sym (flat_map-map (λ l. l) f xs)
-
     -- the contents of full records, joined and cut into pieces again, are the contents of these records
     contents_back : {X Y : Type 0} (width : ℕ) → 1 ≤ width → (rtsq : X → ℕ) (content : X → List Y) (rs : List X)
         → map rtsq rs ≡ up_to (length rs) → AreFull width (map content rs)
         → in_pieces width (flat_map content (in_order (on rtsq nat_cmp) rs)) ≡ map content rs
     contents_back width one rtsq content rs counted full_pieces =
-        ap (in_pieces width) (ap (flat_map content) (rtsq_order rtsq rs counted) ∙ joined_pieces content rs)
+        ap (in_pieces width) (ap (flat_map content) (rtsq_order rtsq rs counted) ∙ sym (flat_map-map (λ l. l) content rs))
         ∙ pieces-joined width one (map content rs) full_pieces (length (flat_map (λ l. l) (map content rs))) (omega arith)
 
     -- numbers that count from 1, as many as there are items
@@ -230,7 +223,7 @@ module _ (records : List Record) (linked : IsLinked records) where
           in_order landmark_body_cmp
               (map (λ (r : Fields7). r.body) (of_number seven_land land (of_type_7 records))),
         )) ls
-        ∙ flat_map-agree (λ land. packed_sevens (
+        ∙ flat_map_agree (λ land. packed_sevens (
           land,
           in_order landmark_body_cmp
               (map (λ (r : Fields7). r.body) (of_number seven_land land (of_type_7 records))),

@@ -1,17 +1,18 @@
 -- The type P records of an arranged list are its county's polygons, packed; so the whole list is the packing of its county.
-use Rattle.canonical_form.proofs.Common.{AllByRecursion, IsArrangedList, AreRecordsInOrder, in_order-in_order, in_order-itself, type_after_type}
-use Rattle.canonical_form.proofs.Common.{Among, among-unmap, among_known, cons_option, keys-county, known-right, polygon_keys, strict-equal}
-use Rattle.canonical_form.proofs.Common.{BodyP, Equal, FieldsP, Greater, IsApart, IsTrue, Option, Record, by_type, key_cmp, nat_cmp, packed}
-use Rattle.canonical_form.proofs.Common.{IsArranged, PolygonTwice, from_in_order, in_filter_map, nat_cmp_total, polygon_body, to_filter_map}
-use Rattle.canonical_form.proofs.Common.{IsInOrder, IsLinked, all_among, among-map, county_of, known_all, ltb-false, times-cons, true≢false}
-use Rattle.canonical_form.proofs.Common.{IsKeyOrder, PolygonKey, apart_tail, filter_map, packed_body, polygons_of, same_or_not, to_in_order}
-use Rattle.canonical_form.proofs.Common.{IsPacked, Ordering, ap, distinct, of_type_8, of_type_i, of_type_p, side_keys, contains, times-yes}
-use Rattle.canonical_form.proofs.Common.{Known, Less, List, None, Some, arith, false, inl, is_eq, is_gt, p_key, refl, subst, times, ℕ, ◌++◌}
-use Rattle.canonical_form.proofs.Common.{[], apart-distinct, known-distinct, known_is_among, packed_by_type, polygons_along, times-in_order}
-use Rattle.canonical_form.proofs.Common.{flat_map, in_order, key_keys, link_cmp, ltb-true, nat_keys, on_total, p_polyid, packed_p, times-no}
-use Rattle.canonical_form.proofs.Common.{inr, map, on, suc, sym, ◌∙◌, ◌∷◌, ◌≡◌, ◌≤◌, ◌⊎◌}
+use Rattle.canonical_form.proofs.Common.{AllByRecursion, Among, AreRecordsInOrder, BodyP, Equal, FieldsP, Greater, IsApart, IsArranged}
+use Rattle.canonical_form.proofs.Common.{IsArrangedList, IsInOrder, IsKeyOrder, IsLinked, IsPacked, IsTrue, Known, Less, List, None, Option}
+use Rattle.canonical_form.proofs.Common.{Ordering, PolygonKey, PolygonTwice, Record, Some, [], all_among, among-map, among-unmap}
+use Rattle.canonical_form.proofs.Common.{among_known, ap, apart-distinct, apart_tail, arith, by_type, contains, county_of, distinct, false}
+use Rattle.canonical_form.proofs.Common.{filter_map, flat_map, from_in_order, in_filter_map, in_order, in_order-in_order, in_order-itself}
+use Rattle.canonical_form.proofs.Common.{inl, inr, is_gt, key_cmp, key_keys, keys-county, known-distinct, known-right, known_all}
+use Rattle.canonical_form.proofs.Common.{known_is_among, link_cmp, ltb-false, ltb-true, map, nat_cmp, nat_cmp_total, nat_keys, of_type_8}
+use Rattle.canonical_form.proofs.Common.{of_type_i, of_type_p, on, on_total, p_key, p_polyid, packed, packed_body, packed_by_type, packed_p}
+use Rattle.canonical_form.proofs.Common.{polygon_body, polygon_keys, polygons_along, polygons_of, refl, side_keys, strict-equal, subst, suc}
+use Rattle.canonical_form.proofs.Common.{sym, times, times-in_order, times-yes, to_filter_map, to_in_order, true≢false, type_after_type, ℕ}
+use Rattle.canonical_form.proofs.Common.{◌++◌, ◌∙◌, ◌∷◌, ◌≡◌, ◌≤◌}
 use Rattle.canonical_form.proofs.Arrangements.Repacked.{fives_back, fours_back, is_back, ones_back, sevens_back, sixes_back, twos_back}
-use Rattle.canonical_form.proofs.{Packing.PolygonBodies.body_found, Packing.PolygonBodies.first_body, Packing.TypeOrder.type_by_type}
+use Rattle.canonical_form.proofs.{Common.map-id, Common.map-map, Packing.PackedNamed.few_packed_keys, Packing.PolygonBodies.body_found}
+use Rattle.canonical_form.proofs.{Packing.PolygonBodies.first_body, Packing.TypeOrder.type_by_type}
 use Rattle.std.specs.List.Sorted.{IsStrictlySortedBy}
 
 -- in order by a number, if equal numbers mean equal keys and no key occurs twice
@@ -46,41 +47,12 @@ strict_from_keys {X} {K} {cmp} o f key (x ∷ xs) h a one =
 packed_key : (key : PolygonKey) (o : Option BodyP) (z : FieldsP) → packed_body key o ≡ Some z
     → (b : BodyP) × (o ≡ Some b) × (z ≡ record { cenid = key.0; polyid = key.1; body = b })
 packed_key key None z e = cc
-packed_key key (Some b) z e = (
-  b,
-  refl,
-  (let s : record { cenid = key.0; polyid = key.1; body = b } ≡ z =
-      some-same (record { cenid = key.0; polyid = key.1; body = b }) z e in sym s),
-)
-  where
-    some-same : (x y : FieldsP) → Some x ≡ Some y → x ≡ y
-    some-same x y e = cc
+packed_key key (Some b) z e = (b, refl, (let same : z ≡ record { cenid = key.0; polyid = key.1; body = b } = cc in same))
 
 few_keys : (g : PolygonKey → Option BodyP) (k : PolygonKey) (ds : List PolygonKey)
     → times key_cmp k (map p_key (filter_map packed_p (map (λ key. (key, g key)) ds))) ≤ times key_cmp k ds
-few_keys g k [] = omega arith
-few_keys g k (d ∷ ds) = go (g d) (few_keys g k ds) (same_or_not key_keys k d)
-  where
-    rest : List FieldsP
-    rest = filter_map packed_p (map (λ key. (key, g key)) ds)
-
-    go : (o : Option BodyP) → times key_cmp k (map p_key (filter_map packed_p (map (λ key. (key, g key)) ds))) ≤ times key_cmp k ds
-        → (k ≡ d) ⊎ (is_eq (key_cmp k d) ≡ false)
-        → times key_cmp k (map p_key (cons_option (packed_body d o) (filter_map packed_p (map (λ key. (key, g key)) ds)))) ≤ times key_cmp k
-        (d ∷ ds)
-    go None ih c = let t : times key_cmp k ds ≤ times key_cmp k (d ∷ ds) = times-cons key_keys k d ds in omega arith
-    go (Some b) ih (inl e) =
-        let t : times key_cmp k (d ∷ ds) ≡ suc (times key_cmp k ds) = times-yes key_keys k d ds e in
-        let u : times key_cmp k (d ∷ map p_key (filter_map packed_p (map (λ key. (key, g key)) ds))) ≡ suc
-        (times key_cmp k (map p_key (filter_map packed_p (map (λ key. (key, g key)) ds)))) =
-        times-yes key_keys k d (map p_key (filter_map packed_p (map (λ key. (key, g key)) ds))) e in
-        omega arith
-    go (Some b) ih (inr ne) =
-        let t : times key_cmp k (d ∷ ds) ≡ times key_cmp k ds = times-no key_keys k d ds ne in
-        let u : times key_cmp k (d ∷ map p_key (filter_map packed_p (map (λ key. (key, g key)) ds))) ≡ times key_cmp k
-        (map p_key (filter_map packed_p (map (λ key. (key, g key)) ds))) =
-        times-no key_keys k d (map p_key (filter_map packed_p (map (λ key. (key, g key)) ds))) ne in
-        omega arith
+few_keys g k ds = subst (λ ks. times key_cmp k (map p_key (filter_map packed_p (map (λ key. (key, g key)) ds))) ≤ times key_cmp k ks)
+    (map-map (λ (e : PolygonKey × Option BodyP). e.0) (λ key. (key, g key)) ds ∙ map-id ds) (few_packed_keys k (map (λ key. (key, g key)) ds))
 
 module _ (records : List Record) (linked : IsLinked records) (order : AreRecordsInOrder records) (in_form : IsArranged (county_of records))
   where

@@ -91,12 +91,8 @@ polyid_low cenid (Some polyid) a = (a.0.1, tt)
 p_low : (key : PolygonKey) (body : Option BodyP) (r : FieldsP) → packed_body key body ≡ Some r → IsSmallKey key → IsLowRecord (P r)
 p_low key None r e h = cc
 p_low key (Some body) r e h =
-    let same : record { cenid = key.0; polyid = key.1; body = body } ≡ r =
-    some_same (record { cenid = key.0; polyid = key.1; body = body }) r e in
+    let same : record { cenid = key.0; polyid = key.1; body = body } ≡ r = cc in
     subst (λ (q : FieldsP). IsLowRecord (P q)) same (h.1, tt)
-  where
-    some_same : (x y : FieldsP) → Some x ≡ Some y → x ≡ y
-    some_same x y e = cc
 
 -- records have small numbers if those of each entry do
 each_entry : {E X : Type 0} (Small : E → Type 0) (wrap : X → Record) (pack : E → List X)

@@ -40,7 +40,7 @@ plain_view = record {
   carried = λ r old new carries own. refl;
 }
 
--- canonical lists through a view
+-- canonical lists in a view
 module _ (view : County → County) (view_laws : IsView view) where
   view_county : (records : List Record) → IsAccepted records → IsCounty (view (county_of records))
   view_county records accepted = view_laws.is_county (county_of records) (county-is_county records accepted.linked)
@@ -73,7 +73,7 @@ module _ (view : County → County) (view_laws : IsView view) where
     profile = same_in_profile (view (county_of xs)) (county_of c) h.same (view_laws.profile (county_of xs) h.accepted.profile);
   }
 
-  -- it is its own canonical list through the view
+  -- it is its own canonical list in the view
   pub canonical_of_itself : (xs c : List Record) → IsCanonicalInView view xs c → IsCanonicalInView view c c
   canonical_of_itself xs c h = record {
     accepted = canonical_accepted xs c h;

@@ -1,12 +1,12 @@
 -- If the shapes of chains are distinct, and none is its own reverse, there is one choice: the ascending arrangement.
-use Rattle.canonical_form.proofs.Common.{AllByRecursion, AreSame, Arrangement, Bool, County, Equal, Greater, HasShapesApart, IsApart}
-use Rattle.canonical_form.proofs.Common.{IsArrangedList, IsCanonical, IsChoice, IsCounty, IsKeyOrder, IsNotAfter, IsStrict}
-use Rattle.canonical_form.proofs.Common.{IsStrictlySortedBy, IsTidy, IsTidyList, Less, List, Ordering, Record, [], all_map, all_weaker, ap}
-use Rattle.canonical_form.proofs.Common.{apart_from_no_repeat, apart_from_sorted, apart_tail, arith, arranged_list, ascending, choices}
-use Rattle.canonical_form.proofs.Common.{choices_of_shapes, cond, county-is_county, county_of, entry_points, entry_shape, false}
-use Rattle.canonical_form.proofs.Common.{has_repeat-apart, in_order-strict, in_order-unmap, is_either_way, is_eq, is_gt, map, map_agree_all}
-use Rattle.canonical_form.proofs.Common.{numbered_choice, points_cmp, points_from, points_keys, refl, reverse, running, same-reflexive}
-use Rattle.canonical_form.proofs.Common.{shapes, strict-unmap, subst, suc, sym, times, times-yes, ◌*◌, ◌<◌, ◌∙◌, ◌∷◌, ◌≡◌}
+use Rattle.canonical_form.proofs.Common.{AllByRecursion, AreSame, Arrangement, Bool, County, HasShapesApart, IsApart, IsArrangedList}
+use Rattle.canonical_form.proofs.Common.{IsCanonical, IsChoice, IsCounty, IsKeyOrder, IsNotAfter, IsStrict, IsStrictlySortedBy, IsTidy}
+use Rattle.canonical_form.proofs.Common.{IsTidyList, Less, List, Ordering, Record, [], all_map, all_weaker, ap, apart_from_no_repeat}
+use Rattle.canonical_form.proofs.Common.{apart_from_sorted, apart_tail, arith, arranged_list, ascending, choices, choices_of_shapes, cond}
+use Rattle.canonical_form.proofs.Common.{county-is_county, county_of, entry_points, entry_shape, false, has_repeat-apart, in_order-strict}
+use Rattle.canonical_form.proofs.Common.{in_order-unmap, is_either_way, is_eq, is_gt, map, map_agree_all, numbered_choice, points_cmp}
+use Rattle.canonical_form.proofs.Common.{points_from, points_keys, refl, reverse, running, same-reflexive, shapes, strict-unmap, subst, suc}
+use Rattle.canonical_form.proofs.Common.{sym, times, times-yes, ◌*◌, ◌<◌, ◌∙◌, ◌∷◌, ◌≡◌}
 use Rattle.canonical_form.proofs.{CanonicalLists.TidyLists.not_after_itself, CanonicalLists.TidyLists.tidy_is_choice}
 use Rattle.canonical_form.proofs.{Choices.LesserDirections.turned_same, Choices.TidyChoices.choice_number, Choices.TidyChoices.first_choice}
 
@@ -32,9 +32,7 @@ only_choice county is h arrangement c =
 
 -- points that come before their reverse
 less_cases : (o : Ordering) → o ≡ Less → (is_gt o ≡ false) × (is_eq o ≡ false)
-less_cases Less e = (refl, refl)
-less_cases Equal e = cc
-less_cases Greater e = cc
+less_cases o e = (ap is_gt e, ap is_eq e)
 
 -- If points come before their reverse and ascend strictly, shapes are distinct and the county is tidy.
 module _ (county : County) (h : IsStrict county) where

@@ -1,9 +1,9 @@
 -- Tidy counties that are the same map have the same shapes.
 use Rattle.canonical_form.proofs.Common.{AreSame, Bool, Chain, Coordinates, County, Equal, Greater, IsInOrder, IsTidy, Less, List, Ordering}
-use Rattle.canonical_form.proofs.Common.{Renumbering, SameElements, [], all_map, ap, carried_chain, entry_points, entry_shape, false}
-use Rattle.canonical_form.proofs.Common.{false≢true, from_permutation, is_gt, least_points, least_reverse, map, map-map, map_agree_all}
+use Rattle.canonical_form.proofs.Common.{Renumbering, SameElements, ap, carried_chain, entry_points, entry_shape, false, false≢true}
+use Rattle.canonical_form.proofs.Common.{from_permutation, in_order-map, is_gt, least_points, least_reverse, map, map-map, map_agree_all}
 use Rattle.canonical_form.proofs.Common.{map_agree_everywhere, on, ordering_reverse, points_cmp, points_from, points_keys, refl, reverse}
-use Rattle.canonical_form.proofs.Common.{same-map, subst, sym, true, turned_if, turns, ℕ, ◌∙◌, ◌∷◌, ◌≡◌}
+use Rattle.canonical_form.proofs.Common.{same-map, subst, sym, true, turned_if, turns, ℕ, ◌∙◌, ◌≡◌}
 use Rattle.ordered_lists.proofs.Common.{is_lt}
 
 -- points that don't come after their reverse are their shape
@@ -23,11 +23,7 @@ tidy_shapes county tidy = map_agree_all entry_points entry_shape
     (λ entry h. own_shape entry.1.points h) county.chains tidy.directions
 
 pub points_in_order : (entries : List (ℕ × Chain)) → IsInOrder (on entry_points points_cmp) entries → IsInOrder points_cmp (map entry_points entries)
-points_in_order [] h = tt
-points_in_order (entry ∷ entries) h = (
-  all_map (λ points. is_gt (points_cmp (entry_points entry) points) ≡ false) entry_points entries h.0,
-  points_in_order entries h.1,
-)
+points_in_order = in_order-map points_cmp entry_points
 
 shape_carried : (r : Renumbering) (entry : ℕ × Chain) → entry_shape (carried_chain r entry) ≡ entry_shape entry
 shape_carried r entry = go (turns r entry.0)

@@ -69,7 +69,7 @@ tidy_is_strict county tidy apart =
           (apart_as (map entry_points county.chains) (shapes county) own apart.apart)));
     }
 
--- ---- strict lists through a view
+-- ---- strict lists in a view
 
 module _ (view : County → County) (records : List Record) where
   -- they are canonical

@@ -20,19 +20,11 @@ permutation_of_times {K} {cmp} o xs ys h =
 
 times-more : {K : Type 0} {cmp : K → K → Ordering} (o : IsKeyOrder cmp) (k j : K) (xs ys : List K) → times cmp k xs ≡ times cmp k ys
     → times cmp k (j ∷ xs) ≡ times cmp k (j ∷ ys)
-times-more {K} {cmp} o k j xs ys e = go (same_or_not o k j)
-  where
-    go : (k ≡ j) ⊎ (is_eq (cmp k j) ≡ false) → times cmp k (j ∷ xs) ≡ times cmp k (j ∷ ys)
-    go (inl same) = times-yes o k j xs same ∙ ap suc e ∙ sym (times-yes o k j ys same)
-    go (inr ne) = times-no o k j xs ne ∙ e ∙ sym (times-no o k j ys ne)
+times-more o k j xs ys e = grind (arith, same_or_not o k j, times-yes o k j xs, times-yes o k j ys, times-no o k j xs, times-no o k j ys)
 
 times-cancel : {K : Type 0} {cmp : K → K → Ordering} (o : IsKeyOrder cmp) (k j : K) (xs ys : List K)
     → times cmp k (j ∷ xs) ≡ times cmp k (j ∷ ys) → times cmp k xs ≡ times cmp k ys
-times-cancel {K} {cmp} o k j xs ys e = go (same_or_not o k j)
-  where
-    go : (k ≡ j) ⊎ (is_eq (cmp k j) ≡ false) → times cmp k xs ≡ times cmp k ys
-    go (inl same) = omega (arith, e, times-yes o k j xs same, times-yes o k j ys same)
-    go (inr ne) = sym (times-no o k j xs ne) ∙ e ∙ times-no o k j ys ne
+times-cancel o k j xs ys e = grind (arith, same_or_not o k j, times-yes o k j xs, times-yes o k j ys, times-no o k j xs, times-no o k j ys)
 
 -- an element inserted among others
 pub all_insert : {X : Type 0} (P : X → Type 0) (x : X) (i : ℕ) (xs : List X) → P x → AllByRecursion P xs → AllByRecursion P (insert xs i x)

@@ -1,15 +1,16 @@
 -- Chains in the order of their shapes, moved at their open places, are the choice with a number.
-use Rattle.canonical_form.proofs.Common.{AgreeApart, AllByRecursion, AreInShapeOrder, AreWithin, Bool, County, DirectedChain, HasChainsOf}
-use Rattle.canonical_form.proofs.Common.{IsCounty, IsKeyOrder, List, NamesEachOnce, OpenPlace, Ordering, ArePlacesInOrder, [], alike_few, ap}
-use Rattle.canonical_form.proofs.Common.{arith, arranged_tlids, arrangement_of, chosen, cond, directed_shape, drop, drop-map, false, insert}
-use Rattle.canonical_form.proofs.Common.{is_either_way, is_settled, length, length-map, map, map-append, moved, nat_keys, numbered_choice}
-use Rattle.canonical_form.proofs.Common.{open_place_at, open_places, other_way, points_along, points_cmp, points_keys, refl, stood, subst}
-use Rattle.canonical_form.proofs.Common.{suc, sym, take, take-map, times, times-permutation, tlid_at, tlids, true, turned_by}
+use Rattle.canonical_form.proofs.Common.{AgreeApart, AllByRecursion, AreInShapeOrder, ArePlacesInOrder, AreWithin, Bool, County}
+use Rattle.canonical_form.proofs.Common.{DirectedChain, HasChainsOf, IsCounty, IsKeyOrder, List, NamesEachOnce, OpenPlace, Ordering, []}
+use Rattle.canonical_form.proofs.Common.{alike_few, ap, arith, arranged_tlids, arrangement_of, chosen, cond, directed_shape, drop, drop-map}
+use Rattle.canonical_form.proofs.Common.{insert, is_either_way, length, length-map, map, map-append, moved, nat_keys, numbered_choice}
+use Rattle.canonical_form.proofs.Common.{open_place_at, open_places, other_way, points_along, points_cmp, points_keys, refl, rules, stood}
+use Rattle.canonical_form.proofs.Common.{subst, suc, sym, take, take-map, times, times-permutation, tlid_at, tlids, turned_by}
 use Rattle.canonical_form.proofs.Common.{turned_directed, zero, ℕ, ◌%◌, ◌++◌, ◌+◌, ◌/◌, ◌<◌, ◌∙◌, ◌∷◌, ◌≡◌, ◌≤◌}
 use Rattle.canonical_form.proofs.Choices.AscendingArrangement.{arrangement_ascend, arrangement_there, shapes_of_order}
 use Rattle.canonical_form.proofs.Choices.FixedPlaces.{insert_count, moved_apart, open_in_order}
 use Rattle.canonical_form.proofs.Choices.TidyChoices.{numbered_is_choice, shapes_ascending, stated_here}
 use Rattle.canonical_form.proofs.{Choices.Choosing.all_insert, Choices.MovedChoice.moved_is}
+use Rattle.canonical_form.specs.MovedChains.{IsWithin}
 
 -- a property of elements in either direction is a property of those chosen
 chosen_all : {X K : Type 0} (cmp : K → K → Ordering) (either : K → Bool) (key : X → K) (turn : X → X) (P : X → Type 0)
@@ -66,13 +67,9 @@ open_within : {K : Type 0} {cmp : K → K → Ordering} (o : IsKeyOrder cmp) (ei
     → place + length keys ≤ count → AreWithin count (open_places cmp either place keys)
 open_within o either count place [] few = tt
 open_within {K} {cmp} o either count place (k ∷ ks) few =
-    go (is_settled (open_place_at cmp either place k ks)) (open_within o either count (suc place) ks (omega (arith, few)))
-  where
-    go : (b : Bool) → AreWithin count (open_places cmp either (suc place) ks)
-        → AreWithin count (cond b (open_places cmp either (suc place) ks)
-        (open_place_at cmp either place k ks ∷ open_places cmp either (suc place) ks))
-    go true rest = rest
-    go false rest = (record { some = omega arith; there = omega (arith, alike_few o (k ∷ ks), few) }, rest)
+    let rest = open_within o either count (suc place) ks (omega (arith, few)) in
+    let one : IsWithin count (open_place_at cmp either place k ks) = record { some = omega arith; there = omega (arith, alike_few o (k ∷ ks), few) } in
+    search rules
 
 module _ (county : County) (is : IsCounty county) (by_shape : List DirectedChain) (order : AreInShapeOrder county by_shape) (places : List OpenPlace)
     (there : places ≡ open_places points_cmp is_either_way 0 (map (points_along county) by_shape)) where

@@ -1,9 +1,9 @@
 -- Moves at open places leave the elements at all other places as they are.
-use Rattle.canonical_form.proofs.Common.{AgreeApart, AllByRecursion, AreWithin, Bool, Decides, IsPermutation-insert, List, None, OpenPlace}
-use Rattle.canonical_form.proofs.Common.{Ordering, Some, ArePlacesInOrder, [], all_weaker, ap, arith, cond, drop, false, first_stood, insert}
-use Rattle.canonical_form.proofs.Common.{is_settled, length, length_permutation, ltb-false, ltb-true, moved, nat_lt, open_place_at}
-use Rattle.canonical_form.proofs.Common.{open_places, refl, slice_get, slice_get_past, suc, sym, take, true, turned_by, zero, ℕ, ◌%◌, ◌++◌}
-use Rattle.canonical_form.proofs.Common.{◌+◌, ◌/◌, ◌<◌, ◌∙◌, ◌∷◌, ◌≡◌, ◌≤◌}
+use Rattle.canonical_form.proofs.Common.{AgreeApart, AllByRecursion, ArePlacesInOrder, AreWithin, Bool, Decides, IsPermutation-insert, List}
+use Rattle.canonical_form.proofs.Common.{None, OpenPlace, Ordering, Some, [], all_weaker, ap, arith, cond, drop, false, first_stood, insert}
+use Rattle.canonical_form.proofs.Common.{length, length_permutation, ltb-false, ltb-true, moved, nat_lt, open_places, refl, rules}
+use Rattle.canonical_form.proofs.Common.{slice_get, slice_get_past, suc, sym, take, true, turned_by, zero, ℕ, ◌%◌, ◌++◌, ◌+◌, ◌/◌, ◌<◌, ◌∙◌}
+use Rattle.canonical_form.proofs.Common.{◌∷◌, ◌≡◌, ◌≤◌}
 use Rattle.canonical_form.specs.MovedChains.{IsApart}
 
 pub nothing_left : {X : Type 0} (xs : List X) → length xs ≡ 0 → xs ≡ []
@@ -88,25 +88,6 @@ moved_apart turn (at ∷ places) xs n within place apart =
     stood_kept turn at later.1 within.0.some at.place later.0 (omega (arith, within.0.there, count)) place apart.0
     ∙ moved_apart turn places xs n within.1 place apart.1
 
--- Elements of another list copied over those among which an open place moves one.
-put_over : {X : Type 0} (a p : ℕ) (xs ys : List X) → length xs ≡ length ys → p + a ≤ length xs → (place : ℕ)
-    → ((p ≤ place → p + a ≤ place) → slice_get xs place ≡ slice_get ys place)
-    → slice_get (take p xs ++ (take a (drop p ys) ++ drop a (drop p xs))) place ≡ slice_get ys place
-put_over zero zero [] [] count within place h = refl
-put_over (suc a) zero [] [] count within place h = absurd (omega (arith, within))
-put_over a (suc p) [] [] count within place h = absurd (omega (arith, within))
-put_over a p [] (y ∷ ys) count within place h = absurd (omega (arith, count))
-put_over a p (x ∷ xs) [] count within place h = absurd (omega (arith, count))
-put_over zero zero (x ∷ xs) (y ∷ ys) count within place h = h (λ l. omega (arith, l))
-put_over (suc a) zero (x ∷ xs) (y ∷ ys) count within zero h = refl
-put_over (suc a) zero (x ∷ xs) (y ∷ ys) count within (suc place) h =
-    put_over a zero xs ys (omega (arith, count)) (omega (arith, within)) place
-    (λ past. h (λ l. (let behind = past (omega arith) in omega (arith, behind))))
-put_over a (suc p) (x ∷ xs) (y ∷ ys) count within zero h = h (λ l. absurd (omega (arith, l)))
-put_over a (suc p) (x ∷ xs) (y ∷ ys) count within (suc place) h =
-    put_over a p xs ys (omega (arith, count)) (omega (arith, within)) place
-    (λ past. h (λ l. (let behind = past (omega (arith, l)) in omega (arith, behind))))
-
 -- A place before an open place is apart from it and from all later ones.
 pub before_apart : (at : OpenPlace) (places : List OpenPlace) → ArePlacesInOrder (at ∷ places) → (place : ℕ) → place < at.place
     → AllByRecursion (IsApart place) (at ∷ places)
@@ -119,22 +100,11 @@ before_apart at places in_order place before = (
 module _ {K : Type 0} (cmp : K → K → Ordering) (either : K → Bool) where
   from_place : (low place : ℕ) (keys : List K) → low ≤ place → AllByRecursion (λ at. low ≤ at.place) (open_places cmp either place keys)
   from_place low place [] l = tt
-  from_place low place (k ∷ ks) l = go (is_settled (open_place_at cmp either place k ks)) (from_place low (suc place) ks (omega (arith, l)))
-    where
-      go : (b : Bool) → AllByRecursion (λ at. low ≤ at.place) (open_places cmp either (suc place) ks)
-          → AllByRecursion (λ at. low ≤ at.place) (cond b (open_places cmp either (suc place) ks)
-          (open_place_at cmp either place k ks ∷ open_places cmp either (suc place) ks))
-      go true rest = rest
-      go false rest = (l, rest)
+  from_place low place (k ∷ ks) l = let rest = from_place low (suc place) ks (omega (arith, l)) in search rules
 
   pub open_in_order : (place : ℕ) (keys : List K) → ArePlacesInOrder (open_places cmp either place keys)
   open_in_order place [] = tt
   open_in_order place (k ∷ ks) =
-      go (is_settled (open_place_at cmp either place k ks)) (from_place place (suc place) ks (omega arith)) (open_in_order (suc place) ks)
-    where
-      go : (b : Bool) → AllByRecursion (λ at. place ≤ at.place) (open_places cmp either (suc place) ks)
-          → ArePlacesInOrder (open_places cmp either (suc place) ks)
-          → ArePlacesInOrder (cond b (open_places cmp either (suc place) ks)
-          (open_place_at cmp either place k ks ∷ open_places cmp either (suc place) ks))
-      go true later rest = rest
-      go false later rest = (later, rest)
+      let later = from_place place (suc place) ks (omega arith) in
+      let rest = open_in_order (suc place) ks in
+      search rules

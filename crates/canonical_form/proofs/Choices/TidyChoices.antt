@@ -1,20 +1,21 @@
 -- The choices that make a county tidy are those selected by numbers.
-use Rattle.canonical_form.proofs.Common.{AllByRecursion, arranged_tlids, directed_shape, in_order-unmap, order_antisymm, turned_directed, ℕ}
-use Rattle.canonical_form.proofs.Common.{Among, Chain, IsTidy, choices, chosen, eq-eqb, map-map, nat_cmp, placed, reverse, running, shapes}
-use Rattle.canonical_form.proofs.Common.{Arrangement, IsPermutation-map, IsPermutation-trans, in_order-is_permutation, rights-numbered_from}
-use Rattle.canonical_form.proofs.Common.{Arranges, IsChoice, all_unmap, among-map, ascending, each_from, same-true, to_filter, turned_if}
-use Rattle.canonical_form.proofs.Common.{Bool, Coordinates, among_known, entry_shape, in_order-map, least_points, points_from, running-same}
-use Rattle.canonical_form.proofs.Common.{County, choices_of_shapes, from_permutation, in_order-in_order, reverse-reverse, times-permutation}
-use Rattle.canonical_form.proofs.Common.{Equal, Known, Less, List, false, inl, is_eq, is_gt, is_lt, refl, subst, tlids, true, ◌++◌, ◌==◌}
-use Rattle.canonical_form.proofs.Common.{Greater, IsCounty, Ordering, all_both, all_map, arranged, flat_map, in_order, nat_keys, on_total}
-use Rattle.canonical_form.proofs.Common.{IsInOrder, append-nil, entries_of, false≢true, points_cmp, points_keys, renaming_of, same-itself}
-use Rattle.canonical_form.proofs.Common.{IsPermutation, all_weaker, comes_turned, entry_points, from_in_order, is_either_way, map_agree_all}
-use Rattle.canonical_form.proofs.Common.{[], ap, inr, map, not, on, sym, ◌<◌, ◌∙◌, ◌∷◌, ◌≡◌, ◌⊎◌}
+use Rattle.canonical_form.proofs.Common.{AllByRecursion, Among, Arrangement, Arranges, Bool, Chain, Coordinates, County, Equal, Greater}
+use Rattle.canonical_form.proofs.Common.{IsChoice, IsCounty, IsInOrder, IsPermutation, IsPermutation-map, IsPermutation-trans, IsTidy}
+use Rattle.canonical_form.proofs.Common.{Known, Less, List, Ordering, [], all_both, all_map, all_unmap, all_weaker, among-map, among_known}
+use Rattle.canonical_form.proofs.Common.{ap, append-nil, arranged, arranged_tlids, ascending, choices, choices_of_shapes, chosen}
+use Rattle.canonical_form.proofs.Common.{comes_turned, directed_shape, each_from, entries_of, entry_points, entry_shape, false, false≢true}
+use Rattle.canonical_form.proofs.Common.{flat_map, from_in_order, from_permutation, in_order, in_order-in_order, in_order-is_permutation}
+use Rattle.canonical_form.proofs.Common.{in_order-map, in_order-unmap, inl, inr, is_either_way, is_eq, is_gt, is_lt, least_points, map}
+use Rattle.canonical_form.proofs.Common.{map-map, map_agree_all, nat_cmp, nat_keys, not, on, on_total, order_antisymm, placed, points_cmp}
+use Rattle.canonical_form.proofs.Common.{points_from, points_keys, refl, renaming_of, reverse, reverse-reverse, rights-numbered_from}
+use Rattle.canonical_form.proofs.Common.{running, running-same, same-itself, same-true, shapes, subst, sym, times-permutation, tlids, true}
+use Rattle.canonical_form.proofs.Common.{turned_directed, turned_if, ℕ, ◌++◌, ◌<◌, ◌∙◌, ◌∷◌, ◌≡◌, ◌⊎◌}
 use Rattle.canonical_form.proofs.Choices.LesserDirections.{shape_turned, turned_same}
 use Rattle.canonical_form.proofs.Choices.Choosing.{IsChosen, choice_has_number, chosen_is_choice, first_stated, permutation_of_times}
 use Rattle.canonical_form.proofs.Arrangements.Placed.{arrangement_known, one_chain}
 use Rattle.canonical_form.proofs.{Arrangements.Carrying.chains_arranged, Unique.SameNumbers.kept_entry}
 use Rattle.canonical_form.specs.Tidy.{numbered_choice}
+use Rattle.canonical_form.proofs.Views.DirectedChains.{alone_under}
 
 -- points that don't come after their reverse, in the direction given, are the shape
 least_if : (turned : Bool) (ps : List Coordinates)
@@ -80,17 +81,6 @@ module _ (county : County) (is : IsCounty county) where
   under : (n : ℕ) → Known nat_cmp (tlids county) n → (e : ℕ × Chain) × (entries_of county.chains n ≡ e ∷ []) × (e.0 ≡ n)
   under = one_chain county (ascending county) is shapes_arrange
 
-  under_own : (e : ℕ × Chain) → Among e county.chains → entries_of county.chains e.0 ≡ e ∷ []
-  under_own e m =
-      let one = under e.0 (among_known nat_keys e.0 (tlids county) (among-map (λ (d : ℕ × Chain). d.0) e county.chains m)) in
-      let there : Among e (entries_of county.chains e.0) =
-      to_filter (λ (d : ℕ × Chain). d.0 == e.0) e county.chains m (eq-eqb e.0 e.0 refl) in
-      one.1 ∙ ap (λ d. d ∷ []) (sym (only (subst (Among e) one.1 there)))
-    where
-      only : {y : ℕ × Chain} → Among e (y ∷ []) → e ≡ y
-      only (inl f) = f
-      only (inr m) = absurd m
-
   points_under : (n : ℕ) (b : Bool) (e : ℕ × Chain) → entries_of county.chains n ≡ e ∷ []
       → directed_points county (n, b) ≡ points_from b e.1.points
   points_under n b e one = ap (flat_map (λ (d : ℕ × Chain). points_from b d.1.points)) one ∙ append-nil (points_from b e.1.points)
@@ -138,8 +128,8 @@ module _ (county : County) (is : IsCounty county) where
   least_lawful : (e : ℕ × Chain) → Among e county.chains → IsLawful county (least_directed e)
   least_lawful e m = (
     among_known nat_keys e.0 (tlids county) (among-map (λ (d : ℕ × Chain). d.0) e county.chains m),
-    points_under e.0 (comes_turned e.1) e (under_own e m) ∙ sym (turned_points (comes_turned e.1) e.1) ∙ shape_turned e
-        ∙ sym (shape_under e.0 e (under_own e m)),
+    points_under e.0 (comes_turned e.1) e (alone_under county is e m) ∙ sym (turned_points (comes_turned e.1) e.1) ∙ shape_turned e
+        ∙ sym (shape_under e.0 e (alone_under county is e m)),
   )
 
   all_lawful : AllByRecursion (IsLawful county) (ascending county)
@@ -149,7 +139,7 @@ module _ (county : County) (is : IsCounty county) where
   pub shapes_ascending : map (directed_shape county) (ascending county) ≡ map entry_shape ordered
   shapes_ascending = map-map (directed_shape county) least_directed ordered
       ∙ map_agree_all (λ e. directed_shape county (least_directed e)) entry_shape (λ e. Among e county.chains)
-      (λ e m. shape_under e.0 e (under_own e m)) ordered among_ordered
+      (λ e m. shape_under e.0 e (alone_under county is e m)) ordered among_ordered
 
   in_ascending : IsInOrder (on (directed_shape county) points_cmp) (ascending county)
   in_ascending = in_order-unmap points_cmp (directed_shape county) (ascending county)

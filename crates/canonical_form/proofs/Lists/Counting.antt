@@ -1,8 +1,10 @@
 -- Lists that count from a number: they ascend, and lists with the same length are equal.
-use Rattle.canonical_form.proofs.Common.{AllByRecursion, IsStrictlySortedBy, get_or-range_with_len, length-range_with_len, range_with_len}
-use Rattle.canonical_form.proofs.Common.{AllWithin, Decides, MatchBool, Ordering, false≢true, flat_map, ltb-false, range_strict, true≢false}
-use Rattle.canonical_form.proofs.Common.{Bool, Less, List, [], ap, refl, sym, true, up_to, ℕ, ◌++◌, ◌+◌, ◌-◌, ◌<◌, ◌∙◌, ◌∷◌, ◌≡◌, ◌≤◌}
-use Rattle.canonical_form.proofs.Common.{Equal, Greater, HoldsAt, arith, false, is_eq, is_gt, length, ltb-true, map, nat_cmp, nat_lt, subst}
+use Rattle.canonical_form.proofs.Common.{AllByRecursion, AllWithin, Bool, Decides, Equal, Greater, HoldsAt, IsStrictlySortedBy, Less, List}
+use Rattle.canonical_form.proofs.Common.{MatchBool, Ordering, [], arith, false, false≢true, get_or-range_with_len, is_eq, is_gt, length}
+use Rattle.canonical_form.proofs.Common.{length-range_with_len, ltb-false, ltb-true, map, nat_cmp, nat_lt, range_strict, range_with_len}
+use Rattle.canonical_form.proofs.Common.{refl, subst, sym, true, true≢false, up_to, ℕ, ◌+◌, ◌-◌, ◌<◌, ◌∙◌, ◌∷◌, ◌≡◌, ◌≤◌}
+use Rattle.ordered_lists.proofs.Lists.EntryLists.{entries-equal}
+pub use Rattle.ordered_lists.proofs.Lists.Elements.{flat_map-map}
 
 -- a comparison that finds neither greater nor equal
 pub less_from : (o : Ordering) → is_gt o ≡ false → is_eq o ≡ false → o ≡ Less
@@ -16,24 +18,11 @@ up_to-strict n = range_strict 1 n
 -- entries with equal left parts and equal right parts are equal
 pub entries_equal : {A B : Type 0} (xs ys : List (A × B)) → map (λ e. e.0) xs ≡ map (λ e. e.0) ys → map (λ e. e.1) xs ≡ map (λ e. e.1) ys
     → xs ≡ ys
-entries_equal [] [] p q = refl
-entries_equal [] (y ∷ ys) p q = cc
-entries_equal (x ∷ xs) [] p q = cc
-entries_equal {A} {B} (x ∷ xs) (y ∷ ys) p q =
-    let left : x.0 ≡ y.0 = cc in
-    let right : x.1 ≡ y.1 = cc in
-    let lefts : map (λ (e : A × B). e.0) xs ≡ map (λ (e : A × B). e.0) ys = cc in
-    let rights : map (λ (e : A × B). e.1) xs ≡ map (λ (e : A × B). e.1) ys = cc in
-    λ i. (left i, right i) ∷ entries_equal xs ys lefts rights i
+entries_equal = entries-equal
 
 pub map-equal_all : {X Y : Type 0} (f g : X → Y) (xs : List X) → map f xs ≡ map g xs → AllByRecursion (λ x. f x ≡ g x) xs
 map-equal_all f g [] e = tt
 map-equal_all f g (x ∷ xs) e = ((let t : f x ≡ g x = cc in t), map-equal_all f g xs (cc))
-
--- lists joined after a map
-pub flat_map-map : {X Y Z : Type 0} (f : Y → List Z) (g : X → Y) (xs : List X) → flat_map f (map g xs) ≡ flat_map (λ x. f (g x)) xs
-flat_map-map f g [] = refl
-flat_map-map f g (x ∷ xs) = ap (λ zs. f (g x) ++ zs) (flat_map-map f g xs)
 
 -- what a search of the places from one on for one without a property says of all places below the end
 pub places_from_decide : (P : ℕ → Type 0) (first end : ℕ) → ((i : ℕ) → i < first → P i) → (r : Bool) → MatchBool r

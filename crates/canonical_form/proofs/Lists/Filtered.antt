@@ -1,27 +1,16 @@
 -- The elements of a list that pass a test.
-use Rattle.canonical_form.proofs.Common.{AllByRecursion, Bool, List, [], ap, cases_eq, cond, eq-eqb, false, filter, inl, inr, map, ne_eqb}
-use Rattle.canonical_form.proofs.Common.{refl, sym, true, ℕ, ◌&&◌, ◌==◌, ◌∙◌, ◌∷◌, ◌≡◌, ◌⊎◌}
+use Rattle.canonical_form.proofs.Common.{AllByRecursion, Bool, List, [], ap, arith, cases_eq, common_steps, cond, eq-eqb, filter, inl, inr}
+use Rattle.canonical_form.proofs.Common.{map, ne_eqb, refl, sym, ℕ, ◌&&◌, ◌==◌, ◌∙◌, ◌∷◌, ◌≡◌, ◌⊎◌}
 
 -- of a mapped list
 pub filter-mapped : {X Y : Type 0} (p : Y → Bool) (f : X → Y) (xs : List X) → filter p (map f xs) ≡ map f (filter (λ x. p (f x)) xs)
 filter-mapped p f [] = refl
-filter-mapped p f (x ∷ xs) = go (p (f x)) (filter-mapped p f xs)
-  where
-    go : (b : Bool) → filter p (map f xs) ≡ map f (filter (λ y. p (f y)) xs)
-        → cond b (f x ∷ filter p (map f xs)) (filter p (map f xs)) ≡ map f (cond b (x ∷ filter (λ y. p (f y)) xs) (filter (λ y. p (f y)) xs))
-    go true h = ap (λ l. f x ∷ l) h
-    go false h = h
+filter-mapped p f (x ∷ xs) = grind (arith, common_steps, filter-mapped p f xs)
 
 -- of those that pass another one
 pub filter-filtered : {X : Type 0} (p q : X → Bool) (xs : List X) → filter q (filter p xs) ≡ filter (λ x. p x && q x) xs
 filter-filtered p q [] = refl
-filter-filtered p q (x ∷ xs) = go (p x) (q x) refl (filter-filtered p q xs)
-  where
-    go : (b c : Bool) → q x ≡ c → filter q (filter p xs) ≡ filter (λ y. p y && q y) xs
-        → filter q (cond b (x ∷ filter p xs) (filter p xs)) ≡ cond (b && c) (x ∷ filter (λ y. p y && q y) xs) (filter (λ y. p y && q y) xs)
-    go true true e h = ap (λ b. cond b (x ∷ filter q (filter p xs)) (filter q (filter p xs))) e ∙ ap (λ l. x ∷ l) h
-    go true false e h = ap (λ b. cond b (x ∷ filter q (filter p xs)) (filter q (filter p xs))) e ∙ h
-    go false c e h = h
+filter-filtered p q (x ∷ xs) = grind (arith, common_steps, filter-filtered p q xs)
 
 -- tests that agree on each element
 pub filter-agree_all : {X : Type 0} (p q : X → Bool) (xs : List X) → AllByRecursion (λ x. p x ≡ q x) xs → filter p xs ≡ filter q xs

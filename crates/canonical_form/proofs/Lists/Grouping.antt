@@ -1,11 +1,12 @@
 -- A list that ascends by a number is its elements number by number; and a list in pieces is joined again.
-use Rattle.canonical_form.proofs.Common.{AllByRecursion, MatchOrdering, drop-append_seam, length-append, range_with_len, take-append_seam}
-use Rattle.canonical_form.proofs.Common.{AreFull, Bool, Greater, add-one, eq-eqb, filter, length, nat_cmp, ne_eqb, pieces, ranked, take_all}
-use Rattle.canonical_form.proofs.Common.{Equal, Known, Less, List, arith, cond, drop, false, is_eq, is_gt, refl, subst, take, true, zero}
-use Rattle.canonical_form.proofs.Common.{IsInOrder, Ordering, append-nil, drop_all, false≢true, flat_map, known_all, nat_keys, of_number, ℕ}
-use Rattle.canonical_form.proofs.Common.{[], ap, inl, inr, map, on, suc, sym, ◌++◌, ◌+◌, ◌<◌, ◌∙◌, ◌∷◌, ◌≡◌, ◌≤◌, ◌⊎◌}
-use Rattle.canonical_form.proofs.Common.{all_filter, all_weaker, ap₂, known_cases, nat_cmp_total, numbered_from, ordering_then, tied_itself}
+use Rattle.canonical_form.proofs.Common.{AllByRecursion, AreFull, Equal, Greater, IsInOrder, Known, Less, List, MatchOrdering, Ordering, []}
+use Rattle.canonical_form.proofs.Common.{add-one, all_weaker, ap, append-nil, ap₂, arith, cond, drop, drop-append_seam, drop_all, eq-eqb}
+use Rattle.canonical_form.proofs.Common.{false, false≢true, flat_map, inl, inr, is_eq, is_gt, known_all, known_cases, length, length-append}
+use Rattle.canonical_form.proofs.Common.{map, nat_cmp, nat_cmp_total, nat_keys, ne_eqb, numbered_from, of_number, on, ordering_then, pieces}
+use Rattle.canonical_form.proofs.Common.{range_with_len, ranked, refl, subst, suc, sym, take, take-append_seam, take_all, tied_itself, zero}
+use Rattle.canonical_form.proofs.Common.{ℕ, ◌++◌, ◌+◌, ◌<◌, ◌∙◌, ◌∷◌, ◌≡◌, ◌≤◌, ◌⊎◌}
 use Rattle.std.specs.List.Sorted.{IsStrictlySortedBy}
+pub use Rattle.ordered_lists.proofs.ByKey.KeyedLists.{in_order-filter}
 
 below : (m n : ℕ) → nat_cmp m n ≡ Less → m < n
 below m n e = ranked m n Less (sym e)
@@ -49,14 +50,6 @@ parts_in_order {X} number part cmp n (x ∷ xs) a h = (each xs a.1 h.0, parts_in
           ∙ tied_itself nat_cmp_total (number x)) g.0,
       each ys l.1 g.1,
     )
-
-pub in_order-filter : {X : Type 0} (by : X → X → Ordering) (p : X → Bool) (xs : List X) → IsInOrder by xs → IsInOrder by (filter p xs)
-in_order-filter by p [] h = tt
-in_order-filter by p (x ∷ xs) h = go (p x) (in_order-filter by p xs h.1)
-  where
-    go : (b : Bool) → IsInOrder by (filter p xs) → IsInOrder by (cond b (x ∷ filter p xs) (filter p xs))
-    go true ih = (all_filter (λ y. is_gt (by x y) ≡ false) p xs h.0, ih)
-    go false ih = ih
 
 module _ {X : Type 0} (key : X → ℕ) where
   no_number : (k : ℕ) (xs : List X) → AllByRecursion (λ x. k < key x) xs → of_number key k xs ≡ []

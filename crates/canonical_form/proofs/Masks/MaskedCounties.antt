@@ -1,11 +1,12 @@
 -- Counties under a mask: a mask that leaves nothing out changes nothing, masking twice is masking once, and a county that a mask
 -- doesn't change is carried onto one that it doesn't change.
-use Rattle.canonical_form.proofs.Common.{AllByRecursion, all_everywhere, carried_chain, carried_landmark, in_order-itself, masked_bodies, ℕ}
-use Rattle.canonical_form.proofs.Common.{Body7, Carries, all_among, all_map, each_from, in_order, masked, no_mask, renumbered, turned_if}
-use Rattle.canonical_form.proofs.Common.{Bool, Chain, List, Mask, ap, cond, false, map, refl, rules, true, ◌∙◌, ◌∷◌, ◌≡◌}
-use Rattle.canonical_form.proofs.Common.{County, Renumbering, all-in_order, all_weaker, map_itself, map_values, masked_body_7, masked_chain}
-use Rattle.canonical_form.proofs.Common.{IsPermutation-sym, [], among-permutation, in_order-in_order, landmark_body_cmp, landmark_body_keys}
+use Rattle.canonical_form.proofs.Common.{AllByRecursion, Body7, Bool, Carries, Chain, County, List, Mask, Renumbering, [], all-in_order}
+use Rattle.canonical_form.proofs.Common.{all_everywhere, all_map, ap, carried_chain, carried_landmark, cond, false, in_order}
+use Rattle.canonical_form.proofs.Common.{in_order-in_order, in_order-itself, landmark_body_cmp, landmark_body_keys, map, map-id}
+use Rattle.canonical_form.proofs.Common.{map_agree_all, map_itself, map_values, masked, masked_bodies, masked_body_7, masked_chain, no_mask}
+use Rattle.canonical_form.proofs.Common.{refl, renumbered, rules, sym, true, turned_if, ℕ, ◌∙◌, ◌∙◌, ◌∷◌, ◌≡◌}
 use Rattle.tl_layout.specs.Laws.MaskLaws.{masked_twice_1, masked_twice_7, masked_twice_i}
+use Rattle.canonical_form.proofs.{Lists.Counting.map-equal_all, Sameness.CarriedCounty.all_carried}
 
 -- a mask that leaves nothing out changes nothing
 pub masked_by_none : (county : County) → masked no_mask county ≡ county
@@ -16,15 +17,10 @@ no_mask_is_plain = λ i county. masked_by_none county i
 
 -- elements that a map doesn't change
 fixed_map : {X : Type 0} (f : X → X) (xs : List X) → AllByRecursion (λ x. f x ≡ x) xs → map f xs ≡ xs
-fixed_map f [] a = refl
-fixed_map f (x ∷ xs) a = λ i. a.0 i ∷ fixed_map f xs a.1 i
+fixed_map f xs a = map_agree_all f (λ x. x) (λ x. f x ≡ x) (λ x e. e) xs a ∙ map-id xs
 
 map_fixed : {X : Type 0} (f : X → X) (xs : List X) → map f xs ≡ xs → AllByRecursion (λ x. f x ≡ x) xs
-map_fixed f [] e = tt
-map_fixed f (x ∷ xs) e =
-    let first : f x ≡ x = cc in
-    let rest : map f xs ≡ xs = cc in
-    (first, map_fixed f xs rest)
+map_fixed f xs e = map-equal_all f (λ x. x) xs (e ∙ sym (map-id xs))
 
 module _ (mask : Mask) where
   chain_twice : (c : Chain) → masked_chain mask (masked_chain mask c) ≡ masked_chain mask c
@@ -77,26 +73,16 @@ module _ (mask : Mask) where
     mask_landmark entry = (entry.0, masked_bodies mask entry.1)
 
     own_chains : AllByRecursion (λ entry. mask_chain entry ≡ entry) b.chains
-    own_chains = each_from (λ entry. mask_chain entry ≡ entry) b.chains (λ entry m.
-        all_among (λ e. mask_chain e ≡ e) entry (map (carried_chain r) a.chains)
-        (all_map (λ e. mask_chain e ≡ e) (carried_chain r) a.chains
-        (all_weaker (λ e. mask_chain e ≡ e) (λ e. mask_chain (carried_chain r e) ≡ carried_chain r e) carried a.chains
-        (map_fixed mask_chain a.chains (ap (λ c. c.chains) own))))
-        (among-permutation entry b.chains (map (carried_chain r) a.chains)
-        (IsPermutation-sym (map (carried_chain r) a.chains) b.chains h.chains) m))
+    own_chains = all_carried (λ e. mask_chain e ≡ e) (λ e. mask_chain e ≡ e) (carried_chain r) carried a.chains b.chains h.chains
+        (map_fixed mask_chain a.chains (ap (λ c. c.chains) own))
       where
         carried : (e : ℕ × Chain) → mask_chain e ≡ e → mask_chain (carried_chain r e) ≡ carried_chain r e
         carried e same = search (rules, chain_carried)
 
     own_landmarks : AllByRecursion (λ entry. mask_landmark entry ≡ entry) b.landmarks
-    own_landmarks = each_from (λ entry. mask_landmark entry ≡ entry) b.landmarks (λ entry m.
-        all_among (λ e. mask_landmark e ≡ e) entry (map (carried_landmark r) a.landmarks)
-        (all_map (λ e. mask_landmark e ≡ e) (carried_landmark r) a.landmarks
-        (all_weaker (λ e. mask_landmark e ≡ e) (λ e. mask_landmark (carried_landmark r e) ≡ carried_landmark r e)
-        (λ e same. ap (λ (d : ℕ × List Body7). ((carried_landmark r e).0, d.1)) same) a.landmarks
-        (map_fixed mask_landmark a.landmarks (ap (λ c. c.landmarks) own))))
-        (among-permutation entry b.landmarks (map (carried_landmark r) a.landmarks)
-        (IsPermutation-sym (map (carried_landmark r) a.landmarks) b.landmarks h.landmarks) m))
+    own_landmarks = all_carried (λ e. mask_landmark e ≡ e) (λ e. mask_landmark e ≡ e) (carried_landmark r)
+        (λ e same. ap (λ (d : ℕ × List Body7). ((carried_landmark r e).0, d.1)) same) a.landmarks b.landmarks h.landmarks
+        (map_fixed mask_landmark a.landmarks (ap (λ c. c.landmarks) own))
 
     pub carried_masked : masked mask b ≡ b
     carried_masked = λ i. record {

@@ -1,8 +1,8 @@
 -- Uses of names: each occurs once in the list of all uses, and a name's uses are those under its FEAT.
-use Rattle.canonical_form.proofs.Common.{AllByRecursion, Among, Bool, Chain, IsKeyOrder, Less, List, Use, [], all_uses, ap, arith, cond}
-use Rattle.canonical_form.proofs.Common.{eq-eqb, eqb-true, false, filter, inl, inr, less, map, nat_cmp, nat_cmp_total, nat_keys}
-use Rattle.canonical_form.proofs.Common.{ordering_then, pair_keys, refl, subst, suc, sym, tied_itself, true, use_cmp, uses_from}
-use Rattle.canonical_form.proofs.Common.{uses_of_name, ℕ, ◌++◌, ◌<◌, ◌==◌, ◌∙◌, ◌∷◌, ◌≡◌}
+use Rattle.canonical_form.proofs.Common.{AllByRecursion, Among, Chain, IsKeyOrder, Less, List, Use, [], all_among, all_uses, among-map}
+use Rattle.canonical_form.proofs.Common.{among-unmap, ap, arith, eq-eqb, filter, less, map, nat_cmp, nat_cmp_total, nat_keys, of_number-all}
+use Rattle.canonical_form.proofs.Common.{of_number-among, ordering_then, pair_keys, refl, subst, suc, sym, tied_itself, to_filter, use_cmp}
+use Rattle.canonical_form.proofs.Common.{uses_from, uses_of_name, ℕ, ◌++◌, ◌<◌, ◌==◌, ◌∙◌, ◌∷◌, ◌≡◌}
 use Rattle.std.specs.List.Sorted.{IsStrictlySortedBy}
 
 pub use_keys : IsKeyOrder use_cmp
@@ -52,25 +52,11 @@ all_uses-strict (c ∷ cs) h = chain_strict c.0 1 c.1.feats (all_uses cs) (after
 
 -- the uses with a FEAT
 pub use_under : (us : List (Use × ℕ)) (u : Use) (f : ℕ) → Among (u, f) us → Among u (uses_of_name us f)
-use_under [] u f m = absurd m
-use_under (v ∷ us) u f (inl e) =
-    let same : (v.1 == f) ≡ true = eq-eqb v.1 f (ap (λ (w : Use × ℕ). w.1) (sym e)) in
-    subst (λ ys. Among u (map (λ (w : Use × ℕ). w.0) ys))
-    (ap (λ b. cond b (v ∷ filter (λ w. w.1 == f) us) (filter (λ w. w.1 == f) us)) (sym same)) (inl (ap (λ (w : Use × ℕ). w.0) e))
-use_under (v ∷ us) u f (inr m) = go (v.1 == f) (use_under us u f m)
-  where
-    go : (b : Bool) → Among u (uses_of_name us f) → Among u (map (λ (w : Use × ℕ). w.0)
-        (cond b (v ∷ filter (λ w. w.1 == f) us) (filter (λ w. w.1 == f) us)))
-    go true n = inr n
-    go false n = n
+use_under us u f m = among-map (λ (w : Use × ℕ). w.0) (u, f) (filter (λ w. w.1 == f) us) (to_filter (λ w. w.1 == f) (u, f) us m (eq-eqb f f refl))
 
 pub under_use : (us : List (Use × ℕ)) (u : Use) (f : ℕ) → Among u (uses_of_name us f) → Among (u, f) us
-under_use [] u f m = absurd m
-under_use (v ∷ us) u f m = go (v.1 == f) refl m (under_use us u f)
-  where
-    go : (b : Bool) → (v.1 == f) ≡ b → Among u (map (λ (w : Use × ℕ). w.0)
-        (cond b (v ∷ filter (λ w. w.1 == f) us) (filter (λ w. w.1 == f) us))) → (Among u (uses_of_name us f) → Among (u, f) us)
-        → Among (u, f) (v ∷ us)
-    go true e (inl s) ih = inl (λ i. (s i, sym (eqb-true v.1 f e) i))
-    go true e (inr n) ih = inr (ih n)
-    go false e n ih = inr (ih n)
+under_use us u f m =
+    let w = among-unmap (λ (v : Use × ℕ). v.0) u (filter (λ v. v.1 == f) us) m in
+    let named : w.0.1 ≡ f = all_among (λ v. v.1 ≡ f) w.0 (filter (λ v. v.1 == f) us) (of_number-all (λ (v : Use × ℕ). v.1) f us) w.1 in
+    subst (λ v. Among v us) (λ i. (sym w.2 i, named i))
+    (all_among (λ v. Among v us) w.0 (filter (λ v. v.1 == f) us) (of_number-among (λ (v : Use × ℕ). v.1) f us) w.1)

@@ -1,21 +1,23 @@
 -- The county of the packing of a county is that county.
-use Rattle.canonical_form.proofs.Common.{AllByRecursion, all_themselves, among-unpieces, further_ranges, in_order-itself, known-distinct, ℕ}
-use Rattle.canonical_form.proofs.Common.{Among, IsStrictlySortedBy, apart_from_sorted, distinct-strict, landmark_body_cmp, take-append-drop}
-use Rattle.canonical_form.proofs.Common.{Body7, BodyP, Chain, Known, None, Some, arith, lands, p_key, packed, pieces, rules, subst, times}
-use Rattle.canonical_form.proofs.Common.{Coordinates, in_order-from_strict, known_from_distinct, map_agree_everywhere, rights-numbered_from}
-use Rattle.canonical_form.proofs.Common.{County, from_in_order, further_names, in_filter_map, known_is_among, map_agree_all, polygons_along}
-use Rattle.canonical_form.proofs.Common.{Fields1, Fields2, Fields4, Fields5, [], packed_i, packed_p, six_rtsq, six_tlid, two_rtsq, two_tlid}
-use Rattle.canonical_form.proofs.Common.{Fields6, Fields7, FieldsP, List, Option, Ranges, i_tlid, key_cmp, length, map-id, map-map, nat_cmp}
-use Rattle.canonical_form.proofs.Common.{IsCounty, chain_of, distinct, flat_map, in_order, key_keys, ltb-true, names_of, nat_keys, one_tlid}
-use Rattle.canonical_form.proofs.Common.{IsInOrder, all_among, among-map, chains_of, county_of, each_from, five_feat, four_rtsq, four_tlid}
-use Rattle.canonical_form.proofs.Common.{IsTrue, among_known, first_point, length-drop, packed_body, packed_five, packed_twos, without_last}
-use Rattle.canonical_form.proofs.Common.{PolygonKey, all_joined, filter_map, last_point, packed_one, polygons_of, seven_land, to_in_order}
-use Rattle.canonical_form.proofs.Common.{among-unmap, common_steps, inner_points, known-append, numbered_from, packed_sevens, to_filter_map}
-use Rattle.canonical_form.proofs.Common.{ap, drop, inl, inr, map, on, refl, suc, sym, take, zero, ◌++◌, ◌∙◌, ◌∷◌, ◌≡◌, ◌≤◌, ◌⊎◌}
-use Rattle.canonical_form.proofs.Common.{in_pieces, known_all, of_number, of_type_7, of_type_i, of_type_p, one_entry, side_keys, contains}
-use Rattle.canonical_form.proofs.Common.{landmarks_of, packed_fours, packed_sixes, polygon_body, polygon_keys, shape_points, strict-equal}
-use Rattle.canonical_form.proofs.Packing.PackedNumbers.{eights, fives, four_own, fours, links_of_chains, numbered_strict, ones}
-use Rattle.canonical_form.proofs.Packing.PackedNumbers.{polygons_packed, seven_own, sevens, six_own, sixes, tlids_apart, two_own, twos}
+use Rattle.canonical_form.proofs.Common.{AllByRecursion, Among, Body7, BodyP, Chain, Coordinates, County, Fields1, Fields2, Fields4}
+use Rattle.canonical_form.proofs.Common.{Fields5, Fields6, Fields7, FieldsP, IsCounty, IsInOrder, IsStrictlySortedBy, IsTrue, Known, List}
+use Rattle.canonical_form.proofs.Common.{None, Option, PolygonKey, Ranges, Some, [], all_among, all_joined, all_themselves, among-map}
+use Rattle.canonical_form.proofs.Common.{among-unmap, among-unpieces, among_known, ap, apart_from_sorted, arith, chain_of, chains_of}
+use Rattle.canonical_form.proofs.Common.{common_steps, contains, county_of, distinct, distinct-strict, drop, each_from, filter_map}
+use Rattle.canonical_form.proofs.Common.{first_point, five_feat, flat_map, flat_map-map, four_rtsq, four_tlid, from_in_order, further_names}
+use Rattle.canonical_form.proofs.Common.{further_ranges, i_tlid, in_filter_map, in_order, in_order-from_strict, in_order-itself, in_pieces}
+use Rattle.canonical_form.proofs.Common.{inl, inner_points, inr, key_cmp, key_keys, known-append, known-distinct, known_all}
+use Rattle.canonical_form.proofs.Common.{known_from_distinct, known_is_among, landmark_body_cmp, landmarks_of, lands, last_point, length}
+use Rattle.canonical_form.proofs.Common.{length-drop, ltb-true, map, map-id, map-map, map_agree_all, names_of, nat_cmp, nat_keys}
+use Rattle.canonical_form.proofs.Common.{numbered_from, of_number, of_type_7, of_type_i, of_type_p, on, one_entry, one_tlid, p_key, packed}
+use Rattle.canonical_form.proofs.Common.{packed_body, packed_five, packed_fours, packed_i, packed_one, packed_p, packed_sevens}
+use Rattle.canonical_form.proofs.Common.{packed_sixes, packed_twos, pieces, polygon_body, polygon_keys, polygons_along, polygons_of, refl}
+use Rattle.canonical_form.proofs.Common.{rules, seven_land, shape_points, side_keys, six_rtsq, six_tlid, strict-equal, subst, suc, sym}
+use Rattle.canonical_form.proofs.Common.{take, take-append-drop, times, to_filter_map, to_in_order, two_rtsq, two_tlid, without_last, zero}
+use Rattle.canonical_form.proofs.Common.{ℕ, ◌++◌, ◌∙◌, ◌∷◌, ◌≡◌, ◌≤◌, ◌⊎◌}
+use Rattle.canonical_form.proofs.Packing.PackedNumbers.{contents_made, eights, fives, four_own, fours, links_of_chains, ones}
+use Rattle.canonical_form.proofs.Packing.PackedNumbers.{polygons_packed, rtsqs_ordered, seven_own, sevens, six_own, sixes, tlids_apart}
+use Rattle.canonical_form.proofs.Packing.PackedNumbers.{two_own, twos}
 use Rattle.canonical_form.proofs.Packing.PackedNamed.{few_polygons, key_contained, land_contained, sides_along}
 use Rattle.canonical_form.proofs.{Packing.PackedGroups.group_of, Packing.PolygonBodies.body_found, Packing.PolygonBodies.first_body}
 use Rattle.std.proofs.lemmas.List.Concat.{flat_map_single}
@@ -41,29 +43,14 @@ pieces_together n (suc most) (x ∷ xs) one h =
     ap (λ rest. take n (x ∷ xs) ++ rest) (pieces_together n most (drop n (x ∷ xs)) one (let t = length-drop n (x ∷ xs) in omega arith))
     ∙ take-append-drop n (x ∷ xs)
 
-flat_map-map : {X Y Z : Type 0} (f : Y → List Z) (g : X → Y) (xs : List X) → flat_map f (map g xs) ≡ flat_map (λ x. f (g x)) xs
-flat_map-map f g [] = refl
-flat_map-map f g (x ∷ xs) = ap (λ zs. f (g x) ++ zs) (flat_map-map f g xs)
-
 -- records with the RTSQs 1, 2, 3, .. are in order, and hold the items put into them
 module _ {X Y : Type 0} (rtsq : X → ℕ) (make : ℕ × Y → X) (stated : (piece : ℕ × Y) → rtsq (make piece) ≡ piece.0) where
   pub in_sequence : (ys : List Y) → in_order (on rtsq nat_cmp) (map make (numbered_from 1 ys)) ≡ map make (numbered_from 1 ys)
-  in_sequence ys = in_order-itself (on rtsq nat_cmp) (map make (numbered_from 1 ys))
-      (in_order-from_strict rtsq (map make (numbered_from 1 ys))
-      (subst (IsStrictlySortedBy nat_cmp) (sym (map-map rtsq make (numbered_from 1 ys)
-      ∙ map_agree_everywhere (λ piece. rtsq (make piece)) (λ (piece : ℕ × Y). piece.0) stated (numbered_from 1 ys)))
-      (numbered_strict 1 ys)))
+  in_sequence ys = in_order-itself (on rtsq nat_cmp) (map make (numbered_from 1 ys)) (rtsqs_ordered rtsq make stated ys)
 
   pub held_in_order : {Z : Type 0} (content : X → Z) (back : Y → Z) → ((piece : ℕ × Y) → content (make piece) ≡ back piece.1)
       → (ys : List Y) → map content (in_order (on rtsq nat_cmp) (map make (numbered_from 1 ys))) ≡ map back ys
-  held_in_order content back holds ys =
-      ap (map content) (in_sequence ys) ∙ map-map content make (numbered_from 1 ys)
-      ∙ map_agree_everywhere (λ piece. content (make piece)) (λ (piece : ℕ × Y). back piece.1) holds (numbered_from 1 ys)
-      ∙ sym (map-map back (λ (piece : ℕ × Y). piece.1) (numbered_from 1 ys)) ∙ ap (map back) (rights-numbered_from 1 ys)
-
-joined_map : {X Y : Type 0} (f : X → List Y) (xs : List X) → flat_map f xs ≡ flat_map (λ ys. ys) (map f xs)
-joined_map f [] = refl
-joined_map f (x ∷ xs) = ap (λ rest. f x ++ rest) (joined_map f xs)
+  held_in_order content back holds ys = ap (map content) (in_sequence ys) ∙ contents_made rtsq make stated content back holds ys
 
 each_alone : {X : Type 0} (f : X → List X) (xs : List X) → AllByRecursion (λ x. f x ≡ x ∷ []) xs → flat_map f xs ≡ xs
 each_alone f [] a = refl
@@ -77,7 +64,7 @@ module _ (c : County) (is : IsCounty c) where
       ap (λ xs. flat_map (λ (r : Fields2). r.points) (in_order (on two_rtsq nat_cmp) (of_number two_tlid e.0 xs))) (twos c is)
       ∙ ap (λ xs. flat_map (λ (r : Fields2). r.points) (in_order (on two_rtsq nat_cmp) xs))
       (group_of two_tlid packed_twos two_own c.chains (tlids_apart c is) e m)
-      ∙ joined_map (λ (r : Fields2). r.points) (in_order (on two_rtsq nat_cmp) (packed_twos e))
+      ∙ sym (flat_map-map (λ piece. piece) (λ (r : Fields2). r.points) (in_order (on two_rtsq nat_cmp) (packed_twos e)))
       ∙ ap (flat_map (λ piece. piece)) (held_in_order two_rtsq make (λ piece. refl) (λ (r : Fields2). r.points)
       (λ (piece : List Coordinates). piece) (λ piece. refl) (in_pieces 10 (inner_points e.1.points))
       ∙ map-id (in_pieces 10 (inner_points e.1.points)))
@@ -89,7 +76,7 @@ module _ (c : County) (is : IsCounty c) where
       ap (λ xs. flat_map (λ (r : Fields4). r.feats) (in_order (on four_rtsq nat_cmp) (of_number four_tlid e.0 xs))) (fours c is)
       ∙ ap (λ xs. flat_map (λ (r : Fields4). r.feats) (in_order (on four_rtsq nat_cmp) xs))
       (group_of four_tlid packed_fours four_own c.chains (tlids_apart c is) e m)
-      ∙ joined_map (λ (r : Fields4). r.feats) (in_order (on four_rtsq nat_cmp) (packed_fours e))
+      ∙ sym (flat_map-map (λ piece. piece) (λ (r : Fields4). r.feats) (in_order (on four_rtsq nat_cmp) (packed_fours e)))
       ∙ ap (flat_map (λ piece. piece)) (held_in_order four_rtsq make (λ piece. refl) (λ (r : Fields4). r.feats) (λ (piece : List ℕ). piece)
       (λ piece. refl) (in_pieces 5 e.1.feats) ∙ map-id (in_pieces 5 e.1.feats))
       ∙ pieces_together 5 (length e.1.feats) e.1.feats (omega arith) (omega arith)

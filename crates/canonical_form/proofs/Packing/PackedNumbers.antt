@@ -1,11 +1,13 @@
 -- The records of each type of a packed county, and their numbers.
-use Rattle.canonical_form.proofs.Common.{AllByRecursion, all_everywhere, apart_from_sorted, numbered_from, packed_by_type, packed_sevens, ℕ}
-use Rattle.canonical_form.proofs.Common.{Body7, Chain, Type1, Type2, Type4, Type5, Type6, Type7, Type8, TypeI, TypeP, arith, feats, packed}
-use Rattle.canonical_form.proofs.Common.{County, chain_tlids, filter_map, of_its_type, packed_five, packed_fours, packed_sixes, packed_twos}
-use Rattle.canonical_form.proofs.Common.{IsApart, Less, all_map, i_tlid, map-map, nat_cmp, p_polyid, packed_i, packed_p, six_tlid, two_tlid}
-use Rattle.canonical_form.proofs.Common.{IsCounty, five_feat, four_tlid, of_type_1, of_type_2, of_type_4, of_type_5, packed_one, seven_land}
-use Rattle.canonical_form.proofs.Common.{List, [], ap, on, refl, rules, suc, tlids, ◌<◌, ◌∙◌, ◌∷◌, ◌≡◌}
-use Rattle.canonical_form.proofs.Common.{flat_map, in_order, map, nat_keys, of_type_6, of_type_7, of_type_8, of_type_i, of_type_p, one_tlid}
+use Rattle.canonical_form.proofs.Common.{AllByRecursion, Body7, Chain, County, IsApart, IsCounty, IsInOrder, Less, List, Type1, Type2}
+use Rattle.canonical_form.proofs.Common.{Type4, Type5, Type6, Type7, Type8, TypeI, TypeP, [], all_everywhere, all_map, ap}
+use Rattle.canonical_form.proofs.Common.{apart_from_sorted, arith, chain_tlids, feats, filter_map, five_feat, flat_map, four_tlid, i_tlid}
+use Rattle.canonical_form.proofs.Common.{in_order, in_order-from_strict, lefts-numbered_from, length, length-map, length-numbered_from, map}
+use Rattle.canonical_form.proofs.Common.{map-map, map_agree_everywhere, nat_cmp, nat_keys, numbered_from, of_its_type, of_type_1, of_type_2}
+use Rattle.canonical_form.proofs.Common.{of_type_4, of_type_5, of_type_6, of_type_7, of_type_8, of_type_i, of_type_p, on, one_tlid}
+use Rattle.canonical_form.proofs.Common.{p_polyid, packed, packed_by_type, packed_five, packed_fours, packed_i, packed_one, packed_p}
+use Rattle.canonical_form.proofs.Common.{packed_sevens, packed_sixes, packed_twos, refl, rights-numbered_from, rules, seven_land, six_tlid}
+use Rattle.canonical_form.proofs.Common.{subst, suc, sym, tlids, two_tlid, up_to, ℕ, ◌<◌, ◌∙◌, ◌∷◌, ◌≡◌}
 use Rattle.std.specs.List.Sorted.{IsStrictlySortedBy}
 use Rattle.county_chart.proofs.Lists.Compared.{less}
 
@@ -36,6 +38,27 @@ numbered_strict {X} i (x ∷ xs) = (above i (suc i) xs (omega arith), numbered_s
     above : (m j : ℕ) (ys : List X) → m < j → AllByRecursion (λ n. nat_cmp m n ≡ Less) (map (λ (e : ℕ × X). e.0) (numbered_from j ys))
     above m j [] h = tt
     above m j (y ∷ ys) h = (less m j h, above m (suc j) ys (omega arith))
+
+-- records with the RTSQs 1, 2, 3, ..
+module _ {X Y : Type 0} (rtsq : X → ℕ) (make : ℕ × Y → X) (stated : (piece : ℕ × Y) → rtsq (make piece) ≡ piece.0) where
+  pub rtsqs_made : (ys : List Y) → map rtsq (map make (numbered_from 1 ys)) ≡ map (λ (piece : ℕ × Y). piece.0) (numbered_from 1 ys)
+  rtsqs_made ys = map-map rtsq make (numbered_from 1 ys)
+      ∙ map_agree_everywhere (λ piece. rtsq (make piece)) (λ (piece : ℕ × Y). piece.0) stated (numbered_from 1 ys)
+
+  pub rtsqs_ordered : (ys : List Y) → IsInOrder (on rtsq nat_cmp) (map make (numbered_from 1 ys))
+  rtsqs_ordered ys = in_order-from_strict rtsq (map make (numbered_from 1 ys))
+      (subst (IsStrictlySortedBy nat_cmp) (sym (rtsqs_made ys)) (numbered_strict 1 ys))
+
+  pub rtsqs_counted : (ys : List Y) → map rtsq (map make (numbered_from 1 ys)) ≡ up_to (length (map make (numbered_from 1 ys)))
+  rtsqs_counted ys = rtsqs_made ys ∙ lefts-numbered_from 1 ys
+      ∙ ap up_to (sym (length-map (numbered_from 1 ys) make ∙ length-numbered_from 1 ys))
+
+  pub contents_made : {Z : Type 0} (content : X → Z) (back : Y → Z) → ((piece : ℕ × Y) → content (make piece) ≡ back piece.1) → (ys : List Y)
+      → map content (map make (numbered_from 1 ys)) ≡ map back ys
+  contents_made content back holds ys =
+      map-map content make (numbered_from 1 ys)
+      ∙ map_agree_everywhere (λ piece. content (make piece)) (λ (piece : ℕ × Y). back piece.1) holds (numbered_from 1 ys)
+      ∙ sym (map-map back (λ (piece : ℕ × Y). piece.1) (numbered_from 1 ys)) ∙ ap (map back) (rights-numbered_from 1 ys)
 
 module _ (c : County) (is : IsCounty c) where
   pub tlids_apart : IsApart nat_cmp (tlids c)

@@ -1,17 +1,17 @@
 -- If a renaming carries one arranged county onto another, keeps each TLID and turns no chain, the landmarks and their links are
 -- equal: landmarks are in the order of their bodies and links.
-use Rattle.canonical_form.proofs.Common.{AllByRecursion, Body7, Bool, Carries, County, Equal, Fields8, Greater, IsArranged, IsAscending}
-use Rattle.canonical_form.proofs.Common.{IsClosed, IsInOrder, IsKeyOrder, IsPermutation, IsTrue, Known, Less, LinkPart, List, Ordering}
-use Rattle.canonical_form.proofs.Common.{PolygonKey, Renumbering, [], all_weaker, ap, arith, carried_link, cases_eq, cond, differ}
-use Rattle.canonical_form.proofs.Common.{eight_land, eq-eqb, false, false≢true, filter, filter-agree, image, in_order-equal, inl, inr}
-use Rattle.canonical_form.proofs.Common.{is_eq, key_cmp, landmark_body_keys, landmark_key_cmp, lands, length, length-filter, length-map}
-use Rattle.canonical_form.proofs.Common.{link_cmp, link_key, link_keys, link_part, link_part_cmp, link_part_keys, links_of, lists_keys}
-use Rattle.canonical_form.proofs.Common.{ltb-true, map, map_agree_all, nat_cmp, nat_cmp_total, nat_keys, ne_eqb, of_number-all}
-use Rattle.canonical_form.proofs.Common.{ordering_then, pair_keys, polygon_keys, refl, contains, subst, suc, sum_by-IsPermutation, sym}
-use Rattle.canonical_form.proofs.Common.{tied_itself, times, zero, ℕ, ◌&&◌, ◌<◌, ◌==◌, ◌∙◌, ◌∷◌, ◌≡◌, ◌⊎◌}
+use Rattle.canonical_form.proofs.Common.{AllByRecursion, Body7, Bool, Carries, County, Fields8, IsArranged, IsAscending, IsClosed}
+use Rattle.canonical_form.proofs.Common.{IsInOrder, IsKeyOrder, IsPermutation, IsPermutation-refl, IsStrictlySortedBy, IsTrue, Known}
+use Rattle.canonical_form.proofs.Common.{LinkPart, List, PolygonKey, Renumbering, [], all_known, all_weaker, ap, carried_link, cond}
+use Rattle.canonical_form.proofs.Common.{contains, eight_land, filter, flat_map, flat_map_agree, image, in_order-equal, is_eq, key_cmp}
+use Rattle.canonical_form.proofs.Common.{landmark_body_keys, landmark_key_cmp, lands, length, length-filter, length-map, link_cmp, link_key}
+use Rattle.canonical_form.proofs.Common.{link_part, link_part_cmp, link_part_keys, links_of, lists_keys, ltb-true, map, map-id, map-map}
+use Rattle.canonical_form.proofs.Common.{map_agree_all, nat_cmp, nat_keys, of_number, of_number-all, on, pair_keys, polygon_keys, refl}
+use Rattle.canonical_form.proofs.Common.{subst, sum_by-IsPermutation, sym, times, ℕ, ◌&&◌, ◌++◌, ◌==◌, ◌∙◌, ◌∷◌, ◌≡◌}
 use Rattle.canonical_form.proofs.Lists.Filtered.{filter-agree_all, filter-filtered, filter-mapped, same_after}
 use Rattle.canonical_form.proofs.{Lists.Grouping.in_order-filter, Lists.Grouping.parts_in_order, Unique.SameKeys.entries_same}
 use Rattle.canonical_form.proofs.{Unique.SameKeys.parts_same, Unique.SameNumbers.counted_injective}
+use Rattle.canonical_form.proofs.Lists.Grouping.{grouped, in_order-weaker, then-first}
 
 pub landmark_key_keys : IsKeyOrder landmark_key_cmp
 landmark_key_keys = pair_keys (lists_keys landmark_body_keys) (lists_keys link_part_keys)
@@ -40,23 +40,6 @@ pub links_of-in_order : (links : List Fields8) → IsInOrder link_cmp links → 
 links_of-in_order links h y = parts_in_order eight_land link_part link_part_cmp y (filter (λ l. l.land == y) links) (of_number-all eight_land y links)
     (in_order-filter link_cmp (λ l. l.land == y) links h)
 
--- links that each have one LAND, counted by landmark
-times-land : (links : List Fields8) (k : Fields8) → times link_cmp k links ≡ length (filter (is_link k.land (link_part k)) links)
-times-land links k = ap length (filter-agree (λ l. is_eq (link_cmp k l)) (is_link k.land (link_part k)) (λ l. go l (cases_eq l.land k.land)) links)
-  where
-    other : (o p : Ordering) → is_eq o ≡ false → is_eq (ordering_then o p) ≡ false
-    other Less p e = refl
-    other Equal p e = absurd (false≢true (sym e))
-    other Greater p e = refl
-
-    go : (l : Fields8) → (l.land ≡ k.land) ⊎ (l.land ≡ k.land → ⊥) → is_eq (link_cmp k l) ≡ is_link k.land (link_part k) l
-    go l (inl e) =
-        ap (λ o. is_eq (ordering_then o (link_part_cmp (link_part k) (link_part l)))) (ap (nat_cmp k.land) e ∙ tied_itself nat_cmp_total k.land)
-        ∙ ap (λ b. b && is_eq (link_part_cmp (link_part k) (link_part l))) (sym (eq-eqb l.land k.land e))
-    go l (inr ne) =
-        other (nat_cmp k.land l.land) _ (differ nat_keys k.land l.land (λ e. ne (sym e)))
-        ∙ ap (λ b. b && is_eq (link_part_cmp (link_part k) (link_part l))) (sym (ne_eqb l.land k.land ne))
-
 -- if renaming keeps LANDs distinct, a renamed landmark has the same links as before
 pub count-relanded : (f : ℕ → ℕ) (Dom : ℕ → Type 0) → ((n m : ℕ) → Dom n → Dom m → f n ≡ f m → n ≡ m) → (links : List Fields8)
     → AllByRecursion (λ l. Dom l.land) links → (y : ℕ) → Dom y → (k : LinkPart)
@@ -68,17 +51,37 @@ count-relanded f Dom inj links a y d k =
     (all_weaker (λ (l : Fields8). Dom l.land) (λ l. is_link (f y) k (relanded f l) ≡ is_link y k l)
     (λ l known. ap (λ b. b && is_eq (link_part_cmp k (link_part l))) (same_after f Dom inj l.land y known d)) links a))
 
--- a LAND without a landmark has no link
-no_links : (known : List ℕ) (links : List Fields8) → AllByRecursion (λ l. IsTrue (contains nat_cmp l.land known)) links → (y : ℕ)
-    → times nat_cmp y known ≡ 0 → (k : LinkPart) → length (filter (is_link y k) links) ≡ 0
-no_links known [] a y e k = refl
-no_links known (x ∷ xs) a y e k = go (cases_eq x.land y) (no_links known xs a.1 y e k)
+-- so renamed links in order have under a new LAND what the links in order have under the old one
+pub links_kept : (f : ℕ → ℕ) (Dom : ℕ → Type 0) → ((n m : ℕ) → Dom n → Dom m → f n ≡ f m → n ≡ m) → (links olds news : List Fields8)
+    → AllByRecursion (λ l. Dom l.land) links → IsInOrder link_cmp olds → IsPermutation olds links → IsInOrder link_cmp news
+    → IsPermutation (map (relanded f) links) news → (y : ℕ) → Dom y → links_of news (f y) ≡ links_of olds y
+links_kept f Dom inj links olds news known old_order same new_order renamed y d =
+    in_order-equal link_part_keys (links_of news (f y)) (links_of olds y) (links_of-in_order news new_order (f y))
+    (links_of-in_order olds old_order y)
+    (λ k. times-links news (f y) k ∙ sym (count-permutation (is_link (f y) k) (map (relanded f) links) news renamed)
+    ∙ count-relanded f Dom inj links known y d k ∙ sym (count-permutation (is_link y k) olds links same) ∙ sym (times-links olds y k))
+
+-- each link is one of a landmark
+pub lands_known : (c : County) → IsClosed c → AllByRecursion (λ (l : Fields8). Known nat_cmp (lands c) l.land) c.links
+lands_known c closed = all_weaker (λ (l : Fields8). IsTrue (contains nat_cmp l.land (lands c))) (λ l. Known nat_cmp (lands c) l.land)
+    (λ l t. ltb-true 0 (times nat_cmp l.land (lands c)) t) c.links closed.link_lands
+
+-- links in order are those of their LANDs, one LAND after another
+abbrev with_land : ℕ → LinkPart → Fields8
+with_land y part = record { file = part.2; cenid = part.1; polyid = part.0; land = y }
+
+by_land : (links : List Fields8) → IsInOrder link_cmp links → (ys : List ℕ) → IsStrictlySortedBy nat_cmp ys
+    → AllByRecursion (λ (l : Fields8). Known nat_cmp ys l.land) links → links ≡ flat_map (λ y. map (with_land y) (links_of links y)) ys
+by_land links h ys strict known =
+    sym (grouped eight_land links (in_order-weaker link_cmp (on eight_land nat_cmp)
+    (λ l m. then-first (nat_cmp l.land m.land) (link_part_cmp (link_part l) (link_part m))) links h) ys strict known)
+    ∙ flat_map_agree (λ y. of_number eight_land y links) (λ y. map (with_land y) (links_of links y)) (λ y. sym (back y)) ys
   where
-    go : (x.land ≡ y) ⊎ (x.land ≡ y → ⊥) → length (filter (is_link y k) xs) ≡ 0 → length (filter (is_link y k) (x ∷ xs)) ≡ 0
-    go (inl same) ih = absurd (let t : 0 < times nat_cmp x.land known = ltb-true 0 (times nat_cmp x.land known) a.0 in
-        let u : times nat_cmp x.land known ≡ 0 = subst (λ n. times nat_cmp n known ≡ 0) (sym same) e in omega (arith, t, u))
-    go (inr ne) ih = ap (λ b. length (cond (b && is_eq (link_part_cmp k (link_part x))) (x ∷ filter (is_link y k) xs)
-        (filter (is_link y k) xs))) (ne_eqb x.land y ne) ∙ ih
+    back : (y : ℕ) → map (with_land y) (links_of links y) ≡ of_number eight_land y links
+    back y = map-map (with_land y) link_part (of_number eight_land y links)
+        ∙ map_agree_all (λ l. with_land y (link_part l)) (λ l. l) (λ l. l.land ≡ y) (λ l e i. record l { land = sym e i })
+        (of_number eight_land y links) (of_number-all eight_land y links)
+        ∙ map-id (of_number eight_land y links)
 
 module _ (r : Renumbering) (a b : County) (h : Carries r a b) (aa : IsAscending a) (ab : IsAscending b) (ca : IsClosed a) (cb : IsClosed b)
     (ta : IsArranged a) (tb : IsArranged b)
@@ -104,40 +107,27 @@ module _ (r : Renumbering) (a b : County) (h : Carries r a b) (aa : IsAscending 
       })
       a.links ca.link_polygons
 
-  lands_known : AllByRecursion (λ l. Known nat_cmp (lands a) l.land) a.links
-  lands_known = all_weaker (λ l. IsTrue (contains nat_cmp l.land (lands a))) (λ l. Known nat_cmp (lands a) l.land)
-      (λ l t. ltb-true 0 (times nat_cmp l.land (lands a)) t) a.links ca.link_lands
-
-  links_kept : (y : ℕ) → Known nat_cmp (lands a) y → links_of b.links (f_land y) ≡ links_of a.links y
-  links_kept y d = in_order-equal link_part_keys (links_of b.links (f_land y)) (links_of a.links y)
-      (links_of-in_order b.links ab.links (f_land y)) (links_of-in_order a.links aa.links y)
-      (λ k. times-links b.links (f_land y) k
-      ∙ sym (count-permutation (is_link (f_land y) k) (map (carried_link r) a.links) b.links h.links)
-      ∙ ap (λ ls. length (filter (is_link (f_land y) k) ls)) links_carried
-      ∙ count-relanded f_land (Known nat_cmp (lands a)) land_injective a.links lands_known y d k
-      ∙ sym (times-links a.links y k))
+  same_under : (y : ℕ) → Known nat_cmp (lands a) y → links_of b.links (f_land y) ≡ links_of a.links y
+  same_under = links_kept f_land (Known nat_cmp (lands a)) land_injective a.links a.links b.links (lands_known a ca) aa.links
+      (IsPermutation-refl a.links) ab.links (subst (λ ls. IsPermutation ls b.links) links_carried h.links)
 
   pub landmarks_equal : a.landmarks ≡ b.landmarks
   unfolding f_land
   landmarks_equal = entries_same landmark_key_keys f_land (links_of a.links) (links_of b.links) a.landmarks b.landmarks
-      links_kept h.landmarks ta.landmarks tb.landmarks ta.lands tb.lands
+      same_under h.landmarks ta.landmarks tb.landmarks ta.lands tb.lands
 
   same_links : (y : ℕ) → Known nat_cmp (lands a) y → links_of a.links y ≡ links_of b.links y
   unfolding f_land
   same_links = parts_same landmark_key_keys f_land (links_of a.links) (links_of b.links) a.landmarks b.landmarks
-      links_kept h.landmarks ta.landmarks tb.landmarks ta.lands tb.lands
+      same_under h.landmarks ta.landmarks tb.landmarks ta.lands tb.lands
 
-  links_count : (k : Fields8) (n : ℕ) → times nat_cmp k.land (lands a) ≡ n
-      → length (filter (is_link k.land (link_part k)) a.links) ≡ length (filter (is_link k.land (link_part k)) b.links)
-  links_count k zero e =
-      no_links (lands a) a.links ca.link_lands k.land e (link_part k)
-      ∙ sym (no_links (lands b) b.links cb.link_lands k.land
-      (ap (λ ls. times nat_cmp k.land (map (λ (d : ℕ × List Body7). d.0) ls)) (sym landmarks_equal) ∙ e) (link_part k))
-  links_count k (suc n) e =
-      sym (times-links a.links k.land (link_part k))
-      ∙ ap (times link_part_cmp (link_part k)) (same_links k.land (omega (arith, e)))
-      ∙ times-links b.links k.land (link_part k)
+  along : (ys : List ℕ) → AllByRecursion (Known nat_cmp (lands a)) ys
+      → flat_map (λ y. map (with_land y) (links_of a.links y)) ys ≡ flat_map (λ y. map (with_land y) (links_of b.links y)) ys
+  along [] k = refl
+  along (y ∷ ys) k = λ i. map (with_land y) (same_links y k.0 i) ++ along ys k.1 i
 
   pub links_equal : a.links ≡ b.links
-  links_equal = in_order-equal link_keys a.links b.links aa.links ab.links
-      (λ k. times-land a.links k ∙ links_count k (times nat_cmp k.land (lands a)) refl ∙ sym (times-land b.links k))
+  links_equal = by_land a.links aa.links (lands a) aa.landmarks (lands_known a ca)
+      ∙ along (lands a) (all_known nat_keys (Known nat_cmp (lands a)) (lands a) (λ n k. k))
+      ∙ ap (λ es. flat_map (λ y. map (with_land y) (links_of b.links y)) (map (λ (e : ℕ × List Body7). e.0) es)) landmarks_equal
+      ∙ sym (by_land b.links ab.links (lands b) ab.landmarks (lands_known b cb))

@@ -2,11 +2,11 @@
 -- have equal numbers: they are numbered by first appearance along the same chains.
 use Rattle.canonical_form.proofs.Common.{AllByRecursion, Among, Carries, Chain, County, Grows, IsApart, IsArranged, IsAscending, IsClosed}
 use Rattle.canonical_form.proofs.Common.{IsPermutation, IsTrue, Known, List, PolygonKey, Renumbering, [], all_among, all_joined, all_known}
-use Rattle.canonical_form.proofs.Common.{all_weaker, among-map, ap, apart-distinct, apart-permutation, apart_from_sorted, ap₂, chain_nodes}
-use Rattle.canonical_form.proofs.Common.{chain_nodes-renumbered, chain_polygons, chain_polygons-renumbered, image, image-injective}
-use Rattle.canonical_form.proofs.Common.{image-keeps, inl, inr, key_cmp, key_keys, known-distinct, known-permutation, lefts, ltb-true, map}
-use Rattle.canonical_form.proofs.Common.{map-append, map-id, map-map, nat_cmp, nat_keys, nodes, nodes_along, polygon_keys, polygons_along}
-use Rattle.canonical_form.proofs.Common.{refl, renumbered, rights, contains, subst, sym, times, up_to, ℕ, ◌++◌, ◌∙◌, ◌∷◌, ◌≡◌}
+use Rattle.canonical_form.proofs.Common.{all_themselves, all_weaker, among-map, ap, apart-distinct, apart-permutation, apart_from_sorted}
+use Rattle.canonical_form.proofs.Common.{ap₂, chain_nodes, chain_nodes-renumbered, chain_polygons, chain_polygons-renumbered, contains}
+use Rattle.canonical_form.proofs.Common.{image, image-injective, image-keeps, key_cmp, key_keys, known-distinct, known-permutation, lefts}
+use Rattle.canonical_form.proofs.Common.{ltb-true, map, map-append, map-id, map-map, nat_cmp, nat_keys, nodes, nodes_along, polygon_keys}
+use Rattle.canonical_form.proofs.Common.{polygons_along, refl, renumbered, rights, subst, sym, times, up_to, ℕ, ◌++◌, ◌∙◌, ◌∷◌, ◌≡◌}
 use Rattle.canonical_form.proofs.{Lists.Counting.up_to-strict, Numbering.Growth.grown}
 
 -- A renaming onto numbers that count from 1 gives different numbers to different ones.
@@ -37,10 +37,6 @@ pub polygons_along-kept : (r : Renumbering) (cs : List (ℕ × Chain))
 polygons_along-kept r [] = refl
 polygons_along-kept r (c ∷ cs) = ap₂ (λ xs ys. xs ++ ys) (chain_polygons-renumbered r c.1) (polygons_along-kept r cs)
     ∙ sym (map-append (image key_cmp r.polygons) (chain_polygons c.1) (polygons_along cs))
-
-pub all_themselves : {X : Type 0} (xs : List X) → AllByRecursion (λ x. Among x xs) xs
-all_themselves [] = tt
-all_themselves (x ∷ xs) = (inl refl, all_weaker (λ y. Among y xs) (λ y. Among y (x ∷ xs)) (λ y m. inr m) xs (all_themselves xs))
 
 module _ (r : Renumbering) (a b : County) (h : Carries r a b) (asc : IsAscending b) (ca : IsClosed a) (ta : IsArranged a)
     (tb : IsArranged b)

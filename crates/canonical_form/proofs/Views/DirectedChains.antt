@@ -1,10 +1,10 @@
 -- The chains of an arrangement given by directed chains are those at their places.
 use Rattle.canonical_form.proofs.Common.{Among, Arrangement, Chain, County, DirectedChain, HasChainsOf, IsCounty, List, None, Option, Some}
-use Rattle.canonical_form.proofs.Common.{[], ap, apart_from_sorted, append-nil, ap₂, arith, arrangement_of, chain_at, chains_in_order}
-use Rattle.canonical_form.proofs.Common.{directed_chain, entries_of, eq-eqb, feats_of, flat_map, flat_map-append, flat_map_agree}
-use Rattle.canonical_form.proofs.Common.{get_or_from_slice_get, inl, inr, length, map, nat_keys, numbered_from, option_map, placed, refl}
-use Rattle.canonical_form.proofs.Common.{rights-numbered_from, slice_get, slice_get-map, suc, sym, times-of_number, tlid_at, tlids}
-use Rattle.canonical_form.proofs.Common.{to_filter, turned_if, zero, ℕ, ◌++◌, ◌<◌, ◌==◌, ◌∙◌, ◌∷◌, ◌≡◌, ◌≤◌, ◌⊎◌}
+use Rattle.canonical_form.proofs.Common.{[], ap, apart_from_sorted, append-nil, ap₂, arith, arrangement_of, chain_at, directed_chain}
+use Rattle.canonical_form.proofs.Common.{entries_of, eq-eqb, feats_of, flat_map, flat_map-append, flat_map_agree, get_or_from_slice_get}
+use Rattle.canonical_form.proofs.Common.{inl, inr, length, map, nat_keys, numbered_from, option_map, placed, refl, rights-numbered_from}
+use Rattle.canonical_form.proofs.Common.{slice_get, slice_get-map, suc, sym, times-of_number, tlid_at, tlids, to_filter, turned_if, zero, ℕ}
+use Rattle.canonical_form.proofs.Common.{◌++◌, ◌<◌, ◌==◌, ◌∙◌, ◌∷◌, ◌≡◌, ◌≤◌, ◌⊎◌}
 use Rattle.canonical_form.proofs.{Lists.Counting.flat_map-map, Views.ChainPlaces.some_at}
 
 -- the element at a place is in the list
@@ -28,6 +28,14 @@ of_chain f None = []
 of_chain f (Some chain) = f chain
 
 module _ (county : County) (is : IsCounty county) where
+  -- an entry is the only one with its TLID
+  pub alone_under : (e : ℕ × Chain) → Among e county.chains → entries_of county.chains e.0 ≡ e ∷ []
+  alone_under e m =
+      let count = times-of_number (λ (d : ℕ × Chain). d.0) e.0 county.chains in
+      let few = apart_from_sorted nat_keys (tlids county) is.ascending.chains e.0 in
+      alone e (entries_of county.chains e.0) (to_filter (λ (d : ℕ × Chain). d.0 == e.0) e county.chains m (eq-eqb e.0 e.0 refl))
+      (omega (arith, count, few))
+
   -- the TLID at a place belongs to exactly one entry, the one at that place
   pub one_here : (p : ℕ) → p < length county.chains
       → (e : ℕ × Chain) × (slice_get county.chains p ≡ Some e) × (entries_of county.chains (tlid_at county p) ≡ e ∷ []) ×
@@ -37,11 +45,7 @@ module _ (county : County) (is : IsCounty county) where
       let tlid : tlid_at county p ≡ e.0.0 =
       get_or_from_slice_get (tlids county) p e.0.0 0
       (slice_get-map (λ (d : ℕ × Chain). d.0) county.chains p ∙ ap (option_map (λ (d : ℕ × Chain). d.0)) e.1) in
-      let among : Among e.0 (entries_of county.chains e.0.0) =
-      to_filter (λ (d : ℕ × Chain). d.0 == e.0.0) e.0 county.chains (among-get county.chains p e.0 e.1) (eq-eqb e.0.0 e.0.0 refl) in
-      let count = times-of_number (λ (d : ℕ × Chain). d.0) e.0.0 county.chains in
-      let few = apart_from_sorted nat_keys (tlids county) is.ascending.chains e.0.0 in
-      (e.0, e.1, ap (entries_of county.chains) tlid ∙ alone e.0 (entries_of county.chains e.0.0) among (omega (arith, count, few)), tlid)
+      (e.0, e.1, ap (entries_of county.chains) tlid ∙ alone_under e.0 (among-get county.chains p e.0 e.1), tlid)
 
   abbrev bodies : Arrangement → List Chain
   bodies ss = flat_map (λ s. map (λ (entry : ℕ × Chain). turned_if s.1 entry.1) (entries_of county.chains s.0)) ss
@@ -79,12 +83,3 @@ module _ (county : County) (is : IsCounty county) where
   feats_placed arrangement h = along_placed (λ c. c.feats) arrangement h
       ∙ flat_map_agree (λ (directed : DirectedChain). of_chain (λ c. c.feats) (directed_chain county directed)) (λ directed. feats_of (directed_chain county directed))
       (λ directed. same_feats (directed_chain county directed)) arrangement
-
-  -- the chains in their new order, read at the places of the directed chains
-  pub chains_read : (arrangement : List DirectedChain) → HasChainsOf county arrangement
-      → map Some (chains_in_order county (arrangement_of county arrangement)) ≡ map (λ directed. slice_get county.chains directed.place) arrangement
-  chains_read [] h = refl
-  chains_read (s ∷ ss) h =
-      let here = one_here s.place h.0 in
-      let rest = chains_in_order county (arrangement_of county ss) in
-      ap (λ es. map Some (es ++ rest)) here.2 ∙ (λ i. sym here.1 i ∷ chains_read ss h.1 i)

@@ -1,10 +1,10 @@
 -- The chains of a county in an arrangement, read at the places of its directed chains.
 use Rattle.canonical_form.proofs.Common.{AreWhole, Arrangement, Arranges, Chain, County, DirectedChain, HasChainsOf, IsApart, IsCounty}
-use Rattle.canonical_form.proofs.Common.{List, None, Option, Renumbering, Some, [], ap, apart-permutation_of, apart_from_sorted, arith}
-use Rattle.canonical_form.proofs.Common.{arranged_by, arranged_tlids, arrangement_of, chain_at, directed_chain, entries_of, entry_values}
-use Rattle.canonical_form.proofs.Common.{flat_map, length, length-map, map, map-map, nat_cmp, nat_keys, option_map, placed, refl}
-use Rattle.canonical_form.proofs.Common.{renaming_of, renumbered, rights-numbered_from, slice_get, slice_get-map, slice_get_past, suc, sym}
-use Rattle.canonical_form.proofs.Common.{tlid_at, tlids, turned_if, up_to, zero, ℕ, ◌++◌, ◌∙◌, ◌∷◌, ◌≡◌, ◌≤◌}
+use Rattle.canonical_form.proofs.Common.{List, None, Option, Some, [], ap, apart-permutation_of, apart_from_sorted, arith, arranged_by}
+use Rattle.canonical_form.proofs.Common.{arranged_tlids, arrangement_of, chain_at, directed_chain, entries_of, entry_values, flat_map}
+use Rattle.canonical_form.proofs.Common.{length, length-map, map, map-map, nat_cmp, nat_keys, option_map, placed, refl, renaming_of}
+use Rattle.canonical_form.proofs.Common.{renumbered, rights-numbered_from, slice_get, slice_get-map, slice_get_past, suc, sym, tlid_at}
+use Rattle.canonical_form.proofs.Common.{tlids, turned_if, up_to, zero, ℕ, ◌++◌, ◌∙◌, ◌∷◌, ◌≡◌, ◌≤◌}
 use Rattle.canonical_form.proofs.Arrangements.Carrying.{chains_arranged, tlids_arranged}
 use Rattle.canonical_form.proofs.{Unique.SameNumbers.kept_entry, Views.DirectedChains.one_here}
 
@@ -95,15 +95,6 @@ module _ (county : County) (arrangement : List DirectedChain) (is : IsCounty cou
       ∙ length-map chains (renumbered (renaming_of county order))
       ∙ read_length (directed_chain county) arrangement chains (bodies_read arrangement whole.there)
 
-  -- a value read from a directed chain, with the new numbers filled in, is the value read from the chain at the place
-  pub stated : {Y : Type 0} (F G : Option Chain → Y)
-      → ((c : Chain) → G (Some c) ≡ F (Some (renumbered (renaming_of county order) c)))
-      → (i : ℕ) (s : DirectedChain) → Some s ≡ slice_get arrangement i → G (directed_chain county s) ≡ F (chain_at (arranged_by county arrangement) i)
-  stated F G h i s e = let t = chain_there i s (sym e) in ap G t.1 ∙ h t.0 ∙ sym (ap F t.2)
-
-  pub unstated : {Y : Type 0} (F : Option Chain → Y) (i : ℕ) → None ≡ slice_get arrangement i → F None ≡ F (chain_at (arranged_by county arrangement) i)
-  unstated F i e = sym (ap F (chain_missing i (sym e)))
-
   pub numbered_there : (i : ℕ) (s : DirectedChain) → Some s ≡ slice_get arrangement i
       → chain_at (arranged_by county arrangement) i ≡ option_map (renumbered (renaming_of county order)) (directed_chain county s)
   numbered_there i s e = let t = chain_there i s (sym e) in t.2 ∙ sym (ap (option_map (renumbered (renaming_of county order))) t.1)
@@ -115,19 +106,3 @@ module _ (county : County) (arrangement : List DirectedChain) (is : IsCounty cou
       ∙ sym (ap (λ o. option_map (renumbered (renaming_of county order)) (option_map (turned_if s.turned) o))
       (slice_get_past (entry_values county.chains) s.place
       (let same = length-map county.chains (λ (e : ℕ × Chain). e.1) in omega (arith, same, past))))
-
--- a value that depends on the numbers in a given way
-pub renumbered_part : {Y : Type 0} (r : Renumbering) (F G : Option Chain → Y) → G None ≡ F None
-    → ((c : Chain) → G (Some c) ≡ F (Some (renumbered r c))) → (o p : Option Chain) → p ≡ option_map (renumbered r) o → G o ≡ F p
-renumbered_part r F G none some None p e = none ∙ sym (ap F e)
-renumbered_part r F G none some (Some c) p e = some c ∙ sym (ap F e)
-
--- or not at all
-pub unnumbered_part : (county : County) (arrangement : List DirectedChain) {Y : Type 0} (F : Option Chain → Y)
-    → ((r : Renumbering) (c : Chain) → F (Some c) ≡ F (Some (renumbered r c))) → (place : ℕ) (s : DirectedChain)
-    → chain_at (arranged_by county arrangement) place
-    ≡ option_map (renumbered (renaming_of county (arrangement_of county arrangement))) (directed_chain county s)
-    → F (directed_chain county s) ≡ F (chain_at (arranged_by county arrangement) place)
-unnumbered_part county arrangement F same place s e =
-    let r = renaming_of county (arrangement_of county arrangement) in
-    renumbered_part r F F refl (same r) (directed_chain county s) (chain_at (arranged_by county arrangement) place) e
