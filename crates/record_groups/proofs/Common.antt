@@ -3,11 +3,11 @@ pub use Rattle.canonical_form.proofs.Choices.FixedPlaces.{before_apart, decides_
 pub use Rattle.canonical_form.proofs.Common.{AllByRecursion, AreWhole, flat_map-append, length-in_order, slice_get-get_or, take-append-drop}
 pub use Rattle.canonical_form.proofs.Common.{AreSame, PolygonKey, all_append, all_weaker, append-nil, packed_twos, renaming_of, tied_itself}
 pub use Rattle.canonical_form.proofs.Common.{AreWithin, Five, HasAsMany, IsInOrder, all_right, all_unmap, county_of, packed_one, renumbered}
-pub use Rattle.canonical_form.proofs.Common.{Body5, County, Fields7, FieldsI, FieldsP, Greater, add-one, is_some, nat_cmp, text_of, tlid_at}
+pub use Rattle.canonical_form.proofs.Common.{Body5, County, Fields7, FieldsI, FieldsP, Greater, add-one, nat_cmp, text_of, tlid_at}
 pub use Rattle.canonical_form.proofs.Common.{Body7, BodyP, Chain, Eight, Equal, Seven, Six, Type1, Type4, TypeI, TypeP, arith, false, is_gt}
 pub use Rattle.canonical_form.proofs.Common.{Bool, length-append, nat_cmp_total, numbered_from, ordering_then, packed_sevens, slice_get-map}
 pub use Rattle.canonical_form.proofs.Common.{Coordinates, arranged_by, inner_points, most_records, packed_fours, packed_sixes, put_in_order}
-pub use Rattle.canonical_form.proofs.Common.{Decides, Fields2, Fields4, Fields6, nat_keys, on_total, p_polyid, packed_i, packed_p, take_all}
+pub use Rattle.canonical_form.proofs.Common.{Decides, Fields2, Fields4, Fields6, on_total, p_polyid, packed_i, packed_p}
 pub use Rattle.canonical_form.proofs.Common.{DirectedChain, in_order-in_order, length-numbered_from, length_permutation, polygons_by_number}
 pub use Rattle.canonical_form.proofs.Common.{FitsRecord, IsTotalOrder, ArePlacesInOrder, all-in_order, append_assoc, entry_polyid, entry_values}
 pub use Rattle.canonical_form.proofs.Common.{Four, all_left, all_take, chain_at, drop_all, eqb-true, feats_of, flat_map, in_order, ltb-true}
@@ -35,7 +35,7 @@ pub use Rattle.ordered_lists.proofs.Common.{Err, Ok, Result, at_places, lists_to
 pub use Rattle.ordered_lists.proofs.{Lists.AtPlaces.at_all_places, Lists.Places.next_taken}
 pub use Rattle.tl_layout.proofs.Common.{drop-drop, err_from_is_err_and, joined, joined-before, number_text, point_texts, slice_eq-Decides}
 pub use Rattle.tl_layout.specs.{Bytes.IsLine, Laws.RecordLaws.spelling_is_line, Laws.TypeLaws.layout_laws, RecordText.spelling_of}
-pub use Rattle.tl_layout.specs.{RecordTypes.byte_of, RecordTypes.fields_spelling, RecordTypes.reading_of, TypeI.type_i_spelling}
+pub use Rattle.tl_layout.specs.{RecordTypes.byte_of, RecordTypes.reading_of, TypeI.type_i_spelling}
 pub use Rattle.record_groups.specs.CountyGroups.{type_1_by_chain, type_2_by_chain, type_4_by_chain, type_5_by_name, type_6_by_chain}
 pub use Rattle.record_groups.specs.CountyGroups.{type_7_by_landmark, type_8_together, type_i_by_chain, type_p_by_number, types_1_to_4}
 pub use Rattle.record_groups.specs.CountyGroups.{types_5_to_7, types_8_to_p}

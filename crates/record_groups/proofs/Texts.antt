@@ -4,7 +4,6 @@ pub mod PartOrder
 pub mod OpenPlaces
 pub mod RecordExact
 pub mod TiedOnes
-pub mod TopologyRecords
 pub mod TypeOnes
 pub mod RecordTexts
 pub mod TypeOrders

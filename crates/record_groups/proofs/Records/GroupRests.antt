@@ -2,12 +2,13 @@
 use Rattle.record_groups.proofs.Common.{Bool, List, Option, Some, [], add-one, ap, ap₂, arith, drop, drop_all, false, group_at, grouped}
 use Rattle.record_groups.proofs.Common.{if◌then◌else◌, length, ltb-false, nat_lt, refl, rest_of, slice_get, slice_get_past, suc, sym, true}
 use Rattle.record_groups.proofs.Common.{unwrap_or, zero, ℕ, ◌++◌, ◌+◌, ◌∙◌, ◌∷◌, ◌≡◌, ◌≤◌}
+use Rattle.canonical_form.proofs.{Common.get_or_from_slice_get, Lists.ListPlaces.none_past}
+use Rattle.std.proofs.Common.{drop-cons}
 
 -- an element, then the rest after it
 dropped_before : {X : Type 0} (xs : List X) (n : ℕ) (x : X) → Some x ≡ slice_get xs n → drop n xs ≡ x ∷ drop (suc n) xs
-dropped_before [] n x e = cc
-dropped_before (y ∷ ys) zero x e = let same : y ≡ x = cc in ap (λ z. z ∷ ys) same
-dropped_before (y ∷ ys) (suc n) x e = dropped_before ys n x e
+dropped_before xs n x e =
+    drop-cons xs n x (none_past xs n x (sym e)) ∙ ap (λ y. y ∷ drop (suc n) xs) (get_or_from_slice_get xs n x x (sym e))
 
 grouped_behind : {X : Type 0} (groups : List (List X)) (n : ℕ) → grouped (drop n groups) ≡ group_at groups n ++ grouped (drop (suc n) groups)
 grouped_behind {X} [] n = nothing n

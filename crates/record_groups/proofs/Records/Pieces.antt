@@ -2,6 +2,7 @@
 use Rattle.record_groups.proofs.Common.{List, Some, [], ap, arith, div_ceil_times, drop, drop-drop, in_pieces, length, length-drop}
 use Rattle.record_groups.proofs.Common.{length-map, length-numbered_from, map, min, numbered_at, numbered_from, option_map, pieces, refl}
 use Rattle.record_groups.proofs.Common.{slice_get, slice_get-map, suc, take, zero, ℕ, ◌%◌, ◌*◌, ◌+◌, ◌-◌, ◌/◌, ◌<◌, ◌∙◌, ◌∷◌, ◌≡◌, ◌≤◌}
+use Rattle.canonical_form.proofs.Common.{mul-le}
 
 module _ {X : Type 0} (n : ℕ) where
   -- as many pieces as needed, and not one more
@@ -73,10 +74,6 @@ pieces_counted n xs count e =
 -- an existing piece begins within the list
 pub piece_begins : {X : Type 0} (n : ℕ) (xs : List X) (k : ℕ) → k < length (in_pieces (suc n) xs) → k * suc n < length xs
 piece_begins n xs k h =
-    let more : suc k * suc n ≤ length (in_pieces (suc n) xs) * suc n = mul-le (suc k) (length (in_pieces (suc n) xs)) (suc n) h in
+    let more : suc k * suc n ≤ length (in_pieces (suc n) xs) * suc n =
+    mul-le (suc k) (suc n) (length (in_pieces (suc n) xs)) (suc n) h (omega arith) in
     omega (arith, (in_pieces_bounds n xs).1, more)
-  where
-    mul-le : (a b m : ℕ) → a ≤ b → a * m ≤ b * m
-    mul-le zero b m h = omega arith
-    mul-le (suc a) zero m h = absurd (omega (arith, h))
-    mul-le (suc a) (suc b) m h = omega (arith, mul-le a b m (omega (arith, h)))

@@ -1,15 +1,8 @@
 -- Lists that are compared place by place, and tests that decide whether they are the same.
 use Rattle.record_groups.proofs.Common.{Bool, County, Decides, Eight, Five, Four, HaveSameChains, HaveSameCounts, HaveSameEntries, I}
 use Rattle.record_groups.proofs.Common.{IsCounty, List, One, P, Seven, Six, Some, Two, [], ap, arith, county_of, group_at, grouped, length}
-use Rattle.record_groups.proofs.Common.{map, packed, packed_county, slice_get, suc, sym, take, take_all, type_1_by_chain, type_2_by_chain}
-use Rattle.record_groups.proofs.Common.{type_4_by_chain, type_5_by_name, type_6_by_chain, type_7_by_landmark, type_8_together}
-use Rattle.record_groups.proofs.Common.{type_i_by_chain, type_p_by_number, zero, ℕ, ◌++◌, ◌<◌, ◌∙◌, ◌∷◌, ◌≡◌, ◌≤◌}
+use Rattle.record_groups.proofs.Common.{map, packed, packed_county, rules, slice_get, subst, suc, sym, zero, ℕ, ◌++◌, ◌<◌, ◌∙◌, ◌∷◌, ◌≡◌}
 use Rattle.record_groups.proofs.Records.PackedGroups.{all_groups}
-
-module _ {X : Type 0} where
-  -- lists that agree up to the end of both
-  pub same_whole : (xs ys : List X) (place : ℕ) → take place xs ≡ take place ys → length xs ≤ place → length ys ≤ place → xs ≡ ys
-  same_whole xs ys place e h k = sym (take_all place xs h) ∙ e ∙ take_all place ys k
 
 -- groups at a place that both have
 pub same_group : {X : Type 0} (xs ys : List (List X)) (place : ℕ) → place < length xs → place < length ys
@@ -33,35 +26,13 @@ module _ (a b : County) where
   same_county : IsCounty a → IsCounty b → packed a ≡ packed b → a ≡ b
   same_county h k e = sym (packed_county a h) ∙ ap county_of e ∙ packed_county b k
 
-  same_counts : a ≡ b → HaveSameCounts a b
-  same_counts e = record {
-    chains = ap (λ c. length c.chains) e;
-    names = ap (λ c. length c.names) e;
-    polygons = ap (λ c. length c.polygons) e;
-    landmarks = ap (λ c. length c.landmarks) e;
-  }
-
-  same_chains : a ≡ b → HaveSameChains a b
-  same_chains e = record {
-    heads = record { chains = ap type_1_by_chain e; links = ap type_i_by_chain e };
-    lists = record {
-      shape_points = ap type_2_by_chain e;
-      further_names = ap type_4_by_chain e;
-      ranges = ap type_6_by_chain e;
-    };
-  }
-
-  same_entries : a ≡ b → HaveSameEntries a b
-  same_entries e = record {
-    names = ap type_5_by_name e;
-    landmarks = record { landmarks = ap type_7_by_landmark e; landmark_links = ap type_8_together e };
-    polygons = ap type_p_by_number e;
-  }
+  same_groups : a ≡ b → (HaveSameCounts a b × HaveSameChains a b) × HaveSameEntries a b
+  same_groups e = subst (λ c. (HaveSameCounts a c × HaveSameChains a c) × HaveSameEntries a c) e (search rules)
 
   -- A test for the same groups of all types is therefore a test for the same packing.
   pub decides_packing : IsCounty a → IsCounty b → (test : Bool)
       → Decides test ((HaveSameCounts a b × HaveSameChains a b) × HaveSameEntries a b) → Decides test (packed a ≡ packed b)
   decides_packing h k test d = (
     λ e. same_packing (d.0 e).0.1 (d.0 e).1,
-    λ packings. let e = same_county h k packings in d.1 ((same_counts e, same_chains e), same_entries e),
+    λ packings. d.1 (same_groups (same_county h k packings)),
   )

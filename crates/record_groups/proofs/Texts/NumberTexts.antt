@@ -1,9 +1,8 @@
 -- Numbers are in the order of their canonical texts of one width.
-use Rattle.record_groups.proofs.Common.{Bool, Equal, Greater, Less, List, MatchOrdering, Ordering, [], ap, ap₂, arith, cond, eqb-false}
-use Rattle.record_groups.proofs.Common.{eqb-true, exact_unsigned, false, joined, joined-before, length, length-append, nat_cmp, nat_cmp_is}
-use Rattle.record_groups.proofs.Common.{nat_eq, nat_list_cmp_total, ordering_then, ranked, refl, slice_cmp, suc, sym, tied_itself, true}
-use Rattle.record_groups.proofs.Common.{zero, ℕ, ◌%◌, ◌++◌, ◌+◌, ◌/◌, ◌<◌, ◌==◌, ◌^◌, ◌∙◌, ◌∷◌, ◌≡◌, ◌≢◌}
-use Rattle.record_groups.proofs.{Texts.GroupOrders.decided, Texts.RecordTexts.cmp-append, Texts.RecordTexts.then_equal}
+use Rattle.record_groups.proofs.Common.{Bool, Equal, Greater, Less, MatchOrdering, Ordering, [], arith, cond, eqb-false, eqb-true, false}
+use Rattle.record_groups.proofs.Common.{nat_cmp, nat_cmp_is, nat_eq, ordering_then, ranked, refl, slice_cmp, suc, sym, true, zero, ℕ, ◌%◌}
+use Rattle.record_groups.proofs.Common.{◌+◌, ◌/◌, ◌<◌, ◌==◌, ◌^◌, ◌∙◌, ◌∷◌, ◌≡◌}
+use Rattle.record_groups.proofs.{Texts.RecordTexts.cmp-append, Texts.RecordTexts.then_equal}
 use Rattle.tl_layout.specs.{FieldTexts.number_text, Laws.NumberTextLaws.length-number_text, Laws.NumberTextLaws.tenth_below}
 
 -- two pairs of numbers in one order
@@ -65,21 +64,3 @@ number_order (suc width) n m h k =
     ∙ (λ i. ordering_then (number_order width (n / 10) (m / 10) (tenth_below width n h) (tenth_below width m k) i)
     (then_equal (nat_cmp (last_byte n) (last_byte m)) i))
     ∙ digits_decide n m
-
--- a number that differs decides, if the texts before it are the same
-pub number_decides : (width : ℕ) (before : List ℕ) (n m : ℕ) (texts others : List (List ℕ)) → n < 10 ^ width → m < 10 ^ width → n ≢ m
-    → slice_cmp nat_cmp (joined (before ++ number_text width n) texts) (joined (before ++ number_text width m) others) ≡ nat_cmp n m
-number_decides width before n m texts others few few_too differ =
-    let one : List ℕ = before ++ number_text width n in
-    let other : List ℕ = before ++ number_text width m in
-    let widths : length (number_text width n) ≡ length (number_text width m) = length-number_text width n ∙ sym (length-number_text width m) in
-    let by_number : slice_cmp nat_cmp one other ≡ nat_cmp n m =
-    cmp-append nat_cmp before before (number_text width n) (number_text width m) refl
-    ∙ ap (λ o. ordering_then o (slice_cmp nat_cmp (number_text width n) (number_text width m))) (tied_itself nat_list_cmp_total before)
-    ∙ number_order width n m few few_too in
-    ap₂ (slice_cmp nat_cmp) (joined-before one texts) (joined-before other others)
-    ∙ cmp-append nat_cmp one other (joined [] texts) (joined [] others)
-    (length-append before (number_text width n) ∙ ap (λ l. length before + l) widths ∙ sym (length-append before (number_text width m)))
-    ∙ decided (slice_cmp nat_cmp one other) (slice_cmp nat_cmp (joined [] texts) (joined [] others))
-    (λ e. differ (exact_unsigned n m (sym by_number ∙ e)))
-    ∙ by_number

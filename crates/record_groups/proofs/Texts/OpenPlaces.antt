@@ -137,17 +137,8 @@ module _ {X : Type 0} (cmp : X → X → Ordering) (key : X → ℕ) (bound : �
                 → length f + length (those_from is_in E (suc place) count) ≡ length e + length (those_from is_in F (suc place) count)
                 → length (F place ++ f) + length (cond b (E place) [] ++ those_from is_in E (suc place) count)
                 ≡ length (E place ++ e) + length (cond b (F place) [] ++ those_from is_in F (suc place) count)
-            go true h rest =
-                let one = length-append (F place) f in
-                let two = length-append (E place) e in
-                let three = length-append (F place) (those_from is_in F (suc place) count) in
-                let four = length-append (E place) (those_from is_in E (suc place) count) in
-                omega (arith, rest, one, two, three, four)
-            go false h rest =
-                let one = length-append (F place) f in
-                let two = length-append (E place) e in
-                let same = lengths place h in
-                omega (arith, rest, one, two, same)
+            go true h rest = omega (arith, rest, length-append {A = X})
+            go false h rest = omega (arith, rest, length-append {A = X}, lengths place h)
 
         next : (place : ℕ) → TiedBefore place → Tie place → TiedBefore (suc place)
         next place before here q l e = at (nat_lt q place) refl
