@@ -28,11 +28,11 @@ pub use Rattle.canonical_form.proofs.Numbering.FirstSeen.{seen_stays, unknown_at
 pub use Rattle.canonical_form.proofs.Numbering.FoundPlaces.{any_within, none_within, place_behind, place_stays, to_position}
 pub use Rattle.canonical_form.proofs.Numbering.NewNumbers.{key_seen, key_unseen, number_seen, number_unseen, seen_within}
 pub use Rattle.canonical_form.proofs.Views.ViewChains.{arranges, bodies_read, chains, chains_arranged_by, numbered_past, numbered_there}
-pub use Rattle.canonical_form.proofs.Views.ViewChains.{read_length, read_nowhere, read_there, stated, tlids_arranged_by, unstated, values}
+pub use Rattle.canonical_form.proofs.Views.ViewChains.{read_length, read_nowhere, read_there, tlids_arranged_by, values}
 pub use Rattle.canonical_form.proofs.{Lists.Counting.flat_map-map, Lists.Counting.up_to-strict, Lists.Filtered.filter-filtered}
 pub use Rattle.canonical_form.proofs.{Lists.ListPlaces.get_dropped, Lists.ListPlaces.then_assoc, Numbering.SeenKeys.place_found}
-pub use Rattle.canonical_form.proofs.{Unique.SameNames.name_key_keys, Views.ArrangedViews.whole_arrangement, Views.ChainPlaces.chain_there}
-pub use Rattle.canonical_form.proofs.{Views.ChainPlaces.node_from_one, Views.DirectedChains.among-get, Views.DirectedChains.feats_placed}
+pub use Rattle.canonical_form.proofs.{Unique.SameNames.name_key_keys, Views.ArrangedViews.whole_arrangement}
+pub use Rattle.canonical_form.proofs.{Views.DirectedChains.among-get, Views.DirectedChains.feats_placed}
 pub use Rattle.canonical_form.specs.EndsAndSides.{changed_both, ends_among, keys_at, node_among, nodes_at, polygon_among, polygons_at}
 pub use Rattle.canonical_form.specs.EndsAndSides.{side_among, sides_among}
 pub use Rattle.county_chart.specs.ChartWords.{ends_of, sides_of}
@@ -46,8 +46,7 @@ pub use Rattle.county_chart.specs.{BodyOrder.name_body_cmp, Renumbering.side_of}
 pub use Rattle.ordered_lists.proofs.Common.{Err, IfOk, Ok, Result, enumerate_from, get_or-set_other, get_or-set_same, items_from_collect}
 pub use Rattle.ordered_lists.proofs.Common.{length-set, lists_total, ◌≢◌}
 pub use Rattle.ordered_lists.proofs.{ByKey.KeyedLists.in_order-filter, Lists.AtPlaces.all_at_places, Lists.Reordered.all_permuted}
-pub use Rattle.tl_layout.proofs.Common.{body_1_texts, drop_more, eqb, joined}
-pub use Rattle.tl_layout.specs.Turned.{body_towards}
+pub use Rattle.tl_layout.proofs.Common.{drop_more, eqb, joined}
 pub use Rattle.arranged_county.specs.ContentItems.{AgreeOn, AreClasses, class_after, classed_place, classes_along, landmark_bodies_cmp}
 pub use Rattle.arranged_county.specs.ContentItems.{name_content_cmp}
 pub use Rattle.arranged_county.specs.LandmarkItems.{AreSortedLandmarks, classed_landmark_cmp, landmark_place_cmp, lands_at, link_under}

@@ -25,7 +25,6 @@ fn number_all(alloc: Global, olds: &[u64]) -> Result<Vec<(u64, u64)>, AllocError
         .collect(alloc)
 }
 
-/// The TLIDs of these directed chains.
 fn tlids_of<C: Chart>(
     alloc: Global,
     chart: &C,
@@ -38,20 +37,6 @@ fn tlids_of<C: Chart>(
         .iter()
         .filter_map(|directed| chart.tlid_at(directed.place as usize))
         .collect(alloc)
-}
-
-/// The TLIDs of these directed chains, each with the new one.
-fn chain_pairs<C: Chart>(
-    alloc: Global,
-    chart: &C,
-    arrangement: &[DirectedChain],
-) -> Result<Vec<(u64, u64)>, AllocError>
-    requires { HasChainsOf (C.county chart.now) arrangement.now }
-    ensures { IfOk result (λ pairs. pairs.items ≡ numbered (arranged_tlids (arrangement_of (C.county chart.now) arrangement.now))) }
-{
-    let tlids = tlids_of(alloc, chart, arrangement)?;
-    let pairs = number_all(alloc, &tlids)?;
-    Ok(pairs)
 }
 
 /// The TLIDs of the chains that the arrangement turns.
@@ -142,7 +127,8 @@ impl<C: Chart, S: Evidence> Arranged<C, S> {
         ensures turned { IfOk result (λ stated. stated.1.items ≡
             (renaming_of (C.county self.now.chart) (arrangement_of (C.county self.now.chart) self.now.arrangement.items)).turned) }
     {
-        let chains = chain_pairs(alloc, &self.chart, &self.arrangement)?;
+        let tlids = tlids_of(alloc, &self.chart, &self.arrangement)?;
+        let chains = number_all(alloc, &tlids)?;
         let turned = turned_chains(alloc, &self.chart, &self.arrangement)?;
         Ok((chains, turned))
     }

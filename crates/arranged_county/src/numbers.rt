@@ -162,7 +162,6 @@ fn is_free(marks: &[u32], slot: usize) -> bool
     }
 }
 
-/// Whether this key is at a place.
 #[inline(always)]
 pub(crate) fn is_at<K: Key>(keys: &[K], place: usize, key: K) -> bool
     ensures { IsTrue result ↔ (slice_get keys.now place ≡ Some key) }

@@ -53,7 +53,6 @@ impl<K: Key + Hash> OtherPlaces<K> {
         }
     }
 
-    /// Puts the place of a key.
     pub(crate) fn insert(&mut self, key: K, place: usize) -> Result<(), AllocError>
         ensures stated { OnOk result (found_by_either (found_in_order K.cmp self.new.many) (found_by_hash K.eq self.new.few) key ≡ Some place) }
         ensures apart { (other : K) → (other ≡ key → ⊥)

@@ -10,7 +10,6 @@ ghost use Rattle.canonical_form.specs.{Arrangement.under_cenid, Growth.numbered}
 use crate::numbers::Interner;
 use county_chart::PolygonKey;
 
-/// The new LAND of a landmark.
 pub(crate) fn new_land(lands: &Interner<u64>, land: u64) -> u64
     ensures image { result ≡ image nat_cmp (numbered lands.now) land }
     ensures in_range { IsNumber 10 land → length lands.now < 10 ^ 10 → IsNumber 10 result }

@@ -1,14 +1,15 @@
 -- Links gathered landmark by landmark, and counted LAND by LAND.
 use Rattle.arranged_county.proofs.Common.{Bool, IsPermutation-sym, apart-permutation, apart_from_sorted, filter-filtered, in_order-in_order}
-use Rattle.arranged_county.proofs.Common.{County, Fields8, Greater, IsTrue, Option, filter, length, links_at, ltb-true, nat_cmp, nat_keys}
-use Rattle.arranged_county.proofs.Common.{Equal, Known, List, None, Some, arith, false, is_gt, lands, nat_le, ranked, refl, subst, times, ℕ}
-use Rattle.arranged_county.proofs.Common.{IsCounty, Less, Ordering, flat_map, in_order, lands_at, link_cmp, link_keys, slice_get, contains}
+use Rattle.arranged_county.proofs.Common.{County, Fields8, IsTrue, Option, filter, length, links_at, ltb-true, nat_cmp, nat_keys}
+use Rattle.arranged_county.proofs.Common.{Known, List, None, Some, arith, false, is_gt, lands, nat_le, refl, subst, times, ℕ}
+use Rattle.arranged_county.proofs.Common.{IsCounty, flat_map, in_order, lands_at, link_cmp, link_keys, slice_get, contains}
 use Rattle.arranged_county.proofs.Common.{IsInOrder, ap₂, eight_land, filter_map, leb_tells, length-map, links_with, map-append, true≢false}
 use Rattle.arranged_county.proofs.Common.{IsPermutation, all_at_places, append-nil, append_assoc, cons_option, links_up_to, range_with_len}
 use Rattle.arranged_county.proofs.Common.{IsPermutation-map, IsPermutation-trans, all_weaker, in_order-is_permutation, in_order-permutation}
 use Rattle.arranged_county.proofs.Common.{[], ap, inl, inr, map, suc, sym, true, zero, ◌++◌, ◌+◌, ◌-◌, ◌<◌, ◌∙◌, ◌∷◌, ◌≡◌, ◌≤◌, ◌⊎◌}
-use Rattle.canonical_form.proofs.Common.{MatchOrdering, filter-agree, groups-permutation, known-permutation_to, not, of_number, ◌&&◌}
+use Rattle.canonical_form.proofs.Common.{filter-agree, groups-permutation, known-permutation_to, not, of_number, ◌&&◌}
 use Rattle.std.proofs.lemmas.List.Filters.{length-filter_both}
+use Rattle.std.proofs.lemmas.Bool.Decides.{nat_tests}
 
 -- one more piece
 piece_more : {Y : Type 0} (f : ℕ → List Y) (a n : ℕ) → flat_map f (range_with_len a (suc n)) ≡ flat_map f (range_with_len a n) ++ f (a + n)
@@ -85,16 +86,7 @@ module _ (county : County) (is : IsCounty county) (f : Fields8 → Fields8) (pla
 
 -- tests
 above_or_not : (a b : ℕ) → is_gt (nat_cmp a b) ≡ not (nat_le a b)
-above_or_not a b = go (leb_tells a b) (nat_cmp a b) (ranked a b (nat_cmp a b) refl)
-  where
-    go : ((nat_le a b ≡ true) × (a ≤ b)) ⊎ ((nat_le a b ≡ false) × (b < a)) → (o : Ordering) → MatchOrdering o (a < b) (a ≡ b) (b < a)
-        → is_gt o ≡ not (nat_le a b)
-    go (inl p) Less m = sym (ap not p.0)
-    go (inl p) Equal m = sym (ap not p.0)
-    go (inl p) Greater m = absurd (let low = p.1 in omega (arith, low, m))
-    go (inr p) Less m = absurd (let high = p.1 in omega (arith, high, m))
-    go (inr p) Equal m = absurd (let high = p.1 in omega (arith, high, m))
-    go (inr p) Greater m = sym (ap not p.0)
+above_or_not a b = grind (arith, nat_tests)
 
 filter_twice : {X : Type 0} (p q : X → Bool) → ((x : X) → p x ≡ true → q x ≡ true) → (xs : List X) → filter p (filter q xs) ≡ filter p xs
 filter_twice p q h xs = filter-filtered q p xs ∙ filter-agree (λ x. q x && p x) p (λ x. both (q x) (p x) (h x)) xs

@@ -1,27 +1,29 @@
 -- Landmarks sorted by their bodies, their links and their places are in their new order.
-use Rattle.arranged_county.proofs.Common.{AllByRecursion, AreWhole, arrangement_of, in_order-in_order, landmark_body_cmp, polygons_in_order}
-use Rattle.arranged_county.proofs.Common.{AreClasses, Arrangement, IsTrue, among_known, arranged_by, cons_option, lists_total, up_to-strict}
+use Rattle.arranged_county.proofs.Common.{AreWhole, arrangement_of, in_order-in_order, landmark_body_cmp, polygons_in_order}
+use Rattle.arranged_county.proofs.Common.{AreClasses, Arrangement, among_known, arranged_by, lists_total, up_to-strict}
 use Rattle.arranged_county.proofs.Common.{AreReadAt, IsTotalOrder, in_order-map, nat_cmp_total, ordering_then, slice_get-map, sorted_places}
 use Rattle.arranged_county.proofs.Common.{AreSortedLandmarks, has_repeat-apart, landmark_bodies_cmp, landmark_place_cmp, landmarks_in_order}
 use Rattle.arranged_county.proofs.Common.{Body7, DirectedChain, IsPermutation, classed_place, link_part_cmp, numbered_links, range_with_len}
 use Rattle.arranged_county.proofs.Common.{County, IsPermutation-trans, classed_landmark_cmp, in_order-is_permutation, length-range_with_len}
-use Rattle.arranged_county.proofs.Common.{Fields8, IsApart, all_map, in_order, lands_at, link_cmp, ltb-true, nat_keys, numbered, on_total}
-use Rattle.arranged_county.proofs.Common.{IsCounty, Ordering, arranges, link_part, own_links, slice_cmp, slice_get, contains, unwrap_or}
+use Rattle.arranged_county.proofs.Common.{Fields8, IsApart, all_map, in_order, lands_at, link_cmp, nat_keys, numbered, on_total}
+use Rattle.arranged_county.proofs.Common.{IsCounty, Ordering, arranges, link_part, own_links, slice_cmp, slice_get, unwrap_or}
 use Rattle.arranged_county.proofs.Common.{IsInOrder, Known, among-get, bodies_at, link_keys, links_with, option_map, then_assoc}
 use Rattle.arranged_county.proofs.Common.{IsPermutation-map, IsPermutation-sym, apart-permutation, apart_from_sorted, length_permutation, ℕ}
-use Rattle.arranged_county.proofs.Common.{List, Option, arith, false, image, key_cmp, lands, length, map-map, nat_cmp, subst, times, up_to}
-use Rattle.arranged_county.proofs.Common.{None, Some, [], ap, ap₂, map, on, refl, suc, sym, ◌∙◌, ◌∷◌, ◌≡◌, ◌≤◌}
-use Rattle.arranged_county.proofs.Common.{PolygonKey, all_weaker, eight_land, entry_keys, filter_map, has_repeat, length-map, link_under}
+use Rattle.arranged_county.proofs.Common.{List, Option, arith, false, image, key_cmp, lands, length, map-map, nat_cmp, subst, up_to}
+use Rattle.arranged_county.proofs.Common.{Some, [], ap, ap₂, map, on, refl, sym, ◌∙◌, ◌∷◌, ◌≡◌, ◌≤◌}
+use Rattle.arranged_county.proofs.Common.{PolygonKey, eight_land, entry_keys, filter_map, has_repeat, length-map, link_under}
 use Rattle.std.proofs.lemmas.Cmp.{then_total}
 use Rattle.arranged_county.proofs.Lists.Classes.{agree_in_order, agree_permuted, agree_weaker, classes_all}
 use Rattle.arranged_county.proofs.Views.ViewTables.{by_land, keys_paired}
 use Rattle.arranged_county.proofs.{Landmarks.LandmarkLinks.listed, Names.NameOrder.filter_map_all, Polygons.PolygonOrder.read_mapped}
-use Rattle.canonical_form.proofs.Common.{image-injective, in_order-equal, landmark_key, landmark_key_cmp, link_key, link_part_keys}
+use Rattle.canonical_form.proofs.Common.{image-injective, landmark_key, landmark_key_cmp, link_key, link_part_keys}
 use Rattle.canonical_form.proofs.Common.{links_of, links_relinked, new_keys, relinked}
 use Rattle.canonical_form.proofs.Arrangements.Carrying.{images-numbered, landmarks_permutation, lands_renamed, links_arranged}
 use Rattle.canonical_form.proofs.Arrangements.Placed.{lefts-numbered, rights-numbered}
-use Rattle.canonical_form.proofs.Unique.SameLandmarks.{count-permutation, count-relanded, is_link, landmark_key_keys, links_of-in_order}
-use Rattle.canonical_form.proofs.Unique.SameLandmarks.{relanded, times-links}
+use Rattle.canonical_form.proofs.Unique.SameLandmarks.{landmark_key_keys}
+use Rattle.canonical_form.proofs.Unique.SameLandmarks.{relanded}
+use Rattle.canonical_form.proofs.Unique.SameLandmarks.{lands_known, links_kept}
+use Rattle.std.proofs.lemmas.Grind.{common_steps}
 
 -- lists compared by images of their elements
 pub cmp_mapped : {X K : Type 0} (f : X → K) (cmp : K → K → Ordering) (xs ys : List X)
@@ -80,11 +82,7 @@ places_counted county places p = length_permutation (range_with_len 0 (length co
 -- there are at most as many LANDs as places
 pub few_lands : {X Y : Type 0} (h : X → Option Y) (xs : List X) → length (filter_map h xs) ≤ length xs
 few_lands h [] = omega arith
-few_lands h (x ∷ xs) = go (h x) (few_lands h xs)
-  where
-    go : (o : Option _) → length (filter_map h xs) ≤ length xs → length (cons_option o (filter_map h xs)) ≤ suc (length xs)
-    go None l = omega (arith, l)
-    go (Some y) l = omega (arith, l)
+few_lands h (x ∷ xs) = grind (arith, common_steps, few_lands h xs)
 
 -- links under new numbers are in the order of their LANDs
 pub numbered_by_land : (county : County) (polygons : List PolygonKey) (numbers : List ℕ)
@@ -117,11 +115,6 @@ module _ (county : County) (arrangement : List DirectedChain) (is : IsCounty cou
   under_old = ap (λ ks. map (link_under ks (lands county)) county.links) stated
       ∙ sym (map-map (relanded f_old) (relinked (new_keys county order)) county.links)
 
-  relinks_known : AllByRecursion (λ (l : Fields8). Known nat_cmp (lands county) l.land) relinks
-  relinks_known = all_map (λ (l : Fields8). Known nat_cmp (lands county) l.land) (relinked (new_keys county order)) county.links
-      (all_weaker (λ (l : Fields8). IsTrue (contains nat_cmp l.land (lands county))) (λ l. Known nat_cmp (lands county) l.land)
-      (λ l t. ltb-true 0 (times nat_cmp l.land (lands county)) t) county.links is.closed.link_lands)
-
   module _ (links : List Fields8) (sorted : links ≡ in_order link_cmp (map (link_under polygons (lands county)) county.links)) where
     links_ordered : IsInOrder link_cmp links
     links_ordered = subst (IsInOrder link_cmp) (sym sorted)
@@ -135,14 +128,9 @@ module _ (county : County) (arrangement : List DirectedChain) (is : IsCounty cou
         (in_order-is_permutation link_cmp (map (link_under polygons (lands county)) county.links))))
 
     own_kept : (n : ℕ) → Known nat_cmp (lands county) n → links_of links (f_old n) ≡ links_of (links_relinked county order) n
-    own_kept n d = in_order-equal link_part_keys (links_of links (f_old n)) (links_of (links_relinked county order) n)
-        (links_of-in_order links links_ordered (f_old n))
-        (links_of-in_order (links_relinked county order) (in_order-in_order link_keys.total relinks) n)
-        (λ k. times-links links (f_old n) k
-        ∙ sym (count-permutation (is_link (f_old n) k) (map (relanded f_old) relinks) links links_permuted)
-        ∙ count-relanded f_old (Known nat_cmp (lands county)) old_injective relinks relinks_known n d k
-        ∙ sym (count-permutation (is_link n k) (links_relinked county order) relinks (in_order-is_permutation link_cmp relinks))
-        ∙ sym (times-links (links_relinked county order) n k))
+    own_kept = links_kept f_old (Known nat_cmp (lands county)) old_injective relinks (links_relinked county order) links
+        (all_map (λ (l : Fields8). Known nat_cmp (lands county) l.land) (relinked (new_keys county order)) county.links (lands_known county is.closed))
+        (in_order-in_order link_keys.total relinks) (in_order-is_permutation link_cmp relinks) links_ordered links_permuted
 
     land_count : length county.landmarks ≡ length (lands county)
     land_count = sym (length-map county.landmarks (λ (d : ℕ × List Body7). d.0))

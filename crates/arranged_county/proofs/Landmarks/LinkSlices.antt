@@ -4,6 +4,8 @@ use Rattle.arranged_county.proofs.Common.{Fields8, IsInOrder, at_most, eqb_tells
 use Rattle.arranged_county.proofs.Common.{List, ap₂, arith, cond, drop, false, is_gt, length, nat_le, refl, subst, take, true, up_to, ◌==◌}
 use Rattle.arranged_county.proofs.Common.{[], ap, eqb, inl, inr, on, suc, sym, ℕ, ◌+◌, ◌-◌, ◌<◌, ◌∙◌, ◌∷◌, ◌≡◌, ◌≢◌, ◌≤◌, ◌⊎◌}
 use Rattle.arranged_county.proofs.Views.ViewNumbers.{get_up_to}
+use Rattle.std.proofs.lemmas.Bool.Decides.{nat_tests}
+use Rattle.std.proofs.lemmas.Grind.{common_steps}
 
 module _ {X : Type 0} (number : X → ℕ) where
   -- how many elements have a number up to this one
@@ -12,13 +14,7 @@ module _ {X : Type 0} (number : X → ℕ) where
 
   none_up : (n : ℕ) (xs : List X) → AllByRecursion (λ x. n < number x) xs → upto n xs ≡ 0
   none_up n [] h = refl
-  none_up n (x ∷ xs) h = go (leb_tells (number x) n) (none_up n xs h.1)
-    where
-      go : ((nat_le (number x) n ≡ true) × (number x ≤ n)) ⊎ ((nat_le (number x) n ≡ false) × (n < number x)) → upto n xs ≡ 0
-          → upto n (x ∷ xs) ≡ 0
-      go (inl t) ih = absurd (let low = t.1 in let high = h.0 in omega (arith, low, high))
-      go (inr f) ih =
-          ap (λ b. length (cond b (x ∷ filter (λ y. nat_le (number y) n) xs) (filter (λ y. nat_le (number y) n) xs))) f.0 ∙ ih
+  none_up n (x ∷ xs) h = let rest = none_up n xs h.1 in let more = h.0 in grind (arith, common_steps, nat_tests, rest, more)
 
   take_less : (k : ℕ) (ys : List X) → k ≡ 0 → take k ys ≡ []
   take_less k ys e = ap (λ j. take j ys) e
@@ -85,30 +81,13 @@ module _ {X : Type 0} (number : X → ℕ) where
       cut n x xs (all_weaker (λ y. is_gt (nat_cmp (number x) (number y)) ≡ false) (λ y. number x ≤ number y)
       (λ y e. at_most (number x) (number y) e) xs h.0) (between n xs h.1)
 
-  counted : (m : ℕ) (x : X) (xs : List X) (b : Bool) → nat_le (number x) m ≡ b → upto m (x ∷ xs) ≡ length
-      (cond b (x ∷ filter (λ y. nat_le (number y) m) xs) (filter (λ y. nat_le (number y) m) xs))
-  counted m x xs b e = ap (λ c. length (cond c (x ∷ filter (λ y. nat_le (number y) m) xs) (filter (λ y. nat_le (number y) m) xs))) e
-
   pub counts_rise : (n : ℕ) (xs : List X) → upto n xs ≤ upto (suc n) xs
   counts_rise n [] = omega arith
-  counts_rise n (x ∷ xs) = go (leb_tells (number x) n) (leb_tells (number x) (suc n)) (counts_rise n xs)
-    where
-      go : ((nat_le (number x) n ≡ true) × (number x ≤ n)) ⊎ ((nat_le (number x) n ≡ false) × (n < number x))
-          → ((nat_le (number x) (suc n) ≡ true) × (number x ≤ suc n)) ⊎ ((nat_le (number x) (suc n) ≡ false) × (suc n < number x))
-          → upto n xs ≤ upto (suc n) xs → upto n (x ∷ xs) ≤ upto (suc n) (x ∷ xs)
-      go (inl p) (inl q) ih = omega (arith, ih, counted n x xs true p.0, counted (suc n) x xs true q.0)
-      go (inl p) (inr q) ih = absurd (let low = p.1 in let high = q.1 in omega (arith, low, high))
-      go (inr p) (inl q) ih = omega (arith, ih, counted n x xs false p.0, counted (suc n) x xs true q.0)
-      go (inr p) (inr q) ih = omega (arith, ih, counted n x xs false p.0, counted (suc n) x xs false q.0)
+  counts_rise n (x ∷ xs) = grind (arith, common_steps, nat_tests, counts_rise n xs)
 
   pub counts_within : (n : ℕ) (xs : List X) → upto n xs ≤ length xs
   counts_within n [] = omega arith
-  counts_within n (x ∷ xs) = go (leb_tells (number x) n) (counts_within n xs)
-    where
-      go : ((nat_le (number x) n ≡ true) × (number x ≤ n)) ⊎ ((nat_le (number x) n ≡ false) × (n < number x)) → upto n xs ≤ length xs
-          → upto n (x ∷ xs) ≤ suc (length xs)
-      go (inl p) ih = omega (arith, ih, counted n x xs true p.0)
-      go (inr p) ih = omega (arith, ih, counted n x xs false p.0)
+  counts_within n (x ∷ xs) = grind (arith, common_steps, counts_within n xs)
 
 -- the bounds of the links of the landmark at a place
 module _ (links : List Fields8) (bounds : List ℕ) (stated : bounds ≡ link_bounds links (length bounds - 1)) (place : ℕ)

@@ -2,19 +2,15 @@
 use Rattle.arranged_county.proofs.Common.{Equal, Option, Some, arith, get_or, is_eq, key_cmp, keys_at, length, nat_cmp, position, side_of}
 use Rattle.arranged_county.proofs.Common.{IsKeyOrder, Ordering, PolygonKey, PolygonSide, drop-set-lt, get_dropped, number_seen, seen_within}
 use Rattle.arranged_county.proofs.Common.{IsTotalOrder, List, changed_both, drop_more_same, first_seen_after, one_more_taken, polygon_among}
-use Rattle.arranged_county.proofs.Common.{[], ap, drop, map, set, suc, sym, take, zero, ℕ, ◌++◌, ◌+◌, ◌<◌, ◌^◌, ◌∙◌, ◌∷◌, ◌≡◌, ◌≤◌}
+use Rattle.arranged_county.proofs.Common.{[], ap, drop, map, set, sym, take, ℕ, ◌++◌, ◌+◌, ◌<◌, ◌^◌, ◌∙◌, ◌∷◌, ◌≡◌, ◌≤◌}
 use Rattle.arranged_county.proofs.Common.{drop_more, flat_map, key_keys, key_seen, map-append, nat_keys, node_among, side_among, slice_get}
 use Rattle.arranged_county.proofs.{Numbering.SeenLists.seen_append, Numbering.SeenPlaces.seen_fewer, Numbering.SeenPlaces.seen_keeps}
 use Rattle.canonical_form.proofs.Common.{key_on, key_under}
+use Rattle.canonical_form.proofs.{Common.get_or_from_slice_get, Lists.ListPlaces.none_past}
 
 -- the element at a place comes before those after it
-next_dropped : {X : Type 0} (xs : List X) (i : ℕ) (x : X) → Some x ≡ slice_get xs i → drop i xs ≡ x ∷ drop (suc i) xs
-next_dropped [] i x e = cc
-next_dropped (y ∷ ys) zero x e = let same : y ≡ x = cc in ap (λ z. z ∷ ys) same
-next_dropped (y ∷ ys) (suc i) x e = next_dropped ys i x e
-
 drop_there : {X : Type 0} (xs : List X) (i : ℕ) (x : X) → Some x ≡ slice_get xs i → drop i xs ≡ x ∷ drop (i + 1) xs
-drop_there xs i x e = next_dropped xs i x e ∙ ap (λ j. x ∷ drop j xs) (let t : suc i ≡ i + 1 = omega arith in t)
+drop_there xs i x e = drop_more xs i x (none_past xs i x (sym e)) ∙ ap (λ y. y ∷ drop (i + 1) xs) (get_or_from_slice_get xs i x x (sym e))
 
 -- Items of a list are replaced by others, one by one; the remaining ones are unchanged.
 module _ {X : Type 0} (now old : List X) (i : ℕ) (left : drop i now ≡ drop i old) where

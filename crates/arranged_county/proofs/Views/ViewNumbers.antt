@@ -1,8 +1,8 @@
 -- The numbers from 1.
-use Rattle.arranged_county.proofs.Common.{None, Some, all_among, among-get, among_known, ap, arith, false, false_from_ne_true, inl, inr}
-use Rattle.arranged_county.proofs.Common.{length-range_with_len, lt-ltb, ltb-true, nat_cmp, nat_keys, range_with_len, slice_get, contains}
+use Rattle.arranged_county.proofs.Common.{Some, all_among, among-get, among_known, ap, arith, false, false_from_ne_true, inl, inr}
+use Rattle.arranged_county.proofs.Common.{lt-ltb, ltb-true, nat_cmp, nat_keys, range_with_len, slice_get, contains}
 use Rattle.arranged_county.proofs.Common.{suc, sym, times, true, up_to, zero, ℕ, ◌+◌, ◌-◌, ◌<◌, ◌∙◌, ◌≡◌, ◌≤◌, ◌⊎◌}
-use Rattle.canonical_form.proofs.Common.{known_is_among, range_bounds, slice_get_past}
+use Rattle.canonical_form.proofs.Common.{known_is_among, range_bounds}
 
 get_range : (a n p : ℕ) → p < n → slice_get (range_with_len a n) p ≡ Some (a + p)
 get_range a zero p h = absurd (omega (arith, h))
@@ -11,9 +11,6 @@ get_range a (suc n) (suc p) h = get_range (a + 1) n p (omega (arith, h)) ∙ ap 
 
 pub get_up_to : (n p : ℕ) → p < n → slice_get (up_to n) p ≡ Some (p + 1)
 get_up_to n p h = get_range 1 n p h ∙ ap Some (let t : 1 + p ≡ p + 1 = omega arith in t)
-
-pub none_up_to : (n p : ℕ) → n ≤ p → slice_get (up_to n) p ≡ None
-none_up_to n p h = slice_get_past (up_to n) p (let len = length-range_with_len 1 n in omega (arith, len, h))
 
 pub known_up_to : (n k : ℕ) → 0 < k → k ≤ n → contains nat_cmp k (up_to n) ≡ true
 known_up_to n k low high =

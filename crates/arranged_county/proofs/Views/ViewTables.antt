@@ -1,25 +1,18 @@
 -- Nodes, names, polygons and landmarks of a county in an arrangement, read from its tables.
 use Rattle.arranged_county.proofs.Common.{AreReadAt, distinct-in_order, in_order-permutation, landmarks_in_order, length-map-range_with_len}
-use Rattle.arranged_county.proofs.Common.{AreWhole, Fields8, IsCounty, Ordering, arranges, link_cmp, links_at, map-map, nat_keys, numbered}
+use Rattle.arranged_county.proofs.Common.{AreWhole, Fields8, IsCounty, arranges, link_cmp, links_at, map-map, nat_keys, numbered}
 use Rattle.arranged_county.proofs.Common.{Arrangement, LandmarkTables, MatchesLandmarks, arrangement_of, in_order-weaker, polygons_in_order}
 use Rattle.arranged_county.proofs.Common.{Body5, DirectedChain, IsPermutation, link_part_cmp, names_in_order, nodes_in_order, slice_get-map}
 use Rattle.arranged_county.proofs.Common.{Body7, IsInOrder, link_part, links_with, option_map, read_there, slice_get, then-first, unwrap_or}
-use Rattle.arranged_county.proofs.Common.{County, Less, List, Option, ap₂, arith, false, feats, is_gt, lands, length, nat_cmp, subst, up_to}
+use Rattle.arranged_county.proofs.Common.{County, List, Option, ap₂, arith, feats, lands, length, nat_cmp, subst, up_to}
 use Rattle.arranged_county.proofs.Common.{MatchesNames, [], arranged_by, entry_values, link_bounds, links_up_to, read_nowhere, up_to-strict}
-use Rattle.arranged_county.proofs.Common.{NameTables, PolygonKey, all_weaker, eight_land, length-map, read_length, renaming_of, under_cenid}
+use Rattle.arranged_county.proofs.Common.{NameTables, PolygonKey, eight_land, length-map, read_length, renaming_of, under_cenid}
 use Rattle.arranged_county.proofs.Common.{None, Some, ap, map, on, suc, sym, ℕ, ◌+◌, ◌-◌, ◌∙◌, ◌∷◌, ◌≡◌}
 use Rattle.canonical_form.proofs.Common.{carried_landmark, carried_name, nodes, nodes_along}
 use Rattle.canonical_form.proofs.Arrangements.Carrying.{feats_arranged, landmarks_arranged, lands_arranged, names_arranged, names_renamed}
 use Rattle.canonical_form.proofs.Arrangements.Carrying.{node_rights, nodes_renamed, paired_nodes, polygons_renamed}
 use Rattle.arranged_county.proofs.Common.{slice_get_within, zero, ◌<◌}
-use Rattle.std.specs.List.Sorted.{IsStrictlySortedBy}
-
--- a strictly ascending list is in order
-pub order_from_strict : {K : Type 0} (cmp : K → K → Ordering) (ks : List K) → IsStrictlySortedBy cmp ks → IsInOrder cmp ks
-unfolding IsStrictlySortedBy
-order_from_strict cmp [] h = tt
-order_from_strict cmp (k ∷ ks) h =
-    (all_weaker (λ j. cmp k j ≡ Less) (λ j. is_gt (cmp k j) ≡ false) (λ j e. ap is_gt e) ks h.0, order_from_strict cmp ks h.1)
+use Rattle.canonical_form.proofs.Common.{in_order-strict}
 
 -- links in order are in the order of their LANDs
 pub by_land : (links : List Fields8) → IsInOrder link_cmp links → IsInOrder (on eight_land nat_cmp) links
@@ -66,7 +59,7 @@ module _ (county : County) (arrangement : List DirectedChain) (is : IsCounty cou
       subst (λ ks. IsPermutation ks (nodes (arranged_by county arrangement)))
       (node_rights county order is (arranges county arrangement is whole)) (paired_nodes county order is
       (arranges county arrangement is whole)).right in
-      sym (in_order-permutation nat_keys (up_to n) (nodes (arranged_by county arrangement)) (order_from_strict nat_cmp (up_to n) (up_to-strict n))
+      sym (in_order-permutation nat_keys (up_to n) (nodes (arranged_by county arrangement)) (in_order-strict nat_cmp (up_to n) (up_to-strict n))
       (distinct-in_order nat_keys (nodes_along (arranged_by county arrangement).chains)) permuted) ∙ ap (λ ks. up_to (length ks)) (sym e)
 
   -- the tables have the renaming's pairs of numbers

@@ -1,4 +1,4 @@
-use Rattle.arranged_county.proofs.Common.{PolygonKey, Option, ap, arith, arranged_by, entry_values, length, length-map, read_length, slice_get, ◌∙◌}
+use Rattle.arranged_county.proofs.Common.{ap, arith, arranged_by, entry_values, length, length-map, read_length, slice_get, ◌∙◌}
 use Rattle.arranged_county.proofs.Views.ViewTables.{read_at, read_within}
 use Rattle.arranged_county.proofs.arranged_chart.ArrangedChart.polygon_body_there.Goals as goal
 

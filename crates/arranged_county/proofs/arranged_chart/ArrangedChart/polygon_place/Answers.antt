@@ -1,8 +1,8 @@
 use Rattle.arranged_county.proofs.Common.{sym, ◌∙◌, subst, IsInOrder, key_cmp}
-use Rattle.arranged_county.proofs.Views.ViewTables.{order_from_strict}
+use Rattle.canonical_form.proofs.Common.{in_order-strict}
 use Rattle.arranged_county.proofs.arranged_chart.ArrangedChart.polygon_place.Goals as goal
 
 pub place_of-requires : goal.place_of-requires
 place_of-requires g c =
     subst (IsInOrder key_cmp) (sym (c.as_slice.ensures.value ∙ c.args.self.now.polygons_stated.keys))
-    (order_from_strict key_cmp _ c.args.self.now.whole.is_county.ascending.polygons)
+    (in_order-strict key_cmp _ c.args.self.now.whole.is_county.ascending.polygons)
