@@ -7,13 +7,13 @@ pub use Rattle.arranged_county.proofs.Common.{Arrangement, HasChainsOf, IfOk-wea
 pub use Rattle.arranged_county.proofs.Common.{Body5, append_assoc, entry_values, nat_cmp_total, numbered_from, ordering_then, slice_get-map}
 pub use Rattle.arranged_county.proofs.Common.{Body7, all_after, all_among, among-get, bodies_at, by_number, drop_more, link_part, same_Some}
 pub use Rattle.arranged_county.proofs.Common.{Bool, PolygonKey, all_weaker, cons_option, read_length, renaming_of, tied_itself, under_cenid}
-pub use Rattle.arranged_county.proofs.Common.{Chain, Equal, IfOk, Known, arith, false, feats, image, length, lt-ltb, nat_le, placed, ranked}
+pub use Rattle.arranged_county.proofs.Common.{Chain, Equal, IfOk, Known, arith, false, feats, image, length, lt-ltb, nat_le, placed}
 pub use Rattle.arranged_county.proofs.Common.{County, IfSome, IsTrue, Option, Result, chains, filter, get_or, inr, joined, tlid_at, use_cmp}
 pub use Rattle.arranged_county.proofs.Common.{DirectedChain, option_flatten, option_to_list, polygons_along, range_with_len, unknown_at_end}
 pub use Rattle.arranged_county.proofs.Common.{Err, filter-filtered, first_seen_after, ordering_reverse, slice_get_within, whole_arrangement}
 pub use Rattle.arranged_county.proofs.Common.{Fields8, Greater, IsApart, all_map, inl, is_some, key_cmp, map-map, nat_cmp, rank_of, side_of}
 pub use Rattle.arranged_county.proofs.Common.{HasAtMost, append-nil, entry_keys, few_chains, filter_map, first_seen, length-map, links_with}
-pub use Rattle.arranged_county.proofs.Common.{IsInOrder, map-append, option_cmp, option_map, places_fit, then-first, then_assoc, true≢false}
+pub use Rattle.arranged_county.proofs.Common.{IsInOrder, map-append, option_cmp, option_map, places_fit, then-first, then_assoc}
 pub use Rattle.arranged_county.proofs.Common.{IsKeyOrder, IsPermutation-trans, false_from_ne_true, landmarks_in_order, rights-numbered_from}
 pub use Rattle.arranged_county.proofs.Common.{IsPermutation, NamesEachOnce, Use, length-append, link_part_cmp, name_body_cmp, name_key_keys}
 pub use Rattle.arranged_county.proofs.Common.{Less, List, None, Some, cond, is_eq, is_gt, is_lt, lands, rules, subst, times, tlids, up_to}
@@ -33,7 +33,7 @@ pub use Rattle.record_groups.proofs.Common.{Coordinates, packed_fours, packed_si
 pub use Rattle.record_groups.proofs.Common.{FitsRecord, chains_arranged, length-in_order, type_1_by_chain, type_2_by_chain, type_4_by_chain}
 pub use Rattle.record_groups.proofs.Common.{Five, IsNumber, all_left, all_take, chain_at, eqb-true, feats_of, group_at, p_polyid, turned_if}
 pub use Rattle.record_groups.proofs.Common.{Four, P, TypeI, TypeP, codes, upto, ◌&&◌, ◌*◌, ◌/◌}
-pub use Rattle.record_groups.proofs.Common.{I, MatchOrdering, at_all_places, exact_unsigned, packed_by_type, slice_get_past, type_5_by_name}
+pub use Rattle.record_groups.proofs.Common.{I, exact_unsigned, packed_by_type, slice_get_past, type_5_by_name}
 pub use Rattle.record_groups.proofs.Common.{IsNumberOrNone, IsWithinLimits, all-in_order, type_6_by_chain, type_8_together, type_i_by_chain}
 pub use Rattle.record_groups.proofs.Common.{One, layout_laws, number_text, packed-fits, packed_body, packed_five, packed_twos, types_8_to_p}
 pub use Rattle.record_groups.proofs.Common.{Six, all_unmap, at_places, in_pieces, ltb-false, nat_cmp_is, packed_one, reading_of, renumbered}
@@ -63,7 +63,7 @@ pub use Rattle.canonical_form.proofs.Common.{AllContained, Arranges, FitsLandmar
 pub use Rattle.canonical_form.proofs.Common.{Among, choices, chosen, differ, insert, key_on, or_left, relinked, running, take-map, times-no}
 pub use Rattle.canonical_form.proofs.Common.{Carries, from_permutation, in_order-strict, landmark_key_cmp, numbered_choice, option_and_then}
 pub use Rattle.canonical_form.proofs.Common.{FieldsOf, FitsLink, ListsFit, all_both, all_uses, arranged, times-yes, to_filter, turned_by}
-pub use Rattle.canonical_form.proofs.Common.{FitsChain, IsPermutation-refl, get_or_from_slice_get, known-permutation_to, landmark_body_keys}
+pub use Rattle.canonical_form.proofs.Common.{FitsChain, IsPermutation-refl, get_or_from_slice_get, landmark_body_keys}
 pub use Rattle.canonical_form.proofs.Common.{FitsNumbers, FitsPolygon, IsAscending, points_along, range_bounds, running-same, strict-unmap}
 pub use Rattle.canonical_form.proofs.Common.{IsArranged, carried_name, comes_turned, differ_apart, directed_cmp, entry_points, filter-agree}
 pub use Rattle.canonical_form.proofs.Common.{IsCanonCounty, all_everywhere, all_themselves, among-unpieces, by_type_within, turned_directed}
@@ -78,7 +78,7 @@ pub use Rattle.canonical_form.proofs.Common.{apart-permutation_of, chain_nodes-r
 pub use Rattle.canonical_form.proofs.Common.{apart_tail, by_type_of, bytes_keys, entries_of, filter_all, is_settled, known-here, known-left}
 pub use Rattle.canonical_form.proofs.Common.{carried_landmark, choices_of_shapes, known-permutation, renumbered_polygon, times-permutation}
 pub use Rattle.canonical_form.proofs.Common.{chain_polygons, directed_shape, flat_map_agree, in_order-equal, in_order-unmap, known_is_among}
-pub use Rattle.canonical_form.proofs.Common.{distinct, drop-map, link_key, links_of, list_any, name_key, new_keys, not-true, or_right}
+pub use Rattle.canonical_form.proofs.Common.{distinct, drop-map, link_key, links_of, list_any, name_key, not-true, or_right}
 pub use Rattle.canonical_form.proofs.Common.{filter-append, from_in_order, is_either_way, length-filter, map_agree_all, open_place_at, ◌||◌}
 pub use Rattle.canonical_form.proofs.Common.{image-keeps, known-later, known-right, known_cases, nodes_along, not_greater, open_places}
 pub use Rattle.canonical_form.proofs.Lists.Counting.{entries_equal, less_from, map-equal_all}

@@ -5,4 +5,3 @@ pub mod Landmarks
 pub mod Texts
 pub mod Ties
 pub mod Common
-pub mod Lemmas

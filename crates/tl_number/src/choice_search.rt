@@ -5,23 +5,40 @@
 //! arranged for the next comparison.
 
 ghost use Rattle.std.specs.Prelude.{IfOk, IfSome, None, OnOk, Some, cond, ◌≡◌};
-ghost use Rattle.std.specs.{Ordering.is_gt, declared.cmp.Ordering.TheVariants.Equal};
+ghost use Rattle.std.specs.Ordering.{is_gt};
 ghost use Rattle.tl_number.specs.ChoiceSearch.{IsChosen, LeavesChoices, chosen_county, lesser_choice};
 ghost use Rattle.canonical_form.specs.LeastNumber.{IsLeastBelow, choices_cmp};
 ghost use Rattle.record_groups.specs.TypeOneOrder.{ones_cmp};
+ghost use Rattle.tl_number.specs.AlikeRanges.{AreAlike, AreTied};
 ghost use Rattle.arranged_county.specs.Views.{arranged_county, classed_county};
 ghost use Rattle.county_chart.specs.Choices.{choices};
 
+use crate::alike_ranges::{alike_chains, count_alike};
 use crate::arranged_order::compare_arranged;
 use crate::county_part::Shared;
 use crate::numbered_arrangement::NumberedArrangement;
 use arranged_county::{Arranged, Classes, arrange_in_classes};
-use county_chart::Chart;
+use county_chart::{Chart, DirectedChain};
 use record_groups::compare_ones;
 use std::alloc::{AllocError, Global};
 use std::cmp::Ordering;
 use std::mem::swap;
 use tl_profile::ShapeOrder;
+
+/// Two choices, by their numbers, that have the same records of type 1. Their first `alike` chains have the same ones of type 6.
+#[derive(Clone, Copy, Drop)]
+pub(crate) struct Tie {
+    one: u64,
+    other: u64,
+    alike: usize,
+}
+
+/// A county whose choices are compared: its names and landmarks in classes, and which of its movable chains have the same ranges.
+#[derive(Drop)]
+struct Compared<'s, 'a, C: Chart> {
+    classes: &'s Classes<'a, C>,
+    alike: &'s [(DirectedChain, DirectedChain)],
+}
 
 /// Compares two choices by their records of type 1.
 fn compare_by_type_1<C: Chart>(
@@ -43,7 +60,6 @@ fn compare_by_type_1<C: Chart>(
     )
 }
 
-/// Arranges the choice with this number.
 fn arrange_choice<'a, C: Shared>(
     alloc: Global,
     classes: &Classes<'a, C>,
@@ -64,24 +80,24 @@ fn lesser<V: Drop>(ordering: Ordering, one: V, other: V) -> V
     if ordering.is_gt() { other } else { one }
 }
 
-/// Compares two choices with the same records of type 1. `first` is the first one, arranged. Returns also the lesser one, arranged.
+/// Compares two choices with the same records of type 1. `first` is the first choice, arranged. Returns also the lesser one, arranged.
 fn compare_with_arranged<'a, C: Shared>(
     alloc: Global,
     classes: &Classes<'a, C>,
     shape_order: &ShapeOrder,
     first: Arranged<C>,
-    one: u64,
-    other: u64,
+    tie: Tie,
 ) -> Result<(Ordering, Arranged<C>), AllocError>
     requires known { LeavesChoices (classed_county classes.now) shape_order.now }
-    requires first { arranged_county first ≡ chosen_county (classed_county classes.now) one }
-    requires tied { ones_cmp (classed_county classes.now) one other ≡ Equal }
-    ensures ordering { IfOk result (λ pair. pair.0 ≡ choices_cmp (classed_county classes.now) one other) }
-    ensures lesser { IfOk result (λ pair. arranged_county pair.1 ≡ chosen_county (classed_county classes.now) (lesser_choice (classed_county classes.now) one other)) }
+    requires first { arranged_county first ≡ chosen_county (classed_county classes.now) tie.one }
+    requires tied { AreTied (classed_county classes.now) tie }
+    ensures ordering { IfOk result (λ pair. pair.0 ≡ choices_cmp (classed_county classes.now) tie.one tie.other) }
+    ensures lesser { IfOk result (λ pair. arranged_county pair.1
+        ≡ chosen_county (classed_county classes.now) (lesser_choice (classed_county classes.now) tie.one tie.other)) }
 {
-    match arrange_choice(alloc, classes, shape_order, other) {
+    match arrange_choice(alloc, classes, shape_order, tie.other) {
         Ok(second) => {
-            let ordering = compare_arranged(&first, &second);
+            let ordering = compare_arranged(&first, &second, tie.alike);
             Ok((ordering, lesser(ordering, first, second)))
         }
         Err(error) => {
@@ -123,19 +139,18 @@ fn compare_ties<'a, C: Shared>(
     alloc: Global,
     classes: &Classes<'a, C>,
     shape_order: &ShapeOrder,
-    one: u64,
-    other: u64,
+    tie: Tie,
     arranged: &mut Option<Arranged<C>>,
 ) -> Result<Ordering, AllocError>
     requires known { LeavesChoices (classed_county classes.now) shape_order.now }
-    requires tied { ones_cmp (classed_county classes.now) one other ≡ Equal }
-    requires arranged { IfSome arranged.old (λ view. arranged_county view ≡ chosen_county (classed_county classes.now) one) }
-    ensures ordering { IfOk result (λ ordering. ordering ≡ choices_cmp (classed_county classes.now) one other) }
+    requires tied { AreTied (classed_county classes.now) tie }
+    requires arranged { IfSome arranged.old (λ view. arranged_county view ≡ chosen_county (classed_county classes.now) tie.one) }
+    ensures ordering { IfOk result (λ ordering. ordering ≡ choices_cmp (classed_county classes.now) tie.one tie.other) }
     ensures arranged { OnOk result (IfSome arranged.new
-        (λ view. arranged_county view ≡ chosen_county (classed_county classes.now) (lesser_choice (classed_county classes.now) one other))) }
+        (λ view. arranged_county view ≡ chosen_county (classed_county classes.now) (lesser_choice (classed_county classes.now) tie.one tie.other))) }
 {
-    let first = kept_or_arranged(alloc, classes, shape_order, arranged.take(), one)?;
-    let (ordering, least) = compare_with_arranged(alloc, classes, shape_order, first, one, other)?;
+    let first = kept_or_arranged(alloc, classes, shape_order, arranged.take(), tie.one)?;
+    let (ordering, least) = compare_with_arranged(alloc, classes, shape_order, first, tie)?;
     put(arranged, Some(least));
     Ok(ordering)
 }
@@ -152,29 +167,31 @@ fn forget_greater<V: Drop>(ordering: Ordering, kept: &mut Option<V>)
 /// Compares the texts of two choices. If `arranged` has a county, it's that of the first choice; then it's that of the lesser one.
 fn compare_choices<'a, C: Shared>(
     alloc: Global,
-    classes: &Classes<'a, C>,
+    county: &Compared<'_, 'a, C>,
     shape_order: &ShapeOrder,
     one: &NumberedArrangement,
     other: &NumberedArrangement,
     arranged: &mut Option<Arranged<C>>,
 ) -> Result<Ordering, AllocError>
-    requires known { LeavesChoices (classed_county classes.now) shape_order.now }
+    requires known { LeavesChoices (classed_county county.now.classes.now) shape_order.now }
     requires one { IsChosen shape_order.now one.now }
     requires other { IsChosen shape_order.now other.now }
-    requires arranged { IfSome arranged.old (λ view. arranged_county view ≡ chosen_county (classed_county classes.now) one.now.number) }
-    ensures ordering { IfOk result (λ ordering. ordering ≡ choices_cmp (classed_county classes.now) one.now.number other.now.number) }
+    requires alike { AreAlike (classed_county county.now.classes.now) county.now.alike.now }
+    requires arranged { IfSome arranged.old (λ view. arranged_county view ≡ chosen_county (classed_county county.now.classes.now) one.now.number) }
+    ensures ordering { IfOk result (λ ordering. ordering ≡ choices_cmp (classed_county county.now.classes.now) one.now.number other.now.number) }
     ensures arranged { OnOk result (IfSome arranged.new
-        (λ view. arranged_county view ≡ chosen_county (classed_county classes.now) (lesser_choice (classed_county classes.now) one.now.number other.now.number))) }
+        (λ view. arranged_county view ≡ chosen_county (classed_county county.now.classes.now) (lesser_choice (classed_county county.now.classes.now) one.now.number other.now.number))) }
 {
+    let classes = county.classes;
     match compare_by_type_1(classes, shape_order, one, other) {
-        Ordering::Equal => compare_ties(
-            alloc,
-            classes,
-            shape_order,
-            one.number,
-            other.number,
-            arranged,
-        ),
+        Ordering::Equal => {
+            let tie = Tie {
+                one: one.number,
+                other: other.number,
+                alike: count_alike(classes, shape_order, county.alike, one, other),
+            };
+            compare_ties(alloc, classes, shape_order, tie, arranged)
+        }
         unequal => {
             forget_greater(unequal, arranged);
             Ok(unequal)
@@ -185,19 +202,20 @@ fn compare_choices<'a, C: Shared>(
 /// The number of the choice with the least text. `arranged` has no county, and may then have that of the choice.
 fn search_least<'a, C: Shared>(
     alloc: Global,
-    classes: &Classes<'a, C>,
+    county: &Compared<'_, 'a, C>,
     shape_order: &ShapeOrder,
     arranged: &mut Option<Arranged<C>>,
 ) -> Result<u64, AllocError>
-    requires known { LeavesChoices (classed_county classes.now) shape_order.now }
+    requires known { LeavesChoices (classed_county county.now.classes.now) shape_order.now }
+    requires alike { AreAlike (classed_county county.now.classes.now) county.now.alike.now }
     requires none { arranged.old ≡ None }
-    ensures { IfOk result (IsLeastBelow (classed_county classes.now) (choices (classed_county classes.now))) }
+    ensures { IfOk result (IsLeastBelow (classed_county county.now.classes.now) (choices (classed_county county.now.classes.now))) }
 {
     let mut least = NumberedArrangement::new(alloc, shape_order, 0)?;
     let mut other = NumberedArrangement::new(alloc, shape_order, 0)?;
     for number in 1..shape_order.choices() {
         other.choose_again(shape_order, number);
-        let ordering = compare_choices(alloc, classes, shape_order, &least, &other, arranged)?;
+        let ordering = compare_choices(alloc, county, shape_order, &least, &other, arranged)?;
         if ordering.is_le() {
             continue;
         }
@@ -215,9 +233,18 @@ pub(crate) fn least_among_choices<C: Shared>(
     requires { LeavesChoices (C.county chart.now) shape_order.now }
     ensures { IfOk result (IsLeastBelow (C.county chart.now) (choices (C.county chart.now))) }
 {
+    let alike = alike_chains(alloc, chart, shape_order)?;
     let classes = Classes::of(alloc, chart)?;
     let mut arranged = None;
-    let least = search_least(alloc, &classes, shape_order, &mut arranged);
+    let least = search_least(
+        alloc,
+        &Compared {
+            classes: &classes,
+            alike: &alike,
+        },
+        shape_order,
+        &mut arranged,
+    );
     // One call each for the prover, which otherwise reads the drop of each table.
     drop(arranged);
     drop(classes);

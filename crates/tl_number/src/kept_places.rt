@@ -73,7 +73,6 @@ fn linked_polygons<C: Chart>(alloc: Global, chart: &C) -> Result<Interner<Polygo
     if_done(polygons, seen)
 }
 
-/// Whether one of the other keys is among the keys.
 fn has_any(keys: &Interner<PolygonKey>, others: &[PolygonKey]) -> bool
     ensures { result ≡ list_any (λ key. contains key_cmp key keys.now) others.now }
 {
@@ -95,7 +94,10 @@ fn has_open_links<C: Chart>(
 }
 
 /// The chains at open places.
-fn open_chains(alloc: Global, shape_order: &ShapeOrder) -> Result<Vec<DirectedChain>, AllocError>
+pub(crate) fn open_chains(
+    alloc: Global,
+    shape_order: &ShapeOrder,
+) -> Result<Vec<DirectedChain>, AllocError>
     ensures { IfOk result (λ chains. chains.items ≡ at_places shape_order.now.by_shape (open_among shape_order.now.places (length shape_order.now.by_shape))) }
 {
     let by_shape = shape_order.by_shape();

@@ -31,7 +31,6 @@ pub(crate) trait KeyGroups {
         ensures { OnOk result (keys.new.items ≡ group_at (groups self.now) place) };
 }
 
-/// Adds a key, if there is one.
 fn push_if_some<K: Drop>(keys: &mut Vec<K>, key: Option<K>) -> Result<(), AllocError>
     ensures { OnOk result (keys.new.items ≡ keys.old.items ++ option_to_list key) }
 {
@@ -41,7 +40,6 @@ fn push_if_some<K: Drop>(keys: &mut Vec<K>, key: Option<K>) -> Result<(), AllocE
     Ok(())
 }
 
-/// The polygon on a side, if there is one.
 fn key_of(side: Option<Side>) -> Option<PolygonKey>
     ensures { option_to_list result ≡ flat_map key_on (option_to_list side) }
 {

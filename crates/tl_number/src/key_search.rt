@@ -54,7 +54,6 @@ fn has_new_key<K: Key + Hash + NumericKey>(
     keys.iter().any(|key| is_new(wanted, met, *key))
 }
 
-/// Meets a key, if it is wanted.
 fn meet_if_wanted<K: Key + Hash + NumericKey>(
     wanted: &Interner<K>,
     met: &mut Interner<K>,
@@ -68,7 +67,6 @@ fn meet_if_wanted<K: Key + Hash + NumericKey>(
     Ok(())
 }
 
-/// Meets those of these keys that are wanted.
 fn meet_wanted<K: Key + Hash + NumericKey>(
     wanted: &Interner<K>,
     met: &mut Interner<K>,

@@ -7,6 +7,7 @@
 //! `uses` has a proved caller, in `layers.rt`. The records of a canonical county are made in `canonical_records`.
 #![tactic(auto)]
 
+mod alike_ranges;
 mod arranged_order;
 mod ascending_order;
 mod canonising;

@@ -28,7 +28,6 @@ pub(crate) fn is_open_at(places: &[OpenPlace], place: usize) -> bool
     places.iter().any(|at| covers(*at, place))
 }
 
-/// Whether a key is one of these.
 pub(crate) fn has_key<K: Key + Hash + NumericKey>(keys: &Interner<K>, key: K) -> bool
     ensures { result ≡ contains K.cmp key keys.now }
 {

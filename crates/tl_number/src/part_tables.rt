@@ -15,7 +15,7 @@ use crate::kept_places::KeptChains;
 use crate::key_groups::{FeatKeys, KeyGroups, NodeKeys, PolygonKeys};
 use crate::open_keys::{has_key, keys_of};
 use arranged_county::{Interner, NumericKey, both, if_done, marks_for};
-use county_chart::{Chart, DirectedChain, Listed, PolygonKey};
+use county_chart::{Chart, DirectedChain, Feats, Listed, PolygonKey, Polygons, Tlids};
 use ordered_lists::{Key, sort_distinct};
 use std::alloc::{AllocError, Global};
 use std::hash::Hash;
@@ -38,67 +38,6 @@ pub(crate) struct PartTables {
     pub(crate) nodes: Vec<u64>,
 }
 
-/// The TLIDs of a county.
-#[derive(Drop)]
-struct Tlids<'a, C: Chart>(&'a C);
-
-impl<C: Chart> Listed for Tlids<'_, C> {
-    ghost use Rattle.county_chart.specs.CountyRules.{tlids};
-
-    type Item = u64;
-
-    ghost items = { λ l. tlids (C.county l.0.now) };
-
-    fn count(&self) -> usize {
-        self.0.chain_count()
-    }
-
-    fn item(&self, place: usize) -> u64 {
-        self.0.tlid_there(place)
-    }
-}
-
-/// The FEATs of a county.
-#[derive(Drop)]
-struct Feats<'a, C: Chart>(&'a C);
-
-impl<C: Chart> Listed for Feats<'_, C> {
-    ghost use Rattle.county_chart.specs.CountyRules.{feats};
-
-    type Item = u32;
-
-    ghost items = { λ l. feats (C.county l.0.now) };
-
-    fn count(&self) -> usize {
-        self.0.name_count()
-    }
-
-    fn item(&self, place: usize) -> u32 {
-        self.0.feat_there(place)
-    }
-}
-
-/// The keys of a county's polygons.
-#[derive(Drop)]
-struct Polygons<'a, C: Chart>(&'a C);
-
-impl<C: Chart> Listed for Polygons<'_, C> {
-    ghost use Rattle.county_chart.specs.CountyRules.{polygon_keys};
-
-    type Item = PolygonKey;
-
-    ghost items = { λ l. polygon_keys (C.county l.0.now) };
-
-    fn count(&self) -> usize {
-        self.0.polygon_count()
-    }
-
-    fn item(&self, place: usize) -> PolygonKey {
-        self.0.polygon_key_there(place)
-    }
-}
-
-/// Whether there is a key, and it is one of these.
 fn is_among<K: Key + Hash + NumericKey>(keys: &Interner<K>, key: Option<K>) -> bool
     ensures { result ≡ list_any (λ key. contains K.cmp key keys.now) (option_to_list key) }
 {
@@ -108,7 +47,6 @@ fn is_among<K: Key + Hash + NumericKey>(keys: &Interner<K>, key: Option<K>) -> b
     }
 }
 
-/// The keys at places.
 fn keys_at<L: Listed>(alloc: Global, all: &L, places: &[u32]) -> Result<Vec<L::Item>, AllocError>
 where
     L::Item: Drop,
@@ -198,7 +136,6 @@ fn nodes_of<C: Chart>(
     Ok(nodes)
 }
 
-/// The names and the polygons of chains.
 fn names_and_polygons<C: Chart>(
     alloc: Global,
     chart: &C,

@@ -1,9 +1,11 @@
 -- Lists in order: elements that tie keep the order of their numbers, and the place of an element is how many come before it.
-use Rattle.tl_number.proofs.Common.{AllByRecursion, Equal, Greater, IsInOrder, IsKeyOrder, IsPermutation, Known, Less, List, MatchOrdering}
-use Rattle.tl_number.proofs.Common.{Ordering, [], all-in_order, all_unmap, ap, arith, cond, differ, differ_apart, false, false≢true, filter}
-use Rattle.tl_number.proofs.Common.{from_permutation, in_order, inl, inr, is_eq, is_gt, is_lt, known_all, known_cases, length, less_from}
-use Rattle.tl_number.proofs.Common.{map, nat_cmp, nat_cmp_is, not, ordering_reverse, ordering_then, place_in, put_in_order, ranked, refl}
-use Rattle.tl_number.proofs.Common.{same-itself, subst, suc, sym, tied_itself, true, ℕ, ◌+◌, ◌<◌, ◌∙◌, ◌∷◌, ◌≡◌, ◌⊎◌}
+use Rattle.tl_number.proofs.Common.{AllByRecursion, IsPermutation, entries_equal, filter, from_permutation, ordering_reverse, ordering_then}
+use Rattle.tl_number.proofs.Common.{Equal, Greater, Known, arith, differ, false, in_order, inr, is_gt, is_lt, length, nat_cmp, subst, up_to}
+use Rattle.tl_number.proofs.Common.{IsInOrder, IsKeyOrder, Ordering, all_unmap, all_weaker, entry_keys, false≢true, known_all, less_from, ℕ}
+use Rattle.tl_number.proofs.Common.{IsPermutation-map, IsPermutation-sym, IsPermutation-trans, [], in_order-permutation, length_permutation}
+use Rattle.tl_number.proofs.Common.{Less, List, ap, cond, inl, is_eq, map, not, refl, suc, sym, true, ◌+◌, ◌∙◌, ◌∷◌, ◌≡◌, ◌⊎◌}
+use Rattle.tl_number.proofs.Common.{all-in_order, differ_apart, entry_values, known_cases, place_in, put_in_order, same-itself, tied_itself}
+use Rattle.arranged_county.proofs.Lists.Classes.{agree_in_order}
 use Rattle.std.specs.List.Sorted.{IsStrictlySortedBy}
 
 -- Elements whose numbers ascend are put in order as by the order and then their numbers.
@@ -34,26 +36,26 @@ module _ {X : Type 0} (by : X → X → Ordering) (number : X → ℕ) where
 -- If elements with a property compare alike by another order, a list of them is in that order too.
 pub in_order-among : {X : Type 0} (by to : X → X → Ordering) (P : X → Type 0) → ((x y : X) → P x → P y → by x y ≡ to x y)
     → (xs : List X) → AllByRecursion P xs → IsInOrder by xs → IsInOrder to xs
-in_order-among by to P same [] a h = tt
-in_order-among {X} by to P same (x ∷ xs) a h = (each xs a.1 h.0, in_order-among by to P same xs a.1 h.1)
-  where
-    each : (ys : List X) → AllByRecursion P ys → AllByRecursion (λ y. is_gt (by x y) ≡ false) ys → AllByRecursion (λ y. is_gt (to x y) ≡ false) ys
-    each [] b g = tt
-    each (y ∷ ys) b g = (ap is_gt (sym (same x y a.0 b.0)) ∙ g.0, each ys b.1 g.1)
+in_order-among by to P same xs all = agree_in_order by to xs (all_weaker P (λ x. AllByRecursion (λ y. by x y ≡ to x y) xs)
+    (λ x p. all_weaker P (λ y. by x y ≡ to x y) (λ y. same x y p) xs all) xs all)
 
--- Two pairs of numbers that are less alike, and apart, compare alike.
-pub compare_alike : (a b c d : ℕ) → (a < b → c < d) → (c < d → a < b) → (a ≡ b → ⊥) → (c ≡ d → ⊥) → nat_cmp a b ≡ nat_cmp c d
-compare_alike a b c d there back apart apart_too = go (nat_cmp a b) (ranked a b (nat_cmp a b) refl)
-  where
-    above : b < a → (o : Ordering) → MatchOrdering o (c < d) (c ≡ d) (d < c) → d < c
-    above h Less l = let l' : a < b = back l in omega (arith, h, l')
-    above h Equal l = absurd (apart_too l)
-    above h Greater l = l
+-- Entries in the order of their values, and what is made of them: the same values under numbers that count from 1.
+pub record IsByValue {V : Type 0} (cmp : V → V → Ordering) (entries ordered made : List (ℕ × V)) : Type 0 where
+  pub in_order : IsInOrder cmp (entry_values ordered)
+  pub all : IsPermutation ordered entries
+  pub numbers : entry_keys made ≡ up_to (length ordered)
+  pub values : entry_values made ≡ entry_values ordered
 
-    go : (o : Ordering) → MatchOrdering o (a < b) (a ≡ b) (b < a) → o ≡ nat_cmp c d
-    go Less h = nat_cmp_is c d Less (there h)
-    go Equal h = absurd (apart h)
-    go Greater h = nat_cmp_is c d Greater (above h (nat_cmp c d) (ranked c d (nat_cmp c d) refl))
+-- The entries determine what is made of them.
+pub same_made : {V : Type 0} {cmp : V → V → Ordering} → IsKeyOrder cmp → (entries ordered made ordered_too made_too : List (ℕ × V))
+    → IsByValue cmp entries ordered made → IsByValue cmp entries ordered_too made_too → made ≡ made_too
+same_made {V} o entries ordered made ordered_too made_too one other =
+    let both : IsPermutation ordered ordered_too =
+    IsPermutation-trans ordered entries ordered_too one.all (IsPermutation-sym ordered_too entries other.all) in
+    let same : entry_values ordered ≡ entry_values ordered_too = in_order-permutation o (entry_values ordered) (entry_values ordered_too)
+    one.in_order other.in_order (IsPermutation-map (λ (e : ℕ × V). e.1) ordered ordered_too both) in
+    entries_equal made made_too (one.numbers ∙ ap up_to (sym (length_permutation ordered ordered_too both)) ∙ sym other.numbers)
+    (one.values ∙ same ∙ sym other.values)
 
 -- The place of a key in a list that is in order.
 module _ {K : Type 0} {cmp : K → K → Ordering} (o : IsKeyOrder cmp) {by : K → K → Ordering} (b : IsKeyOrder by) where

@@ -1,16 +1,19 @@
 -- The FEATs of names in their new order are in order by content, rank and FEAT, so a name's place is how many come before it.
-use Rattle.tl_number.proofs.Common.{AllByRecursion, arrangement_of, exact_unsigned, feats_in_order, known-permutation, names_permutation, ℕ}
-use Rattle.tl_number.proofs.Common.{AreWhole, Arrangement, in_order-map, name_key_cmp, ranked_there, same-itself, same_or_not, uses_of_name}
-use Rattle.tl_number.proofs.Common.{Body5, all_weaker, entry_keys, first_seen, name_under, option_cmp, then-equal, tied_itself, value_under}
-use Rattle.tl_number.proofs.Common.{County, all_uses, arranges, by_uses, greater, name_key, nat_cmp, nat_keys, on_total, place_in, unranked}
-use Rattle.tl_number.proofs.Common.{DirectedChain, IsKeyOrder, IsPermutation, name_body_cmp, name_body_keys, names_in_order, unknown_at_end}
-use Rattle.tl_number.proofs.Common.{IsCounty, IsInOrder, Known, Ordering, all_both, all_unmap, slice_cmp, slice_get, then_assoc, then_total}
-use Rattle.tl_number.proofs.Common.{IsPermutation-map, feats_along_arrangement, in_order-in_order, known-permutation_to, length_permutation}
-use Rattle.tl_number.proofs.Common.{Less, List, arith, differ, false, feats, is_eq, is_lt, length, placed, rank_of, subst, times, use_cmp}
-use Rattle.tl_number.proofs.Common.{Some, Use, [], ap, ap₂, cond, inl, inr, less, on, refl, suc, sym, zero, ◌<◌, ◌∙◌, ◌∷◌, ◌≡◌, ◌⊎◌}
-use Rattle.tl_number.proofs.Common.{all-in_order, differ_apart, filter-agree, name_key_keys, nat_cmp_total, options_total, ordering_then}
-use Rattle.tl_number.proofs.Lists.OrderPlaces.{by_number, compare_alike, in_order-among, numbered_order, place_counted}
-use Rattle.tl_number.proofs.{Ties.KeyPlaces.there_found, Ties.NewlySeen.AreAlike}
+use Rattle.tl_number.proofs.Common.{AllByRecursion, AreWhole, Arrangement, Body5, County, DirectedChain, IsCounty, IsInOrder, IsKeyOrder}
+use Rattle.tl_number.proofs.Common.{IsPermutation, IsPermutation-map, Known, Less, List, Ordering, Some, Use, [], all-in_order, all_both}
+use Rattle.tl_number.proofs.Common.{all_unmap, all_uses, all_weaker, ap, ap₂, arith, arrangement_of, arranges, by_uses, cond, differ}
+use Rattle.tl_number.proofs.Common.{differ_apart, entry_keys, exact_unsigned, false, feats, feats_along_arrangement, feats_in_order}
+use Rattle.tl_number.proofs.Common.{filter-agree, first_seen, greater, in_order-in_order, in_order-map, inl, inr, is_eq, is_lt}
+use Rattle.tl_number.proofs.Common.{known-permutation, length, length_permutation, less, name_body_cmp, name_body_keys, name_key}
+use Rattle.tl_number.proofs.Common.{name_key_cmp, name_key_keys, name_under, names_in_order, names_permutation, nat_cmp, nat_cmp_total}
+use Rattle.tl_number.proofs.Common.{nat_keys, on, on_total, one_cmp, option_cmp, options_total, ordering_then, place_in, placed, rank_of}
+use Rattle.tl_number.proofs.Common.{ranked_there, refl, same-itself, same_or_not, slice_cmp, slice_get, subst, suc, sym, then-equal}
+use Rattle.tl_number.proofs.Common.{then_assoc, then_total, tied_itself, times, times-permutation, unknown_at_end, unranked, use_cmp}
+use Rattle.tl_number.proofs.Common.{uses_of_name, value_under, zero, ℕ, ◌<◌, ◌∙◌, ◌∷◌, ◌≡◌, ◌≤◌, ◌⊎◌}
+use Rattle.tl_number.proofs.Lists.OrderPlaces.{by_number, in_order-among, numbered_order, place_counted}
+use Rattle.tl_number.proofs.Ties.Keys.{AreAlike, there_found}
+use Rattle.canonical_form.proofs.Numbering.FirstSeen.{known_within}
+use Rattle.std.proofs.lemmas.Bool.{cases_lt, cases_order}
 use Rattle.std.specs.List.Sorted.{IsStrictlySortedBy}
 
 -- FEATs by the content of their names, then by their ranks, then by themselves
@@ -89,29 +92,29 @@ module _ (seen seen_too : List ℕ) (alike : AreAlike nat_cmp seen seen_too) (k 
   abbrev rank : List ℕ → ℕ → ℕ
   rank ks j = rank_of ks (Some j)
 
-  known_or_not : (j : ℕ) → Known nat_cmp seen j ⊎ (times nat_cmp j seen ≡ 0)
-  known_or_not j = go (times nat_cmp j seen) refl
+  none_too : (j : ℕ) → times nat_cmp j seen ≤ 0 → times nat_cmp j seen_too ≡ 0
+  none_too j none = go (cases_lt 0 (times nat_cmp j seen_too))
     where
-      go : (n : ℕ) → times nat_cmp j seen ≡ n → Known nat_cmp seen j ⊎ (times nat_cmp j seen ≡ 0)
-      go zero e = inr e
-      go (suc n) e = inl (omega (arith, e))
-
-  none_too : (j : ℕ) → times nat_cmp j seen ≡ 0 → times nat_cmp j seen_too ≡ 0
-  none_too j none = go (times nat_cmp j seen_too) refl
-    where
-      go : (n : ℕ) → times nat_cmp j seen_too ≡ n → times nat_cmp j seen_too ≡ 0
-      go zero e = e
-      go (suc n) e = absurd (let h : Known nat_cmp seen j = (alike j).1 (omega (arith, e)) in omega (arith, h, none))
+      go : Known nat_cmp seen_too j ⊎ (times nat_cmp j seen_too ≤ 0) → times nat_cmp j seen_too ≡ 0
+      go (inl h) = absurd (let there = (alike j).1 h in omega (arith, there, none))
+      go (inr l) = omega arith
 
   one_place : (ks : List ℕ) (i j : ℕ) → Known nat_cmp ks i → Known nat_cmp ks j → place_in nat_cmp ks i ≡ place_in nat_cmp ks j → i ≡ j
   one_place ks i j a b e =
-      let both : Some i ≡ Some j = sym (there_found nat_keys ks i a) ∙ ap (slice_get ks) e ∙ there_found nat_keys ks j b in cc
+      let both : Some i ≡ Some j = sym (there_found nat_keys ks i (known_within nat_keys ks i a)) ∙ ap (slice_get ks) e
+      ∙ there_found nat_keys ks j (known_within nat_keys ks j b) in cc
+
+  above : (a b c d : ℕ) → b < a → (c < d → a < b) → (c ≡ d → ⊥) → (c ≡ d) ⊎ ((c < d) ⊎ (d < c)) → d < c
+  above a b c d l back apart (inl e) = absurd (apart e)
+  above a b c d l back apart (inr (inl m)) = absurd (let n = back m in omega (arith, l, n))
+  above a b c d l back apart (inr (inr m)) = m
 
   -- the ranks of a FEAT and of this one compare alike
   pub ranks_alike : (j : ℕ) → nat_cmp (rank_of seen (Some j)) (rank_of seen (Some k)) ≡ nat_cmp (rank_of seen_too (Some j)) (rank_of seen_too (Some k))
-  ranks_alike j = go (known_or_not j) (known_or_not k) (same_or_not nat_keys j k)
+  ranks_alike j = go (cases_lt 0 (times nat_cmp j seen)) (cases_lt 0 (times nat_cmp k seen)) (same_or_not nat_keys j k)
     where
-      go : Known nat_cmp seen j ⊎ (times nat_cmp j seen ≡ 0) → Known nat_cmp seen k ⊎ (times nat_cmp k seen ≡ 0) → (j ≡ k) ⊎ (is_eq (nat_cmp j k) ≡ false)
+      go : Known nat_cmp seen j ⊎ (times nat_cmp j seen ≤ 0) → Known nat_cmp seen k ⊎ (times nat_cmp k seen ≤ 0)
+          → (j ≡ k) ⊎ (is_eq (nat_cmp j k) ≡ false)
           → nat_cmp (rank seen j) (rank seen k) ≡ nat_cmp (rank seen_too j) (rank seen_too k)
       go a b (inl same) =
           ap (λ n. nat_cmp (rank seen n) (rank seen k)) same ∙ tied_itself nat_cmp_total (rank seen k)
@@ -121,25 +124,33 @@ module _ (seen seen_too : List ℕ) (alike : AreAlike nat_cmp seen seen_too) (k 
           let rk = ranked_there seen k b in
           let sj = ranked_there seen_too j ((alike j).0 a) in
           let sk = ranked_there seen_too k ((alike k).0 b) in
-          compare_alike (rank seen j) (rank seen k) (rank seen_too j) (rank seen_too k)
-          (λ l. let m : place_in nat_cmp seen_too j < place_in nat_cmp seen_too k = (same_before j).0 (omega (arith, l, rj, rk)) in omega (arith, m, sj, sk))
-          (λ l. let m : place_in nat_cmp seen j < place_in nat_cmp seen k = (same_before j).1 (omega (arith, l, sj, sk)) in omega (arith, m, rj, rk))
-          (λ e. differ_apart nat_keys j k ne (one_place seen j k a b (omega (arith, e, rj, rk))))
-          (λ e. differ_apart nat_keys j k ne (one_place seen_too j k ((alike j).0 a) ((alike k).0 b) (omega (arith, e, sj, sk))))
+          let there = (same_before j).0 in
+          let back = (same_before j).1 in
+          let apart : place_in nat_cmp seen_too j ≡ place_in nat_cmp seen_too k → ⊥ =
+          λ e. differ_apart nat_keys j k ne (one_place seen_too j k ((alike j).0 a) ((alike k).0 b) e) in
+          one_cmp (rank seen j) (rank seen k) (rank seen_too j) (rank seen_too k) (record {
+            less = λ l. omega (arith, l, rj, rk, sj, sk, there);
+            same = λ e. absurd (differ_apart nat_keys j k ne (one_place seen j k a b (omega (arith, e, rj, rk))));
+            more = λ l. (let m = above (place_in nat_cmp seen j) (place_in nat_cmp seen k) (place_in nat_cmp seen_too j)
+                (place_in nat_cmp seen_too k) (omega (arith, l, rj, rk)) back apart
+                (cases_order (place_in nat_cmp seen_too j) (place_in nat_cmp seen_too k)) in omega (arith, m, sj, sk));
+          })
       go (inl a) (inr n) (inr ne) =
-          let rj = ranked_there seen j a in
-          let rk = unranked seen k n in
-          let sj = ranked_there seen_too j ((alike j).0 a) in
-          let sk = unranked seen_too k (none_too k n) in
-          greater (rank seen k) (rank seen j) (omega (arith, rj, rk)) ∙ sym (greater (rank seen_too k) (rank seen_too j) (omega (arith, sj, sk)))
+          greater (rank seen k) (rank seen j) (omega (arith, ranked_there seen j a, unranked seen k (omega arith)))
+          ∙ sym (greater (rank seen_too k) (rank seen_too j) (omega (
+            arith,
+            ranked_there seen_too j ((alike j).0 a),
+            unranked seen_too k (none_too k n),
+          )))
       go (inr n) (inl b) (inr ne) =
-          let rj = unranked seen j n in
-          let rk = ranked_there seen k b in
-          let sj = unranked seen_too j (none_too j n) in
-          let sk = ranked_there seen_too k ((alike k).0 b) in
-          less (rank seen j) (rank seen k) (omega (arith, rj, rk)) ∙ sym (less (rank seen_too j) (rank seen_too k) (omega (arith, sj, sk)))
-      go (inr n) (inr m) (inr ne) =
-          ap₂ nat_cmp (unranked seen j n ∙ sym (unranked seen_too j (none_too j n))) (unranked seen k m ∙ sym (unranked seen_too k (none_too k m)))
+          less (rank seen j) (rank seen k) (omega (arith, unranked seen j (omega arith), ranked_there seen k b))
+          ∙ sym (less (rank seen_too j) (rank seen_too k) (omega (
+            arith,
+            unranked seen_too j (none_too j n),
+            ranked_there seen_too k ((alike k).0 b),
+          )))
+      go (inr n) (inr m) (inr ne) = ap₂ nat_cmp (unranked seen j (omega arith) ∙ sym (unranked seen_too j (none_too j n)))
+          (unranked seen k (omega arith) ∙ sym (unranked seen_too k (none_too k m)))
 
 -- A name before which the same FEATs are first seen in two arrangements has the same place in both.
 module _ (county : County) (is : IsCounty county) (one other : List DirectedChain) (whole : AreWhole county one) (whole_too : AreWhole county other)
@@ -161,13 +172,8 @@ module _ (county : County) (is : IsCounty county) (one other : List DirectedChai
           → place_in nat_cmp (feats_in_order county arrangement) k ≡ length (feats county)
       none arrangement p e =
           unknown_at_end nat_keys (feats_in_order county arrangement) k
-          (times_zero (times nat_cmp k (feats_in_order county arrangement)) refl)
+          (sym (times-permutation nat_keys k (feats_in_order county arrangement) (feats county) p) ∙ e)
           ∙ sym (length_permutation (feats_in_order county arrangement) (feats county) p)
-        where
-          times_zero : (n : ℕ) → times nat_cmp k (feats_in_order county arrangement) ≡ n → times nat_cmp k (feats_in_order county arrangement) ≡ 0
-          times_zero zero f = f
-          times_zero (suc n) f = absurd (let h : Known nat_cmp (feats county) k =
-              known-permutation_to nat_keys k (feats_in_order county arrangement) (feats county) p (omega (arith, f)) in omega (arith, h, e))
 
       go : (n : ℕ) → times nat_cmp k (feats county) ≡ n → place_in nat_cmp (feats_in_order county one) k ≡ place_in nat_cmp (feats_in_order county other) k
       go zero e = none one permuted e ∙ sym (none other permuted_too e)

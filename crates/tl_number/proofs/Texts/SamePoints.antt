@@ -1,9 +1,9 @@
 -- All choices of a county have the same points, chain by chain, and so the same type 2 records.
 use Rattle.tl_number.proofs.Common.{AllKeysContained, AreSame, Chain, Coordinates, County, Fields2, IsArranged, IsCounty, IsTidy, List}
-use Rattle.tl_number.proofs.Common.{SameElements, [], ap, arranged, choices_same, entry_points, entry_shape, in_order-equal, in_pieces}
-use Rattle.tl_number.proofs.Common.{inner_points, is_arranged, length, length-map, map, numbered_choice, numbered_from, numbered_is_choice}
-use Rattle.tl_number.proofs.Common.{packed_twos, points_cmp, points_in_order, points_keys, polygon_keys, polygons_along, refl}
-use Rattle.tl_number.proofs.Common.{shapes_carried, subst, sym, tidy_shapes, times-same, type_2_by_chain, up_to, ℕ, ◌∙◌, ◌∷◌, ◌≡◌}
+use Rattle.tl_number.proofs.Common.{SameElements, ap, arranged, choices_same, entries_equal, entry_points, entry_shape, in_order-equal}
+use Rattle.tl_number.proofs.Common.{in_pieces, inner_points, is_arranged, length, length-map, map, map-map, numbered_choice, numbered_from}
+use Rattle.tl_number.proofs.Common.{numbered_is_choice, packed_twos, points_cmp, points_in_order, points_keys, polygon_keys, polygons_along}
+use Rattle.tl_number.proofs.Common.{shapes_carried, subst, sym, tidy_shapes, times-same, type_2_by_chain, up_to, ℕ, ◌∙◌, ◌≡◌}
 
 -- the type 2 records of a chain, from its TLID and its points
 abbrev twos : ℕ → List Coordinates → List Fields2
@@ -11,15 +11,14 @@ twos tlid points = map (λ piece. record { tlid = tlid; rtsq = piece.0; points =
 
 same_twos : (xs ys : List (ℕ × Chain)) → map (λ (e : ℕ × Chain). e.0) xs ≡ map (λ (e : ℕ × Chain). e.0) ys
     → map entry_points xs ≡ map entry_points ys → map packed_twos xs ≡ map packed_twos ys
-same_twos [] [] e f = refl
-same_twos [] (y ∷ ys) e f = cc
-same_twos (x ∷ xs) [] e f = cc
-same_twos (x ∷ xs) (y ∷ ys) e f =
-    let tlid : x.0 ≡ y.0 = cc in
-    let points : x.1.points ≡ y.1.points = cc in
-    let tlids : map (λ (e : ℕ × Chain). e.0) xs ≡ map (λ (e : ℕ × Chain). e.0) ys = cc in
-    let rest : map entry_points xs ≡ map entry_points ys = cc in
-    λ i. twos (tlid i) (points i) ∷ same_twos xs ys tlids rest i
+same_twos xs ys tlids points =
+    let listed : ℕ × Chain → ℕ × List Coordinates = λ e. (e.0, e.1.points) in
+    let packed : ℕ × List Coordinates → List Fields2 = λ e. twos e.0 e.1 in
+    sym (map-map packed listed xs)
+    ∙ ap (map packed) (entries_equal (map listed xs) (map listed ys)
+    (map-map (λ (e : ℕ × List Coordinates). e.0) listed xs ∙ tlids ∙ sym (map-map (λ (e : ℕ × List Coordinates). e.0) listed ys))
+    (map-map (λ (e : ℕ × List Coordinates). e.1) listed xs ∙ points ∙ sym (map-map (λ (e : ℕ × List Coordinates). e.1) listed ys)))
+    ∙ map-map packed listed ys
 
 module _ (a b : County) (same : AreSame a b) (tidy_a : IsTidy a) (tidy_b : IsTidy b) where
   points_same : map entry_points a.chains ≡ map entry_points b.chains

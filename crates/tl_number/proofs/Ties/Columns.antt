@@ -1,15 +1,16 @@
 -- Records of one type are in the order of their columns: the first column that differs decides.
-use Rattle.tl_number.proofs.Common.{AllByRecursion, lat_text_is_text, long_text_is_text, number_order, point_place_text, spelling_of_record}
-use Rattle.tl_number.proofs.Common.{Coordinates, IsNumberOrNone, joined-append, joined-before, length-append, ordering_then, spelling_cmp}
-use Rattle.tl_number.proofs.Common.{Equal, Ordering, Result, Type1, arith, byte_of, joined, lat_text, length, nat_cmp, nat_keys, table_of}
-use Rattle.tl_number.proofs.Common.{FieldsOf, IsNumber, Option, long_text, pow-succ', record_of, slice_cmp, slice_get, then_same, unwrap_or}
-use Rattle.tl_number.proofs.Common.{List, None, Ok, Some, [], ap, codes, map, refl, suc, sym, zero, ℕ, ◌++◌, ◌+◌, ◌<◌, ◌^◌, ◌∙◌, ◌∷◌, ◌≡◌}
-use Rattle.tl_number.proofs.Common.{RecordType, ap₂, cmp-append, layout_laws, lists_keys, number_text, reading_of, spelling_of, tied_itself}
-use Rattle.tl_number.proofs.Common.{length-number_text, nat_list_cmp_total, number_place_is_text, places_text_is_text, point_place_is_text}
+use Rattle.tl_number.proofs.Common.{AllByRecursion, joined-append, joined-before, length-append, number_order, number_text, ordering_then}
+use Rattle.tl_number.proofs.Common.{Coordinates, RecordType, cmp-append, layout_laws, lists_keys, reading_of, spelling_of, tied_itself, ◌<◌}
+use Rattle.tl_number.proofs.Common.{Equal, IsNumber, Option, Ordering, arith, byte_of, codes, joined, lat_text, length, nat_cmp, table_of}
+use Rattle.tl_number.proofs.Common.{FieldsOf, Result, long_text, nat_keys, pow-succ', record_of, slice_cmp, slice_get, then_same, unwrap_or}
+use Rattle.tl_number.proofs.Common.{IsNumberOrNone, lat_text_is_text, long_text_is_text, nat_list_cmp_total, point_place_text, spelling_cmp}
+use Rattle.tl_number.proofs.Common.{List, None, Ok, Some, Type1, [], ap, ap₂, map, refl, suc, sym, zero, ℕ, ◌++◌, ◌+◌, ◌^◌, ◌∙◌, ◌∷◌, ◌≡◌}
+use Rattle.tl_number.proofs.Common.{length-number_text, number_place_is_text, places_text_is_text, point_place_is_text, spelling_of_record}
 use Rattle.tl_layout.specs.ColumnTable.{Filler, FitsRows, FitsValue, Kind, Number, NumberOrNone, NumberPlaces, Opaque, Pair, PairOrNone}
 use Rattle.tl_layout.specs.ColumnTable.{PointPlaces, Row, ValueOf, width_of}
 use Rattle.tl_layout.specs.FieldTexts.{number_place_text, places_text, rows_texts, value_texts}
-use Rattle.tl_layout.specs.{RecordText.FitsRecord, RecordTypes.FitsFields, RecordTypes.fields_spelling}
+use Rattle.tl_layout.specs.RecordText.{FitsRecord}
+use Rattle.tl_layout.specs.RecordTypes.{FitsFields, fields_spelling}
 
 -- ---- the order of two values of a column
 
@@ -161,6 +162,10 @@ AreColumnsAlike (suc count) [] r s t u = Unit {0}
 AreColumnsAlike (suc count) (row ∷ rows) r s t u =
     (value_cmp (width_of row) row.kind (row.value r) (row.value s) ≡ value_cmp (width_of row) row.kind (row.value t) (row.value u))
     × (value_cmp (width_of row) row.kind (row.value r) (row.value s) ≡ Equal → AreColumnsAlike count rows r s t u)
+
+-- one more column in which they compare alike
+pub next_column : {A B T : Type 0} → A → B → A × (T → B)
+next_column here rest = (here, λ tie. rest)
 
 -- So they are in one order.
 pub columns_alike : {R : Type 0} (count : ℕ) (rows : List (Row R)) (r s t u : R) → AreColumnsAlike count rows r s t u

@@ -1,20 +1,25 @@
--- Kinds of keys of chains, as nodes, polygons and names, and their numbers in choices.
-use Rattle.tl_number.proofs.Common.{AllContained, Renumbering, among-pieces, ap₂, flat_map-map, numbered_from, slice_get-map, to_first_seen}
-use Rattle.tl_number.proofs.Common.{Among, among-unpieces, chain_polygons, directed_chain, feats_in_order, from_first_seen, nodes_to_placed}
-use Rattle.tl_number.proofs.Common.{Bool, contains, flat_map, group_at, is_open, key_cmp, key_keys, ltb-true, nat_keys, place_in, unwrap_or}
-use Rattle.tl_number.proofs.Common.{Chain, County, IsTrue, Known, Option, false, feats, filter, key_on, map-map, nat_cmp, placed, turned}
-use Rattle.tl_number.proofs.Common.{DirectedChain, all_among, image-numbered, known_is_among, names_renamed, option_to_list, polygons_along}
-use Rattle.tl_number.proofs.Common.{IsKeyOrder, PolygonKey, among_known, chain_feats, chain_nodes, from_placed, grouped_map, nodes_along, ℕ}
-use Rattle.tl_number.proofs.Common.{List, Some, [], ap, image, map, refl, subst, sym, times, true, ◌++◌, ◌+◌, ◌∙◌, ◌≡◌}
-use Rattle.tl_number.proofs.Common.{Ordering, chain_nodes-renumbered, chain_polygons-renumbered, polygons_from_placed, rights-numbered_from}
-use Rattle.tl_number.proofs.Common.{among-get, append-nil, first_seen, keys_along, known-left, option_map, renumbered, slice_get, turned_if}
-use Rattle.tl_number.proofs.Common.{grouped, image-under_cenid, known-permutation, nodes_from_placed, polygons_in_order, polygons_to_placed}
-use Rattle.tl_number.proofs.Ties.NewlySeen.{AreAlike, alike_itself}
-use Rattle.tl_number.proofs.Ties.OrderedCounty.{OrderedCounty, arranges_in, cenid_kept, chains_at, directed_in, fixed_there, new_in}
-use Rattle.tl_number.proofs.Ties.OrderedCounty.{order_in, read_in, whole_in}
-use Rattle.tl_number.proofs.Ties.Ranks.{in_filtered, masked_by, next_cmp, places_alike, same_place, to_filtered}
-use Rattle.tl_number.proofs.{Names.NamePlaces.feats_permuted, Ties.KeyGroups.swapped_alike}
+-- Kinds of keys of chains, as nodes, polygons and names: their numbers in choices, and the order in which they first appear.
+use Rattle.tl_number.proofs.Common.{AllContained, DirectedChain, map-at_places, names_renamed, numbered_from, slice_get-map, to_first_seen}
+use Rattle.tl_number.proofs.Common.{Among, County, IsTrue, Known, arith, brings, false, feats, image, key_on, length, subst, times, turned}
+use Rattle.tl_number.proofs.Common.{Bool, List, Some, [], ap₂, map, refl, sym, ℕ, ◌++◌, ◌+◌, ◌∙◌, ◌≡◌}
+use Rattle.tl_number.proofs.Common.{Chain, Option, filter, grouped, is_kept, is_open, key_cmp, ltb-true, nat_cmp, or_left, place_in, placed}
+use Rattle.tl_number.proofs.Common.{IsKeyOrder, all_among, at_places, false≢true, first_seen, keys_along, length-map, none_past, renumbered}
+use Rattle.tl_number.proofs.Common.{Ordering, contains, flat_map, group_at, key_keys, nat_keys, other_way, slice_get, to_filter, unwrap_or}
+use Rattle.tl_number.proofs.Common.{PolygonKey, append-nil, chain_nodes, first_open, grouped_map, known-left, nodes_along, option_map, true}
+use Rattle.tl_number.proofs.Common.{Renumbering, among-get, among-pieces, among_known, chain_feats, flat_map-map, from_placed, keys_at_open}
+use Rattle.tl_number.proofs.Common.{among-unpieces, chain_polygons, directed_chain, map-map, option_to_list, polygons_along, range_with_len}
+use Rattle.tl_number.proofs.Common.{ap, feats_in_order, from_first_seen, image-numbered, known_is_among, nodes_to_placed, polygons_in_order}
+use Rattle.tl_number.proofs.Common.{chain_nodes-renumbered, chain_polygons-renumbered, group_of, polygons_from_placed, rights-numbered_from}
+use Rattle.tl_number.proofs.Common.{false_from_ne_true, image-under_cenid, known-permutation, lt-ltb, nodes_from_placed, polygons_to_placed}
+use Rattle.tl_number.proofs.Ties.Keys.{AreAlike, alike_itself, fixed_before, groups_at, groups_listed, swapped_alike, turned_alike}
+use Rattle.tl_number.proofs.Ties.OrderedCounty.{IsKeptPart, OrderedCounty, arranges_in, cenid_kept, chains_at, count_in, directed_in}
+use Rattle.tl_number.proofs.Ties.OrderedCounty.{fixed_there, length_at, new_in, order_in, places_in, read_in, whole_in}
+use Rattle.tl_number.proofs.Ties.Ranks.{AreReordered, IsBrought, in_filtered, in_range, masked_by, next_cmp, places_alike, reordered_all}
+use Rattle.tl_number.proofs.Ties.Ranks.{reordered_back, reordered_then, same_place, same_wanted, to_filtered}
+use Rattle.tl_number.proofs.Ties.WantedMoves.{AreMet, all_kept, all_moved, first_met, kept_keys, kept_there, wanted_met}
+use Rattle.tl_number.proofs.{Names.NamePlaces.feats_permuted, Ties.ListsAlike.among_filtered, Ties.Places.covered_among}
 use Rattle.arranged_county.proofs.Views.ViewTables.{keys_paired, nodes_paired}
+use Rattle.canonical_form.proofs.Sameness.CarriedCounty.{feats-turned}
 
 -- The keys of the chains of a choice.
 module _ (c : OrderedCounty) (i : ℕ) {K : Type 0} (keys : Chain → List K) where
@@ -32,12 +37,12 @@ module _ (c : OrderedCounty) (i : ℕ) {K : Type 0} (keys : Chain → List K) wh
   pub keys_together : grouped along_in ≡ flat_map keys_of_chain (chains_at c i)
   keys_together = ap grouped keys_read ∙ grouped_map keys_of_chain (chains_at c i)
 
-  keys_placed : grouped along_in ≡ flat_map (λ (entry : ℕ × Chain). keys entry.1) (placed c.county (order_in c i))
+  pub keys_placed : grouped along_in ≡ flat_map (λ (entry : ℕ × Chain). keys entry.1) (placed c.county (order_in c i))
   keys_placed = keys_together ∙ (λ j. flat_map (λ x. append-nil (keys x) j) (chains_at c i))
       ∙ sym (sym (flat_map-map keys (λ (entry : ℕ × Chain). entry.1) (numbered_from 1 (chains_at c i)))
       ∙ ap (flat_map keys) (rights-numbered_from 1 (chains_at c i)))
 
-  -- at a place they are those of the chain there
+  -- at each place stand the keys of its chain
   pub group_read : (place : ℕ) → group_at along_in place ≡ unwrap_or (option_map keys_of_chain (slice_get (chains_at c i) place)) []
   group_read place = ap (λ groups. group_at groups place) keys_read
       ∙ ap (λ (g : Option (List K)). unwrap_or g []) (slice_get-map keys_of_chain (chains_at c i) place)
@@ -97,12 +102,6 @@ pub record KeyKind {K : Type 0} (cmp : K → K → Ordering) : Type 0 where
 abbrev pub new_node : Renumbering → ℕ → ℕ
 new_node r = image nat_cmp r.nodes
 
-pub node_number_is : (c : OrderedCounty) (i k : ℕ) → Known nat_cmp (seen_in nat_cmp chain_nodes c i) k
-    → new_node (new_in c i) k ≡ 1 + place_in nat_cmp (seen_in nat_cmp chain_nodes c i) k
-node_number_is c i k h = ap (λ pairs. image nat_cmp pairs k) (sym (nodes_paired c.county (directed_in c i) c.is (whole_in c i)
-    (seen_in nat_cmp chain_nodes c i) (ap (first_seen nat_cmp) (keys_placed c i chain_nodes))))
-    ∙ image-numbered (seen_in nat_cmp chain_nodes c i) k h
-
 abbrev pub node_kind : KeyKind nat_cmp
 node_kind = record {
   order = nat_keys;
@@ -115,7 +114,9 @@ node_kind = record {
   renumbered_keys = chain_nodes-renumbered;
   in_all = λ c i k h. nodes_from_placed c.county (order_in c i) c.is (arranges_in c i) k (seen_placed nat_keys c i chain_nodes k h);
   listed = λ c i k h. placed_seen nat_keys c i chain_nodes k (nodes_to_placed c.county (order_in c i) c.is (arranges_in c i) k h);
-  number_is = node_number_is;
+  number_is = λ c i k h. ap (λ pairs. image nat_cmp pairs k) (sym (nodes_paired c.county (directed_in c i) c.is (whole_in c i)
+      (seen_in nat_cmp chain_nodes c i) (ap (first_seen nat_cmp) (keys_placed c i chain_nodes))))
+      ∙ image-numbered (seen_in nat_cmp chain_nodes c i) k h;
   numbered = λ c i j k e. e;
 }
 
@@ -131,11 +132,6 @@ polygon_number r k = (new_polygon r k).1
 pub polygons_seen : (c : OrderedCounty) (i : ℕ) → seen_in key_cmp chain_polygons c i ≡ polygons_in_order c.county (order_in c i)
 polygons_seen c i = ap (first_seen key_cmp) (keys_placed c i chain_polygons)
 
-pub polygon_number_is : (c : OrderedCounty) (i : ℕ) (k : PolygonKey) → Known key_cmp (seen_in key_cmp chain_polygons c i) k
-    → polygon_number (new_in c i) k ≡ 1 + place_in key_cmp (seen_in key_cmp chain_polygons c i) k
-polygon_number_is c i k h = ap (λ (p : PolygonKey). p.1) (ap (λ pairs. image key_cmp pairs k) (sym (keys_paired c.county (directed_in c i) c.is
-    (whole_in c i) (seen_in key_cmp chain_polygons c i) (polygons_seen c i))) ∙ image-under_cenid (seen_in key_cmp chain_polygons c i) k h)
-
 abbrev pub polygon_kind : KeyKind key_cmp
 polygon_kind = record {
   order = key_keys;
@@ -148,7 +144,9 @@ polygon_kind = record {
   renumbered_keys = chain_polygons-renumbered;
   in_all = λ c i k h. polygons_from_placed c.county (order_in c i) c.is (arranges_in c i) k (seen_placed key_keys c i chain_polygons k h);
   listed = λ c i k h. placed_seen key_keys c i chain_polygons k (polygons_to_placed c.county (order_in c i) c.is (arranges_in c i) k h);
-  number_is = polygon_number_is;
+  number_is = λ c i k h. ap (λ (p : PolygonKey). p.1) (ap (λ pairs. image key_cmp pairs k) (sym (keys_paired c.county (directed_in c i) c.is
+      (whole_in c i) (seen_in key_cmp chain_polygons c i) (polygons_seen c i)))
+      ∙ image-under_cenid (seen_in key_cmp chain_polygons c i) k h);
   numbered = λ c i j k e. ap₂ (λ (cenid : List ℕ) (polyid : ℕ). (cenid, polyid)) (cenid_kept c i k ∙ sym (cenid_kept c j k)) e;
 }
 
@@ -166,16 +164,7 @@ name_known c i k h =
     let own = from_placed c.county (order_in c i) c.is (arranges_in c i) named.0 named.1 in
     ltb-true 0 (times nat_cmp k (feats c.county)) (all_among (λ f. IsTrue (contains nat_cmp f (feats c.county))) k own.0.1.feats
     (all_among (λ (entry : ℕ × Chain). AllContained (feats c.county) entry.1.feats) own.0 c.county.chains c.is.closed.names own.1)
-    (subst (Among k) (same own.2.0 own.0.1) (subst (λ x. Among k (chain_feats x)) own.2.1 named.2)))
-  where
-    same : (b : Bool) (x : Chain) → (turned_if b x).feats ≡ x.feats
-    same true x = refl
-    same false x = refl
-
-pub name_number_is : (c : OrderedCounty) (i k : ℕ) → Known nat_cmp (feats_in_order c.county (directed_in c i)) k
-    → new_name (new_in c i) k ≡ 1 + place_in nat_cmp (feats_in_order c.county (directed_in c i)) k
-name_number_is c i k h = ap (λ pairs. image nat_cmp pairs k) (names_renamed c.county (order_in c i) c.is (arranges_in c i))
-    ∙ image-numbered (feats_in_order c.county (directed_in c i)) k h
+    (subst (Among k) (feats-turned own.2.0 own.0.1) (subst (λ x. Among k (chain_feats x)) own.2.1 named.2)))
 
 abbrev pub name_kind : KeyKind nat_cmp
 name_kind = record {
@@ -190,7 +179,8 @@ name_kind = record {
   in_all = name_known;
   listed = λ c i k h. known-permutation nat_keys k (feats_in_order c.county (directed_in c i)) (feats c.county)
       (feats_permuted c.county (directed_in c i) c.is (whole_in c i)) h;
-  number_is = name_number_is;
+  number_is = λ c i k h. ap (λ pairs. image nat_cmp pairs k) (names_renamed c.county (order_in c i) c.is (arranges_in c i))
+      ∙ image-numbered (feats_in_order c.county (directed_in c i)) k h;
   numbered = λ c i j k e. e;
 }
 
@@ -243,3 +233,175 @@ module _ {K : Type 0} {cmp : K → K → Ordering} (kind : KeyKind cmp) (wanted_
     also : (i : ℕ) (k : K) → is_wanted k ≡ true → Known cmp (kind.list small i) k → Known cmp (kind.list whole i) k
     also i k e h = (in_filtered kind.order is_wanted (kind.list whole i) k
         (subst (λ ks. Known cmp ks k) (sym (same i)) (to_filtered kind.order is_wanted (kind.list small i) k h e))).0
+
+-- ---- in two choices keys first appear in the same order, except for wanted ones; in a county and in its small county
+
+-- Keys by first appearance in the choices of a county and of its small county: in each county two choices differ in wanted keys alone, both
+-- counties have these in one order, and all keys of chains at open places are there.
+pub record AreSeenAlike {K : Type 0} {cmp : K → K → Ordering} (kind : KeyKind cmp) (wanted_keys : List K) (whole small : OrderedCounty) : Type 0 where
+  pub reordered : (n m : ℕ) → AreReordered kind.order (λ k. contains cmp k wanted_keys) (seen_in cmp kind.keys whole n) (seen_in cmp kind.keys whole m)
+  pub small_reordered : (n m : ℕ)
+      → AreReordered kind.order (λ k. contains cmp k wanted_keys) (seen_in cmp kind.keys small n) (seen_in cmp kind.keys small m)
+  pub same : (n : ℕ) → filter (λ k. contains cmp k wanted_keys) (seen_in cmp kind.keys whole n)
+      ≡ filter (λ k. contains cmp k wanted_keys) (seen_in cmp kind.keys small n)
+  pub opened_seen : (n : ℕ) (k : K) → Known cmp (keys_at_open kind.keys whole.county whole.shapes) k → Known cmp (seen_in cmp kind.keys whole n) k
+  pub opened_small : (n : ℕ) (k : K) → Known cmp (keys_at_open kind.keys whole.county whole.shapes) k → Known cmp (seen_in cmp kind.keys small n) k
+
+module _ {K : Type 0} {cmp : K → K → Ordering} (kind : KeyKind cmp) (c : OrderedCounty) where
+  abbrev opens : ℕ → Bool
+  opens = is_open c.shapes.places
+
+  abbrev by_shape : List DirectedChain
+  by_shape = c.shapes.by_shape
+
+  -- the keys of a directed chain
+  abbrev keys_of : DirectedChain → List K
+  keys_of directed = flat_map kind.keys (option_to_list (directed_chain c.county directed))
+
+  -- the keys at a place
+  abbrev keys_there : List DirectedChain → ℕ → List K
+  keys_there arrangement = group_at (keys_along kind.keys c.county arrangement)
+
+  -- the keys at places that pass a test
+  abbrev tested : (ℕ → Bool) → List DirectedChain → List K
+  tested test arrangement = kept_keys test keys_of 0 arrangement
+
+  read_at : (test : ℕ → Bool) (arrangement : List DirectedChain)
+      → tested test arrangement ≡ flat_map (keys_there arrangement) (filter test (range_with_len 0 (length arrangement)))
+  read_at test arrangement = kept_there test keys_of (keys_there arrangement) 0 arrangement
+      (λ i x e. ap (keys_there arrangement) (let t : 0 + i ≡ i = omega arith in t) ∙ group_of keys_of arrangement i x e)
+
+  read_all : (n : ℕ) → tested (λ p. true) (directed_in c n) ≡ grouped (along_in c n kind.keys)
+  read_all n = all_kept keys_of 0 (directed_in c n) ∙ sym (grouped_map keys_of (directed_in c n))
+
+  -- those at open places of the order of shapes
+  read_open : tested opens by_shape ≡ keys_at_open kind.keys c.county c.shapes
+  read_open = read_at opens by_shape ∙ sym (grouped_map (keys_there by_shape) _)
+
+  -- Choices, read at the places that pass a test.
+  module _ (wanted : K → Bool) (keep : ℕ → Bool) (open_kept : (place : ℕ) → opens place ≡ true → keep place ≡ true)
+      (met : AreMet kind.order keys_of opens keep open_kept wanted [] 0 by_shape) where
+    abbrev seen : List DirectedChain → List K
+    seen arrangement = first_seen cmp (tested keep arrangement)
+
+    from_shapes : (n : ℕ) → AreReordered kind.order wanted (seen by_shape) (seen (directed_in c n))
+    from_shapes n = (all_moved kind.order keys_of opens keep open_kept wanted other_way
+        (turned_alike c.county kind.order kind.keys kind.turned_keys) c.shapes.places by_shape n c.known.within
+        (covered_among c.shapes.places c.shapes.places (λ place e. e)) met).reordered [] (λ k h. h)
+
+    between : (n m : ℕ) → AreReordered kind.order wanted (seen (directed_in c n)) (seen (directed_in c m))
+    between n m = reordered_then kind.order wanted _ _ _ (reordered_back kind.order wanted _ _ (from_shapes n)) (from_shapes m)
+
+    -- the keys at open places are among them
+    opened_between : (n : ℕ) (k : K) → Known cmp (keys_at_open kind.keys c.county c.shapes) k → Known cmp (seen (directed_in c n)) k
+    opened_between n k h =
+        let along : ℕ → List K = keys_there by_shape in
+        let places : List ℕ = range_with_len 0 (length by_shape) in
+        let there = among-unpieces along k (filter opens places)
+        (known_is_among kind.order k _ (subst (λ ks. Known cmp ks k) (grouped_map along (filter opens places)) h)) in
+        let place = among_filtered opens there.0 places there.1 in
+        ((from_shapes n).alike k).0 (to_first_seen kind.order (tested keep by_shape) k
+        (subst (λ ks. Known cmp ks k) (sym (read_at keep by_shape)) (among_known kind.order k (flat_map along (filter keep places))
+        (among-pieces along there.0 k (filter keep places) (to_filter keep there.0 places place.0 (open_kept there.0 place.1)) there.2))))
+
+  -- A key that doesn't first appear at an open place of the order of shapes has one place in all choices.
+  pub unopened_stays : (n m : ℕ) (k : K) → contains cmp k (first_open cmp c.shapes.places (keys_along kind.keys c.county by_shape)) ≡ false
+      → place_in cmp (seen_in cmp kind.keys c n) k ≡ place_in cmp (seen_in cmp kind.keys c m) k
+  unopened_stays n m k e =
+      same_place kind.order opened (seen_in cmp kind.keys c n) (seen_in cmp kind.keys c m)
+      (reordered_all kind.order opened (seen_in cmp kind.keys c n) (seen_in cmp kind.keys c m)
+      (rw (← read_all n, ← read_all m) (between opened (λ p. true) (λ p f. refl)
+      (first_met kind.order keys_of opens (λ p. true) (λ p f. refl) opened (λ p. refl) [] [] 0 by_shape (λ j f h. h)
+      (λ j h. lt-ltb 0 (times cmp j (first_open cmp c.shapes.places (keys_along kind.keys c.county by_shape))) h)) n m))) k e
+    where
+      opened : K → Bool
+      opened j = contains cmp j (first_open cmp c.shapes.places (keys_along kind.keys c.county by_shape))
+
+  -- If all keys at open places are wanted:
+  module _ (wanted_keys : List K) (opened_wanted : (k : K) → Known cmp (keys_at_open kind.keys c.county c.shapes) k → Known cmp wanted_keys k) where
+    abbrev wanted : K → Bool
+    wanted k = contains cmp k wanted_keys
+
+    open_wanted : (k : K) → Known cmp (tested opens by_shape) k → wanted k ≡ true
+    open_wanted k h = lt-ltb 0 (times cmp k wanted_keys) (opened_wanted k (subst (λ ks. Known cmp ks k) read_open h))
+
+    open_met : (keep : ℕ → Bool) (open_kept : (place : ℕ) → opens place ≡ true → keep place ≡ true)
+        → AreMet kind.order keys_of opens keep open_kept wanted [] 0 by_shape
+    open_met keep open_kept = wanted_met kind.order keys_of opens keep open_kept wanted [] 0 by_shape open_wanted
+
+    -- Each key of a chain at an open place of a choice is wanted.
+    pub opened_in : (n place : ℕ) (x : Chain) → opens place ≡ true → slice_get (chains_at c n) place ≡ Some x → (k : K) → Known cmp (kind.keys x) k
+        → wanted k ≡ true
+    opened_in n place x f e k h =
+        let places : List ℕ = range_with_len 0 (length (directed_in c n)) in
+        let below = none_past (chains_at c n) place x e in
+        let as_many = length_at c n ∙ sym (count_in c n) in
+        let there : Known cmp (flat_map (keys_there (directed_in c n)) (filter opens places)) k =
+        among_known kind.order k _ (among-pieces (keys_there (directed_in c n)) place k (filter opens places)
+        (to_filter opens place places (in_range (length (directed_in c n)) place (omega (arith, below, as_many))) f)
+        (known_is_among kind.order k _ (subst (λ ks. Known cmp ks k) (sym (group_chain c n kind.keys place x e))
+        (known-left kind.order k (kind.keys x) [] h)))) in
+        open_wanted k (from_first_seen kind.order (tested opens by_shape) k
+        (((from_shapes wanted opens (λ p g. g) (open_met opens (λ p g. g)) n).alike k).1
+        (to_first_seen kind.order (tested opens (directed_in c n)) k
+        (subst (λ ks. Known cmp ks k) (sym (read_at opens (directed_in c n))) there))))
+
+    -- A small county, whose chains in a choice are those at kept places; each place that brings a wanted key is kept.
+    module _ (bringing_kept : (place : ℕ) → brings cmp c.shapes.places wanted_keys (keys_along kind.keys c.county by_shape) place ≡ true
+        → is_kept c.county c.shapes place ≡ true) (small : OrderedCounty) (part : IsKeptPart c small (is_kept c.county c.shapes)) where
+      abbrev kept : ℕ → Bool
+      kept = is_kept c.county c.shapes
+
+      -- the keys at kept places
+      read_kept : (n : ℕ) → tested kept (directed_in c n) ≡ flat_map (keys_there (directed_in c n)) (places_in c kept)
+      read_kept n = read_at kept (directed_in c n)
+          ∙ ap (λ count. flat_map (keys_there (directed_in c n)) (filter kept (range_with_len 0 count))) (count_in c n)
+
+      -- are all keys along its chains
+      read_small : (n : ℕ) → tested kept (directed_in c n) ≡ grouped (along_in small n kind.keys)
+      read_small n =
+          read_kept n ∙ sym (grouped_map (keys_there (directed_in c n)) (places_in c kept)) ∙ sym (groups_at (along_in c n kind.keys) (places_in c kept))
+          ∙ ap grouped (ap (λ groups. at_places groups (places_in c kept)) (keys_read c n kind.keys)
+          ∙ sym (map-at_places (keys_of_chain c n kind.keys) (chains_at c n) (places_in c kept))
+          ∙ ap (map (keys_of_chain c n kind.keys)) (sym (part.chains n)) ∙ sym (keys_read small n kind.keys))
+
+      -- wanted keys are in one order along all chains and along those at kept places
+      same_keys : (n : ℕ) → filter wanted (seen_in cmp kind.keys c n) ≡ filter wanted (first_seen cmp (tested kept (directed_in c n)))
+      same_keys n =
+          ap (λ ks. filter wanted (first_seen cmp ks)) (ap grouped (sym (groups_listed here))
+          ∙ grouped_map (group_at here) (range_with_len 0 (length here)) ∙ ap (λ count. flat_map (group_at here) (range_with_len 0 count))
+          (length-map (directed_in c n) keys_of ∙ count_in c n))
+          ∙ same_wanted kind.order wanted kept (group_at here) brought (length by_shape)
+          ∙ ap (λ ks. filter wanted (first_seen cmp ks)) (sym (read_kept n))
+        where
+          here : List (List K)
+          here = along_in c n kind.keys
+
+          -- a place that is left out is fixed, and brings nothing
+          brought : (place : ℕ) → kept place ≡ false → (k : K) → Known cmp (group_at here place) k → wanted k ≡ true
+              → IsBrought kind.order kept (group_at here) place k
+          brought place out k h is_wanted =
+              let along : List (List K) = keys_along kind.keys c.county by_shape in
+              let nothing = false_from_ne_true (brings cmp c.shapes.places wanted_keys along place) (λ e. false≢true (sym out ∙ bringing_kept place e)) in
+              let first =
+              fixed_before kind.order c.shapes.places along wanted_keys place nothing k is_wanted
+              (subst (λ ks. Known cmp ks k) (group_fixed c n kind.keys place (part.fixed place out)) h) in
+              record {
+                before = first.0.first;
+                less = first.1;
+                kept = bringing_kept first.0.first first.0.new_there;
+                here = subst (λ ks. Known cmp ks k) (sym (group_fixed c n kind.keys first.0.first first.0.fixed)) first.0.here;
+              }
+
+      pub seen_alike : AreSeenAlike kind wanted_keys c small
+      seen_alike =
+          let all = open_met (λ p. true) (λ p e. refl) in
+          let open_kept = λ (p : ℕ) (e : opens p ≡ true). or_left (opens p) _ e in
+          let at_kept = open_met kept open_kept in
+          record {
+            reordered = λ n m. rw (← read_all n, ← read_all m) (between wanted (λ p. true) (λ p e. refl) all n m);
+            small_reordered = λ n m. rw (← read_small n, ← read_small m) (between wanted kept open_kept at_kept n m);
+            same = λ n. same_keys n ∙ ap (λ ks. filter wanted (first_seen cmp ks)) (read_small n);
+            opened_seen = λ n k h. rw (← read_all n) (opened_between wanted (λ p. true) (λ p e. refl) all n k h);
+            opened_small = λ n k h. rw (← read_small n) (opened_between wanted kept open_kept at_kept n k h);
+          }

@@ -1,8 +1,8 @@
 -- Lists put in order by orders that compare their elements alike, and lists filtered by tests.
 use Rattle.tl_number.proofs.Common.{Among, Bool, IsKeyOrder, List, Ordering, Some, [], all_among, all_filter, all_themselves, ap, ap₂, cond}
-use Rattle.tl_number.proofs.Common.{cond-false, cond_both, differ, each_from, false, false≢true, filter, filter-agree, filter-agree_all}
-use Rattle.tl_number.proofs.Common.{filter-filtered, from_in_order, in_order, inl, inr, is_eq, is_gt, map, on, put_in_order, refl, sym}
-use Rattle.tl_number.proofs.Common.{true, value_under, ◌&&◌, ◌∙◌, ◌∷◌, ◌≡◌}
+use Rattle.tl_number.proofs.Common.{cond-false, cond_both, differ, false, false≢true, filter, filter-agree, filter-filtered, from_in_order}
+use Rattle.tl_number.proofs.Common.{in_order, inl, inr, is_eq, is_gt, map, on, put_in_order, refl, sym, true, value_under, ◌&&◌, ◌∙◌, ◌∷◌}
+use Rattle.tl_number.proofs.Common.{◌≡◌}
 use Rattle.tl_number.proofs.Ties.CountyParts.{all_pass}
 
 -- an element is put before the same one by orders that compare it alike
@@ -61,10 +61,6 @@ filters_swap test other xs =
     swap true false = refl
     swap false true = refl
     swap false false = refl
-
--- tests that give the same at each element of a list
-pub filters_alike : {X : Type 0} (test other : X → Bool) (xs : List X) → ((x : X) → Among x xs → test x ≡ other x) → filter test xs ≡ filter other xs
-filters_alike test other xs alike = filter-agree_all test other xs (each_from (λ x. test x ≡ other x) xs alike)
 
 -- the value under a key that passes a test is there among the entries whose keys pass
 pub value_filtered : {K V : Type 0} {cmp : K → K → Ordering} (o : IsKeyOrder cmp) (test : K → Bool) (entries : List (K × V)) (key : K) → test key ≡ true

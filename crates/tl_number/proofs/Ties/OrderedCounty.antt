@@ -8,7 +8,7 @@ use Rattle.tl_number.proofs.Common.{contains, directed_chain, false, few_chains,
 use Rattle.tl_number.proofs.Common.{key_keys, known_all, length, link_key, ltb-true, map, most_records, numbered_arrangement}
 use Rattle.tl_number.proofs.Common.{numbered_choice, numbered_from, option_map, polygon_keys, polygons_along, range_with_len, read_length}
 use Rattle.tl_number.proofs.Common.{refl, renaming_of, slice_get, slice_get-map, subst, sym, times, whole_arrangement, ℕ, ◌∙◌, ◌≡◌}
-use Rattle.tl_number.proofs.Ties.OpenChains.{closed_apart}
+use Rattle.tl_number.proofs.Ties.Places.{closed_apart}
 use Rattle.canonical_form.proofs.Choices.ChosenArrangements.{arrangement_of_number_apart, arrangement_of_number_count, places_in_order}
 
 -- a county with an order of its shapes that leaves its choices

@@ -1,9 +1,17 @@
--- The choices of a part of a list that keeps each element that a choice moves or turns.
-use Rattle.tl_number.proofs.Common.{AllByRecursion, Bool, IsInOrder, IsKeyOrder, IsTotalOrder, List, Ordering, [], all_filter, all_take}
-use Rattle.tl_number.proofs.Common.{all_weaker, ap, arith, chosen, cond, cond-false, cond-true, cond_both, count-map, false, filter}
-use Rattle.tl_number.proofs.Common.{filter-agree_all, filter-filtered, in_order, in_order-in_order, insert, is_eq, is_gt, length, map}
-use Rattle.tl_number.proofs.Common.{map_agree_all, put_in_order, refl, running, stood, subst, suc, sym, take, take-take, times, true}
-use Rattle.tl_number.proofs.Common.{turned_by, upto, zero, ℕ, ⊤, ◌%◌, ◌&&◌, ◌*◌, ◌/◌, ◌∙◌, ◌∷◌, ◌≡◌, ◌≤◌}
+-- The choices of a part of a list, and those of a county that has some of another county's chains.
+use Rattle.tl_number.proofs.Common.{AllByRecursion, filter-agree_all, filter-filtered, numbered_choice, shapes_ascending, turned_directed}
+use Rattle.tl_number.proofs.Common.{Bool, Chain, List, Some, arith, cond, map, on, refl, subst, suc, take, true, upto, zero, ◌/◌, ◌==◌, ◌≤◌}
+use Rattle.tl_number.proofs.Common.{County, [], choices, chosen, false, filter, insert, is_eq, is_gt, is_open, length, shapes, stood, times}
+use Rattle.tl_number.proofs.Common.{IsCounty, OpenPlace, Ordering, all_take, eqb-true, flat_map, in_order, not-true, on_total, take-take, ⊤}
+use Rattle.tl_number.proofs.Common.{IsInOrder, all_everywhere, directed_shape, filter-mapped, in_order-unmap, map_agree_all, order_antisymm}
+use Rattle.tl_number.proofs.Common.{IsKeyOrder, all_filter, all_weaker, cases_Bool, cond-false, entries_of, is_settled, points_cmp, running}
+use Rattle.tl_number.proofs.Common.{IsPermutation-map, choices_of_shapes, from_permutation, in_order-in_order, in_order-is_permutation, ◌⊎◌}
+use Rattle.tl_number.proofs.Common.{IsTotalOrder, comes_turned, differ_apart, in_order-map, is_either_way, open_place_at, order_itself, ◌%◌}
+use Rattle.tl_number.proofs.Common.{and_parts, ascending, cond-true, cond_both, count-map, same-true, slice_get, times-yes, turned_by, ◌&&◌}
+use Rattle.tl_number.proofs.Common.{ap, inl, inr, not, sym, ℕ, ◌*◌, ◌+◌, ◌<◌, ◌∙◌, ◌∷◌, ◌≡◌}
+use Rattle.tl_number.proofs.Common.{entry_shape, false≢true, open_places, points_keys, put_in_order, running-same, same_or_not, stated_here}
+use Rattle.tl_number.proofs.Ties.CountyParts.{all_pass}
+use Rattle.tl_number.proofs.Ties.Places.{AreMarked, covered_open, later_open}
 
 -- A list can be filtered before or after it's put in order.
 module _ {X : Type 0} {by : X → X → Ordering} (o : IsTotalOrder by) (keep : X → Bool) where
@@ -164,3 +172,146 @@ module _ {X K : Type 0} {cmp : K → K → Ordering} (o : IsKeyOrder cmp) (eithe
       let r : ℕ = running cmp either (map key xs) in
       let once : r ≡ 1 * (1 * r) = omega arith in
       running_part xs h.1 ∙ once ∙ (λ i. suc (sym settled.0 i) * (cond (sym settled.1 i) 2 1 * r))))
+
+-- ---- a list that is in order and keeps its elements at open places keeps all that a choice moves or turns
+
+module _ {X K : Type 0} {cmp : K → K → Ordering} (o : IsKeyOrder cmp) (either : K → Bool) (key : X → K) (turn : X → X) (keep : X → Bool)
+    (turned : (x : X) → keep (turn x) ≡ keep x) where
+  -- in order, the elements with the key of an earlier one come first
+  same_kept : (k : K) (ys : List X) → IsInOrder (on key cmp) ys → AllByRecursion (λ y. is_gt (cmp k (key y)) ≡ false) ys
+      → AllByRecursion (λ b. b ≡ true) (take (times cmp k (map key ys)) (map keep ys))
+      → AllByRecursion (λ y. is_eq (cmp k (key y)) ≡ true → keep y ≡ true) ys
+  same_kept k [] h a f = tt
+  same_kept k (y ∷ ys) h a f = go (same_or_not o k (key y)) (same_kept k ys h.1 a.1)
+    where
+      go : (k ≡ key y) ⊎ (is_eq (cmp k (key y)) ≡ false)
+          → (AllByRecursion (λ b. b ≡ true) (take (times cmp k (map key ys)) (map keep ys))
+          → AllByRecursion (λ z. is_eq (cmp k (key z)) ≡ true → keep z ≡ true) ys)
+          → AllByRecursion (λ z. is_eq (cmp k (key z)) ≡ true → keep z ≡ true) (y ∷ ys)
+      go (inl same) ih =
+          let first : AllByRecursion (λ b. b ≡ true) (keep y ∷ take (times cmp k (map key ys)) (map keep ys)) =
+          subst (λ n. AllByRecursion (λ b. b ≡ true) (take n (map keep (y ∷ ys)))) (times-yes o k (key y) (map key ys) same) f in
+          ((λ e. first.0), ih first.1)
+      go (inr ne) ih = all_weaker (λ z. is_gt (cmp (key y) (key z)) ≡ false) (λ z. is_eq (cmp k (key z)) ≡ true → keep z ≡ true)
+          (λ z g e. absurd (differ_apart o k (key y) ne (order_antisymm o k (key y) a.0
+          (subst (λ j. is_gt (cmp (key y) j) ≡ false) (sym (same-true o k (key z) e)) g)))) (y ∷ ys) (order_itself o (key y), h.0)
+
+  first_kept : (t : ℕ) (xs : List X) → ((i : ℕ) (x : X) → i < t → slice_get xs i ≡ Some x → keep x ≡ true)
+      → AllByRecursion (λ b. b ≡ true) (take t (map keep xs))
+  first_kept zero xs h = tt
+  first_kept (suc t) [] h = tt
+  first_kept (suc t) (x ∷ xs) h = (h 0 x (omega arith) refl, first_kept t xs (λ i y l e. h (suc i) y (omega (arith, l)) e))
+
+  pub keeps_open : (kept : ℕ → Bool) (place : ℕ) (xs : List X) → IsInOrder (on key cmp) xs → AreMarked keep (λ i. kept (place + i)) xs
+      → ((p : ℕ) → is_open (open_places cmp either place (map key xs)) p ≡ true → kept p ≡ true)
+      → KeepsOpen o either key turn keep turned xs
+  keeps_open kept place [] h marked opened = tt
+  keeps_open kept place (x ∷ xs) h marked opened = (
+    record { settled = settled; first = first; same = same_kept (key x) xs h.1 h.0 first },
+    keeps_open kept (suc place) xs h.1
+        (λ i y e. marked (suc i) y e ∙ ap kept (let t : place + suc i ≡ suc place + i = omega arith in t))
+        (λ p e. opened p (cond_both (is_settled at) rest (at ∷ rest) (λ l. is_open l p ≡ true) (λ s. e) (λ s. later_open p at rest e))),
+  )
+    where
+      t : ℕ
+      t = times cmp (key x) (map key xs)
+
+      at : OpenPlace
+      at = open_place_at cmp either place (key x) (map key xs)
+
+      rest : List OpenPlace
+      rest = open_places cmp either (suc place) (map key xs)
+
+      alone : is_settled at ≡ true → (t ≡ 0) × (either (key x) ≡ false)
+      alone e = let parts = and_parts (suc t == 1) (not (either (key x))) e in
+          let one : suc t ≡ 1 = eqb-true (suc t) 1 parts.0 in (omega (arith, one), not-true (either (key x)) parts.1)
+
+      covered : is_settled at ≡ false → (i : ℕ) (y : X) → i < suc t → slice_get (x ∷ xs) i ≡ Some y → keep y ≡ true
+      covered s i y l e = marked i y e ∙ opened (place + i) (ap (λ b. is_open (cond b rest (at ∷ rest)) (place + i)) s
+          ∙ covered_open (place + i) at rest (omega arith, omega (arith, l)))
+
+      settled : keep x ≡ false → (t ≡ 0) × (either (key x) ≡ false)
+      settled e = go (cases_Bool (is_settled at))
+        where
+          go : (is_settled at ≡ true) ⊎ (is_settled at ≡ false) → (t ≡ 0) × (either (key x) ≡ false)
+          go (inl s) = alone s
+          go (inr s) = absurd (false≢true (sym e ∙ covered s 0 x (omega arith) refl))
+
+      first : AllByRecursion (λ b. b ≡ true) (take t (map keep xs))
+      first = first_kept t xs (λ i y l e. go i y l e (cases_Bool (is_settled at)))
+        where
+          go : (i : ℕ) (y : X) → i < t → slice_get xs i ≡ Some y → (is_settled at ≡ true) ⊎ (is_settled at ≡ false) → keep y ≡ true
+          go i y l e (inl s) = absurd (omega (arith, l, (alone s).0))
+          go i y l e (inr s) = covered s (suc i) y (omega (arith, l)) e
+
+-- ---- if a county has some of another county's chains, with all at open places, its choices are parts of the other county's choices
+
+-- the ascending arrangement of a county: its shapes are in order, and as many choices are left open
+module _ (county : County) where
+  abbrev ordered : List (ℕ × Chain)
+  ordered = in_order (on entry_shape points_cmp) county.chains
+
+  pub ascending_ordered : IsCounty county → IsInOrder (on (directed_shape county) points_cmp) (ascending county)
+  ascending_ordered is = in_order-unmap points_cmp (directed_shape county) (ascending county)
+      (subst (IsInOrder points_cmp) (sym (shapes_ascending county is))
+      (in_order-map points_cmp entry_shape ordered (in_order-in_order (on_total entry_shape points_keys.total) county.chains)))
+
+  ascending_choices : IsCounty county → running points_cmp is_either_way (map (directed_shape county) (ascending county)) ≡ choices county
+  ascending_choices is = ap (running points_cmp is_either_way) (shapes_ascending county is)
+      ∙ running-same points_keys is_either_way (map entry_shape ordered) (shapes county)
+      (from_permutation (map entry_shape ordered) (shapes county)
+      (IsPermutation-map entry_shape ordered county.chains (in_order-is_permutation (on entry_shape points_cmp) county.chains)))
+      ∙ choices_of_shapes county
+
+module _ (county small : County) (keep : ℕ → Bool) (chains_are : small.chains ≡ filter (λ entry. keep entry.0) county.chains) where
+  -- whether a directed chain is kept
+  abbrev pub keeps_directed : ℕ × Bool → Bool
+  keeps_directed directed = keep directed.0
+
+  ascending_part : ascending small ≡ filter keeps_directed (ascending county)
+  ascending_part =
+      let directed : ℕ × Chain → ℕ × Bool = λ entry. (entry.0, comes_turned entry.1) in
+      ap (λ es. map directed (in_order (on entry_shape points_cmp) es)) chains_are
+      ∙ ap (map directed) (sym (filter_ordered (on_total entry_shape points_keys.total) (λ (entry : ℕ × Chain). keep entry.0) county.chains))
+      ∙ sym (filter-mapped keeps_directed directed (ordered county))
+
+  -- the entries with a TLID that is kept are kept, so a chain has its shape
+  pub entries_part : (tlid : ℕ) → keep tlid ≡ true → entries_of small.chains tlid ≡ entries_of county.chains tlid
+  entries_part tlid e = ap (λ es. entries_of es tlid) chains_are
+      ∙ filter_narrower (λ (entry : ℕ × Chain). keep entry.0) (λ entry. entry.0 == tlid) county.chains
+      (all_everywhere (λ (entry : ℕ × Chain). (entry.0 == tlid) ≡ true → keep entry.0 ≡ true) (λ entry s. ap keep (eqb-true entry.0 tlid s) ∙ e) county.chains)
+
+  shape_part : (directed : ℕ × Bool) → keeps_directed directed ≡ true → directed_shape small directed ≡ directed_shape county directed
+  shape_part directed e = ap (flat_map entry_shape) (entries_part directed.0 e)
+
+  -- If the chains at open places are kept,
+  module _ (opened : KeepsOpen points_keys is_either_way (directed_shape county) turned_directed keeps_directed (λ d. refl) (ascending county)) where
+    both_choices : (n : ℕ)
+        → IsChosenPart points_keys is_either_way (directed_shape county) turned_directed keeps_directed (λ d. refl) (ascending county) n
+    both_choices = chosen_part points_keys is_either_way (directed_shape county) turned_directed keeps_directed (λ d. refl)
+        (ascending county) opened
+
+    -- a choice of the small county is what is kept of the choice with its number,
+    pub choice_part : IsCounty county → IsCounty small → (n : ℕ) → numbered_choice small n ≡ filter keeps_directed (numbered_choice county n)
+    choice_part is is_small n =
+        stated_here small is_small n
+        ∙ ap (λ ds. (chosen points_cmp is_either_way (directed_shape small) turned_directed ds n).0) ascending_part
+        ∙ ap (λ r. r.0) (chosen_same points_cmp is_either_way (directed_shape small) (directed_shape county) turned_directed
+        (filter keeps_directed (ascending county)) (all_weaker (λ d. keeps_directed d ≡ true) (λ d. directed_shape small d ≡ directed_shape county d)
+        shape_part (filter keeps_directed (ascending county)) (all_pass keeps_directed (ascending county))) n)
+        ∙ ap (λ r. r.0) (both_choices n).part
+        ∙ ap (filter keeps_directed) (sym (stated_here county is n))
+
+    -- which is at the places where the ascending arrangement has kept chains,
+    pub choice_flags : IsCounty county → (n : ℕ) → map keeps_directed (numbered_choice county n) ≡ map keeps_directed (ascending county)
+    choice_flags is n = ap (map keeps_directed) (stated_here county is n) ∙ (both_choices n).flags
+
+    -- and it has as many choices.
+    pub choices_part : IsCounty county → IsCounty small → choices small ≡ choices county
+    choices_part is is_small =
+        sym (ascending_choices small is_small)
+        ∙ ap (λ ds. running points_cmp is_either_way (map (directed_shape small) ds)) ascending_part
+        ∙ ap (running points_cmp is_either_way) (map_agree_all (directed_shape small) (directed_shape county) (λ d. keeps_directed d ≡ true) shape_part
+        (filter keeps_directed (ascending county)) (all_pass keeps_directed (ascending county)))
+        ∙ running_part points_keys is_either_way (directed_shape county) turned_directed keeps_directed (λ d. refl) (ascending county) opened
+        ∙ ascending_choices county is

@@ -1,15 +1,16 @@
 -- The tables of a part of a county hold its keys, and the places of its entries in the county.
-use Rattle.tl_number.proofs.Common.{AreReadAt, HoldsPart, IsInOrder, first_seen, keys_along, length-map, links_with, option_map, true≢false}
-use Rattle.tl_number.proofs.Common.{Body7, PartTables, PolygonKey, append-nil, entry_keys, false≢true, feats_along, filter_map, nodes_along}
-use Rattle.tl_number.proofs.Common.{Bool, Chain, IfSome, List, Option, ap, arith, false, feats, filter, get_or, lands, length, subst, tlids}
-use Rattle.tl_number.proofs.Common.{County, contains, distinct, flat_map, key_cmp, key_keys, links_at, list_any, map-map, nat_cmp, nat_keys}
-use Rattle.tl_number.proofs.Common.{DirectedChain, IsKeyOrder, distinct_same, polygons_along, range_with_len, slice_get-map, slice_get_past}
-use Rattle.tl_number.proofs.Common.{Fields8, chain_feats, chain_nodes, cons_option, entry_values, places_among, polygon_keys, to_first_seen}
-use Rattle.tl_number.proofs.Common.{IsCounty, IsPicked, Ordering, at_places, bodies_at, grouped, part_with, slice_get, turned_if, unwrap_or}
-use Rattle.tl_number.proofs.Common.{None, Some, ap₂, cond, map, refl, suc, sym, true, zero, ℕ, ◌++◌, ◌+◌, ◌||◌, ◌∙◌, ◌∷◌, ◌≡◌}
-use Rattle.tl_number.proofs.Common.{[], chain_polygons, contains_alike, distinct-in_order, from_first_seen, in_order-strict, option_to_list}
-use Rattle.tl_number.proofs.Common.{slice_get_within, ◌<◌}
+use Rattle.tl_number.proofs.Common.{AreReadAt, Body7, Bool, Chain, County, DirectedChain, HoldsPart, IfSome, IsKeyOrder, IsPicked, List}
+use Rattle.tl_number.proofs.Common.{Option, Ordering, PartTables, PolygonKey, Some, [], ap, append-nil, ap₂, arith, at_places, bodies_at}
+use Rattle.tl_number.proofs.Common.{chain_feats, chain_nodes, chain_polygons, cond, contains, contains_alike, distinct, distinct-in_order}
+use Rattle.tl_number.proofs.Common.{distinct_same, entry_keys, entry_values, false, feats, feats_along, filter, first_seen, flat_map}
+use Rattle.tl_number.proofs.Common.{from_first_seen, get_or, grouped, in_order-strict, key_cmp, key_keys, keys_along, lands, length}
+use Rattle.tl_number.proofs.Common.{length-map, links_at, links_with, list_any, map, map-map, nat_cmp, nat_keys, nodes_along, option_map}
+use Rattle.tl_number.proofs.Common.{option_to_list, part_with, places_among, polygon_keys, polygons_along, range_with_len, refl, slice_get}
+use Rattle.tl_number.proofs.Common.{slice_get-map, slice_get_past, slice_get_within, subst, suc, sym, tlids, to_first_seen, true, turned_if}
+use Rattle.tl_number.proofs.Common.{unwrap_or, zero, ℕ, ◌++◌, ◌<◌, ◌||◌, ◌∙◌, ◌∷◌, ◌≡◌}
+use Rattle.tl_number.proofs.Ties.Places.{marked_read}
 use Rattle.tl_number.specs.CountyParts.{part_of}
+use Rattle.arranged_county.proofs.Names.NameOrder.{filter_map_all}
 
 -- what is read at places is read at one of them
 read_there : {X : Type 0} (xs : List X) (places : List ℕ) (ys : List X) → AreReadAt xs places ys → (place : ℕ)
@@ -35,62 +36,23 @@ read_within f es [] there place e h = absurd (omega (arith, h))
 read_within f es (x ∷ picked) there zero e h = omega (arith, slice_get_within (map f es) there (f x) e, length-map es f)
 read_within f es (x ∷ picked) there (suc place) e h = read_within f es picked there place e (omega (arith, h))
 
--- what is read at each place is collected
-all_read : {P X : Type 0} (read : P → Option X) (ps : List P) (xs : List X) → map read ps ≡ map Some xs → filter_map read ps ≡ xs
-all_read read [] [] e = refl
-all_read read [] (x ∷ xs) e = cc
-all_read read (p ∷ ps) [] e = cc
-all_read read (p ∷ ps) (x ∷ xs) e =
-    let here : read p ≡ Some x = cc in
-    let rest : map read ps ≡ map Some xs = cc in
-    ap (λ o. cons_option o (filter_map read ps)) here ∙ ap (λ ys. x ∷ ys) (all_read read ps xs rest)
-
--- elements that pass, read at the places of a range that pass
-read_range : {X : Type 0} (passes : X → Bool) (test : ℕ → Bool) (read : ℕ → Option X) (xs : List X) (start : ℕ)
-    → ((i : ℕ) → read (start + i) ≡ slice_get xs i) → ((i : ℕ) → test (start + i) ≡ list_any passes (option_to_list (slice_get xs i)))
-    → map read (filter test (range_with_len start (length xs))) ≡ map Some (filter passes xs)
-read_range passes test read [] start reads tests = refl
-read_range {X} passes test read (x ∷ xs) start reads tests =
-    go (test start) (passes x) (ap test (sym first) ∙ tests 0 ∙ alone (passes x))
-    (read_range passes test read xs (start + 1) (λ i. ap read (next i) ∙ reads (suc i)) (λ i. ap test (next i) ∙ tests (suc i)))
-  where
-    first : start + 0 ≡ start
-    first = omega arith
-
-    next : (i : ℕ) → start + 1 + i ≡ start + suc i
-    next i = omega arith
-
-    alone : (b : Bool) → (b || false) ≡ b
-    alone true = refl
-    alone false = refl
-
-    rest : List ℕ
-    rest = filter test (range_with_len (start + 1) (length xs))
-
-    go : (b c : Bool) → b ≡ c → map read rest ≡ map Some (filter passes xs)
-        → map read (cond b (start ∷ rest) rest) ≡ map Some (cond c (x ∷ filter passes xs) (filter passes xs))
-    go true true e others = λ i. (ap read (sym first) ∙ reads 0) i ∷ others i
-    go false false e others = others
-    go true false e others = absurd (true≢false e)
-    go false true e others = absurd (false≢true e)
-
 -- entries with used keys, if the same keys are wanted
 module _ {K V : Type 0} (cmp : K → K → Ordering) (wanted used : List K) (same : (k : K) → contains cmp k wanted ≡ contains cmp k used)
     (es : List (K × V)) where
-  tested : (o : Option (K × V)) → list_any (λ k. contains cmp k wanted) (option_to_list (option_map (λ (e : K × V). e.0) o))
-      ≡ list_any (λ (e : K × V). contains cmp e.0 used) (option_to_list o)
-  tested None = refl
-  tested (Some e) = ap (λ b. b || false) (same e.0)
-
   -- are read at the places,
   pub picked_read : AreReadAt es (places_among cmp wanted (entry_keys es)) (filter (λ e. contains cmp e.0 used) es)
-  picked_read =
-      let test : ℕ → Bool = λ place. list_any (λ k. contains cmp k wanted) (option_to_list (slice_get (entry_keys es) place)) in
-      let zeroth : (i : ℕ) → 0 + i ≡ i = λ i. omega arith in
-      ap (λ n. map (slice_get es) (filter test (range_with_len 0 n))) (length-map es (λ (e : K × V). e.0))
-      ∙ read_range (λ (e : K × V). contains cmp e.0 used) test (slice_get es) es 0 (λ i. ap (slice_get es) (zeroth i))
-      (λ i. ap test (zeroth i) ∙ ap (λ o. list_any (λ k. contains cmp k wanted) (option_to_list o)) (slice_get-map (λ (e : K × V). e.0) es i)
-      ∙ tested (slice_get es i))
+  picked_read = ap (λ n. map (slice_get es) (filter test (range_with_len 0 n))) (length-map es (λ (e : K × V). e.0))
+      ∙ marked_read (λ (e : K × V). contains cmp e.0 used) test es (λ place e there.
+      sym (ap (λ o. list_any (λ k. contains cmp k wanted) (option_to_list o))
+      (slice_get-map (λ (e : K × V). e.0) es place ∙ ap (option_map (λ (e : K × V). e.0)) there)
+      ∙ ap (λ b. b || false) (same e.0) ∙ alone (contains cmp e.0 used)))
+    where
+      test : ℕ → Bool
+      test place = list_any (λ k. contains cmp k wanted) (option_to_list (slice_get (entry_keys es) place))
+
+      alone : (b : Bool) → (b || false) ≡ b
+      alone true = refl
+      alone false = refl
 
   -- and so are their keys
   pub picked_keys : at_places (entry_keys es) (places_among cmp wanted (entry_keys es)) ≡ entry_keys (filter (λ e. contains cmp e.0 used) es)
@@ -98,7 +60,7 @@ module _ {K V : Type 0} (cmp : K → K → Ordering) (wanted used : List K) (sam
       let key : K × V → K = λ e. e.0 in
       let places : List ℕ = places_among cmp wanted (entry_keys es) in
       let picked : List (K × V) = filter (λ e. contains cmp e.0 used) es in
-      all_read (slice_get (entry_keys es)) places (entry_keys picked)
+      filter_map_all (slice_get (entry_keys es)) places (entry_keys picked)
       ((λ i. map (λ p. slice_get-map key es p i) places)
       ∙ sym (map-map (option_map key) (slice_get es) places)
       ∙ ap (map (option_map key)) picked_read
@@ -159,23 +121,17 @@ tables_hold county tables chains picked there nodes names polygons =
 
 -- A part has all landmarks and links of the county, or none.
 module _ (county : County) (tables : PartTables) where
-  part_landmarks : (part_with county tables).landmarks ≡ cond tables.kept.linked county.landmarks []
-  unfolding part_of
-  part_landmarks = refl
-
-  part_links : (part_with county tables).links ≡ cond tables.kept.linked county.links []
-  unfolding part_of
-  part_links = refl
-
   pub part_lands : lands (part_with county tables) ≡ cond tables.kept.linked (lands county) []
-  part_lands = ap (map (λ entry. entry.0)) part_landmarks ∙ go tables.kept.linked
+  unfolding part_of
+  part_lands = go tables.kept.linked
     where
       go : (b : Bool) → map (λ (entry : ℕ × List Body7). entry.0) (cond b county.landmarks []) ≡ cond b (lands county) []
       go true = refl
       go false = refl
 
   pub part_land_count : {count : ℕ} → count ≡ cond tables.kept.linked (length county.landmarks) 0 → count ≡ length (part_with county tables).landmarks
-  part_land_count is = is ∙ go tables.kept.linked ∙ ap length (sym part_landmarks)
+  unfolding part_of
+  part_land_count is = is ∙ go tables.kept.linked
     where
       go : (b : Bool) → cond b (length county.landmarks) 0 ≡ length (cond b county.landmarks [])
       go true = refl
@@ -183,39 +139,33 @@ module _ (county : County) (tables : PartTables) where
 
   -- A landmark is read at its place in the county, or past the end
   module _ (place there : ℕ) (is : there ≡ cond tables.kept.linked place (length county.landmarks)) where
-    reads : {X Y : Type 0} (f : List (ℕ × List Body7) → List X) (part : List Fields8 → Option X → Y)
-        → ((b : Bool) → part county.links (slice_get (f county.landmarks) (cond b place (length county.landmarks)))
-        ≡ part (cond b county.links []) (slice_get (f (cond b county.landmarks [])) place))
-        → part county.links (slice_get (f county.landmarks) there) ≡ part (part_with county tables).links (slice_get (f (part_with county tables).landmarks) place)
-    reads f part go = ap (λ at. part county.links (slice_get (f county.landmarks) at)) is ∙ go tables.kept.linked
-        ∙ sym (λ i. part (part_links i) (slice_get (f (part_landmarks i)) place))
+    landmark_read : slice_get county.landmarks there ≡ slice_get (part_with county tables).landmarks place
+    unfolding part_of
+    landmark_read = ap (slice_get county.landmarks) is ∙ go tables.kept.linked
+      where
+        go : (b : Bool) → slice_get county.landmarks (cond b place (length county.landmarks)) ≡ slice_get (cond b county.landmarks []) place
+        go true = refl
+        go false = slice_get_past county.landmarks (length county.landmarks) (omega arith)
 
-    past : {X : Type 0} (f : ℕ × List Body7 → X) → slice_get (map f county.landmarks) (length county.landmarks) ≡ None
-    past f = slice_get_past (map f county.landmarks) (length county.landmarks) (omega (arith, length-map county.landmarks f))
+    field_read : {X : Type 0} (f : ℕ × List Body7 → X)
+        → slice_get (map f county.landmarks) there ≡ slice_get (map f (part_with county tables).landmarks) place
+    field_read f = slice_get-map f county.landmarks there ∙ ap (option_map f) landmark_read
+        ∙ sym (slice_get-map f (part_with county tables).landmarks place)
 
     pub land_read : slice_get (lands county) there ≡ slice_get (lands (part_with county tables)) place
-    land_read = reads (map (λ entry. entry.0)) (λ links land. land) (λ b. go b)
-      where
-        go : (b : Bool) → slice_get (lands county) (cond b place (length county.landmarks))
-            ≡ slice_get (map (λ (entry : ℕ × List Body7). entry.0) (cond b county.landmarks [])) place
-        go true = refl
-        go false = past (λ entry. entry.0)
+    land_read = field_read (λ entry. entry.0)
 
     pub bodies_read : bodies_at county there ≡ bodies_at (part_with county tables) place
-    bodies_read = reads (map (λ entry. entry.1)) (λ links bodies. unwrap_or bodies []) (λ b. go b)
-      where
-        go : (b : Bool) → unwrap_or (slice_get (entry_values county.landmarks) (cond b place (length county.landmarks))) []
-            ≡ unwrap_or (slice_get (map (λ (entry : ℕ × List Body7). entry.1) (cond b county.landmarks [])) place) []
-        go true = refl
-        go false = ap (λ o. unwrap_or o []) (past (λ entry. entry.1))
+    bodies_read = ap (λ o. unwrap_or o []) (field_read (λ entry. entry.1))
 
     pub links_read : links_at county there ≡ links_at (part_with county tables) place
-    links_read = reads (map (λ entry. entry.0)) links_with (λ b. go b)
+    unfolding part_of
+    links_read = ap (links_with county.links) land_read ∙ go tables.kept.linked
       where
-        go : (b : Bool) → links_with county.links (slice_get (lands county) (cond b place (length county.landmarks)))
+        go : (b : Bool) → links_with county.links (slice_get (map (λ (entry : ℕ × List Body7). entry.0) (cond b county.landmarks [])) place)
             ≡ links_with (cond b county.links []) (slice_get (map (λ (entry : ℕ × List Body7). entry.0) (cond b county.landmarks [])) place)
         go true = refl
-        go false = ap (links_with county.links) (past (λ entry. entry.0))
+        go false = refl
 
 -- ---- what the calls of a part need
 
@@ -223,13 +173,4 @@ pub found_too : {K : Type 0} {keys others : List K} (found : Option ℕ) (key : 
     → IfSome found (λ place. slice_get keys place ≡ Some key) → IfSome found (λ place. slice_get others place ≡ Some key)
 found_too found key same is = subst (λ ks. IfSome found (λ place. slice_get ks place ≡ Some key)) same is
 
-pub tlids_ordered : (county : County) → IsCounty county → IsInOrder nat_cmp (tlids county)
-tlids_ordered county is = in_order-strict nat_cmp (tlids county) is.ascending.chains
-
-pub feats_ordered : (county : County) → IsCounty county → IsInOrder nat_cmp (feats county)
-feats_ordered county is = in_order-strict nat_cmp (feats county) is.ascending.names
-
-pub keys_ordered : (county : County) → IsCounty county → IsInOrder key_cmp (polygon_keys county)
-keys_ordered county is = in_order-strict key_cmp (polygon_keys county) is.ascending.polygons
-
-pub ruleset part_reads = (found_too, tlids_ordered, feats_ordered, keys_ordered, distinct-in_order, nat_keys)
+pub ruleset part_reads = (found_too, in_order-strict, distinct-in_order, nat_keys)

@@ -1,16 +1,16 @@
 -- Lists of keys that differ in wanted keys alone: the places of all other keys, and how wanted keys compare.
 use Rattle.tl_number.proofs.Common.{AllByRecursion, Among, Bool, Equal, Greater, IsApart, IsKeyOrder, Known, Less, List, None, Option}
-use Rattle.tl_number.proofs.Common.{Ordering, Some, [], all_everywhere, all_filter, all_known, among-get, among-pieces, among_known, ap}
-use Rattle.tl_number.proofs.Common.{apart-permutation_of, apart_tail, append-nil, ap₂, arith, cond, differ, differ_apart, false, filter}
-use Rattle.tl_number.proofs.Common.{filter-append, filter_all, first_seen, first_seen_after, flat_map, from_permutation}
+use Rattle.tl_number.proofs.Common.{Ordering, Some, [], all_among, all_everywhere, all_filter, all_known, among-get, among-pieces}
+use Rattle.tl_number.proofs.Common.{among_known, ap, apart-permutation_of, append-nil, ap₂, arith, cases_Bool, cond, contains, differ}
+use Rattle.tl_number.proofs.Common.{false, filter, filter-append, filter_all, first_seen, first_seen_after, flat_map, from_permutation}
 use Rattle.tl_number.proofs.Common.{get_or-range_with_len, inl, inr, is_eq, known-here, known-later, known_is_among, length}
 use Rattle.tl_number.proofs.Common.{length-range_with_len, lt-ltb, ltb-true, map, map-append, nat_cmp, nat_cmp_is, nat_lt, nat_tests}
-use Rattle.tl_number.proofs.Common.{newly_seen, not, one_cmp, ordering_then, pieces_next, place_in, range_with_len, refl, same_or_not}
-use Rattle.tl_number.proofs.Common.{slice_cmp, slice_get-get_or, contains, subst, suc, sym, times, times-filter, times-yes, to_first_seen}
-use Rattle.tl_number.proofs.Common.{true, unknown_at_end, zero, ℕ, ◌++◌, ◌+◌, ◌<◌, ◌||◌, ◌∙◌, ◌∷◌, ◌≡◌, ◌⊎◌}
-use Rattle.tl_number.proofs.Ties.NewlySeen.{AreAlike, alike_append, alike_itself, newly_alike, newly_apart, newly_both, newly_known}
-use Rattle.tl_number.proofs.Ties.NewlySeen.{newly_unseen, seen_append, seen_newly}
-use Rattle.tl_number.proofs.Ties.{FixedKeys.flat_map_filter, KeyPlaces.place_first, KeyPlaces.place_later, ListsAlike.among_filtered}
+use Rattle.tl_number.proofs.Common.{newly_seen, not, one_cmp, ordering_then, pieces_next, place_in, range_with_len, refl, same_Some}
+use Rattle.tl_number.proofs.Common.{seen_append, slice_cmp, slice_get, slice_get-get_or, slice_get_within, subst, suc, sym, times}
+use Rattle.tl_number.proofs.Common.{times-filter, to_first_seen, true, zero, ℕ, ◌++◌, ◌+◌, ◌<◌, ◌||◌, ◌∙◌, ◌∷◌, ◌≡◌, ◌⊎◌}
+use Rattle.tl_number.proofs.Ties.Keys.{AreAlike, alike_append, alike_itself, flat_map_filter, found_there, newly_alike, newly_apart}
+use Rattle.tl_number.proofs.Ties.Keys.{newly_both, newly_known, newly_unseen, place_later, seen_newly, there_found}
+use Rattle.tl_number.proofs.Ties.ListsAlike.{among_filtered}
 
 -- the keys with nothing in the place of each wanted one
 abbrev pub masked_by : {K : Type 0} → (K → Bool) → List K → List (Option K)
@@ -27,14 +27,21 @@ in_range n i l = among-get (range_with_len 0 n) i i
     (slice_get-get_or (range_with_len 0 n) i 0 (omega (arith, l, length-range_with_len 0 n))
     ∙ ap Some (get_or-range_with_len 0 n i 0 l ∙ (let same : 0 + i ≡ i = omega arith in same)))
 
+-- lists of one length whose elements have equal images place by place have equal images
+mapped_alike : {X Y : Type 0} (f : X → Y) (xs ys : List X) → length xs ≡ length ys
+    → ((i : ℕ) (x y : X) → slice_get xs i ≡ Some x → slice_get ys i ≡ Some y → f x ≡ f y) → map f xs ≡ map f ys
+mapped_alike f [] [] long same = refl
+mapped_alike f [] (y ∷ ys) long same = absurd (omega (arith, long))
+mapped_alike f (x ∷ xs) [] long same = absurd (omega (arith, long))
+mapped_alike f (x ∷ xs) (y ∷ ys) long same = ap₂ (λ u us. u ∷ us) (same 0 x y refl refl)
+    (mapped_alike f xs ys (omega (arith, long)) (λ i u v e g. same (suc i) u v e g))
+
 -- as many wanted keys look alike
 wanted_masked : {K : Type 0} (wanted : K → Bool) (xs ys : List K) → AllByRecursion (λ k. wanted k ≡ true) xs
     → AllByRecursion (λ k. wanted k ≡ true) ys → length xs ≡ length ys → masked_by wanted xs ≡ masked_by wanted ys
-wanted_masked wanted [] [] h l e = refl
-wanted_masked wanted [] (y ∷ ys) h l e = absurd (omega (arith, e))
-wanted_masked wanted (x ∷ xs) [] h l e = absurd (omega (arith, e))
-wanted_masked wanted (x ∷ xs) (y ∷ ys) h l e =
-    rw (h.0, l.0) (ap (λ keys. None ∷ keys) (wanted_masked wanted xs ys h.1 l.1 (omega (arith, e))))
+wanted_masked wanted xs ys h l e = mapped_alike (λ k. cond (wanted k) None (Some k)) xs ys e (λ i x y p q.
+    (let one = all_among (λ k. wanted k ≡ true) x xs h (among-get xs i x p) in
+    let other = all_among (λ k. wanted k ≡ true) y ys l (among-get ys i y q) in rw (one, other)))
 
 -- A property of two lists that differ in wanted keys alone, by recursion: both begin with a wanted key, or with one other key.
 masked_cases : {K : Type 0} (wanted : K → Bool) (P : List K → List K → Type 0) → P [] []
@@ -110,38 +117,24 @@ module _ {K : Type 0} {cmp : K → K → Ordering} (o : IsKeyOrder cmp) where
   -- Lists of as many distinct keys differ in wanted keys alone if each other key has one place in both.
   pub masked_from_stay : (wanted : K → Bool) (xs ys : List K) → IsApart cmp xs → IsApart cmp ys → length xs ≡ length ys
       → ((k : K) → wanted k ≡ false → place_in cmp xs k ≡ place_in cmp ys k) → masked_by wanted xs ≡ masked_by wanted ys
-  masked_from_stay wanted [] [] a b long stay = refl
-  masked_from_stay wanted [] (y ∷ ys) a b long stay = absurd (omega (arith, long))
-  masked_from_stay wanted (x ∷ xs) [] a b long stay = absurd (omega (arith, long))
-  masked_from_stay wanted (x ∷ xs) (y ∷ ys) a b long stay =
-      ap₂ (λ key keys. key ∷ keys) (first (same_or_not o x y))
-      (masked_from_stay wanted xs ys (apart_tail o x xs a) (apart_tail o y ys b) shorter
-      (λ k e. later k e (same_or_not o k x) (same_or_not o k y)))
+  masked_from_stay wanted xs ys a b long stay = mapped_alike (λ k. cond (wanted k) None (Some k)) xs ys long
+      (λ i x y e f. each i x y e f (cases_Bool (wanted x)) (cases_Bool (wanted y)))
     where
-      shorter : length xs ≡ length ys
-      shorter = omega (arith, long)
+      -- a key that isn't wanted is at its place in both
+      there : (us vs : List K) → IsApart cmp us → length us ≡ length vs
+          → ((k : K) → wanted k ≡ false → place_in cmp us k ≡ place_in cmp vs k)
+          → (i : ℕ) (x y : K) → slice_get us i ≡ Some x → slice_get vs i ≡ Some y → wanted x ≡ false → x ≡ y
+      there us vs apart as_many same i x y e f g =
+          let at : place_in cmp vs x ≡ i = sym (same x g) ∙ found_there o us apart i x e in
+          let within = slice_get_within us i x e in
+          same_Some x y (sym (there_found o vs x (omega (arith, at, within, as_many))) ∙ ap (slice_get vs) at ∙ f)
 
-      -- the first key isn't in the rest
-      at_end : (z : K) (zs : List K) → IsApart cmp (z ∷ zs) → (k : K) → k ≡ z → place_in cmp zs k ≡ length zs
-      at_end z zs once k same = unknown_at_end o zs k (let few = once k in omega (arith, few, times-yes o k z zs same))
-
-      later : (k : K) → wanted k ≡ false → (k ≡ x) ⊎ (is_eq (cmp k x) ≡ false) → (k ≡ y) ⊎ (is_eq (cmp k y) ≡ false)
-          → place_in cmp xs k ≡ place_in cmp ys k
-      later k e (inl f) (inl g) = at_end x xs a k f ∙ shorter ∙ sym (at_end y ys b k g)
-      later k e (inl f) (inr g) = absurd (let s = stay k e in omega (arith, s, place_first o x xs k f, place_later o y ys k g))
-      later k e (inr f) (inl g) = absurd (let s = stay k e in omega (arith, s, place_later o x xs k f, place_first o y ys k g))
-      later k e (inr f) (inr g) = let s = stay k e in omega (arith, s, place_later o x xs k f, place_later o y ys k g)
-
-      first : (x ≡ y) ⊎ (is_eq (cmp x y) ≡ false) → cond (wanted x) None (Some x) ≡ cond (wanted y) None (Some y)
-      first (inl same) = ap (λ z. cond (wanted z) None (Some z)) same
-      first (inr apart) = both (wanted x) (wanted y) refl refl
-        where
-          both : (c d : Bool) → wanted x ≡ c → wanted y ≡ d → cond c None (Some x) ≡ cond d None (Some y)
-          both true true e f = refl
-          both false d e f = absurd (let s = stay x e in omega (arith, s, place_first o x xs x refl, place_later o y ys x apart))
-          both true false e f = absurd (let s = stay y f in
-              let p = place_later o x xs y (differ o y x (λ same. differ_apart o x y apart (sym same))) in
-              omega (arith, s, p, place_first o y ys y refl))
+      each : (i : ℕ) (x y : K) → slice_get xs i ≡ Some x → slice_get ys i ≡ Some y → (wanted x ≡ true) ⊎ (wanted x ≡ false)
+          → (wanted y ≡ true) ⊎ (wanted y ≡ false) → cond (wanted x) None (Some x) ≡ cond (wanted y) None (Some y)
+      each i x y e f (inl g) (inl h) = rw (g, h)
+      each i x y e f (inr g) other = ap (λ k. cond (wanted k) None (Some k)) (there xs ys a long stay i x y e f g)
+      each i x y e f (inl g) (inr h) =
+          ap (λ k. cond (wanted k) None (Some k)) (sym (there ys xs b (sym long) (λ k l. sym (stay k l)) i y x f e h))
 
   -- Lists with the same keys, which differ in wanted keys alone, also after any test of their keys.
   pub record AreReordered (wanted : K → Bool) (xs ys : List K) : Type 0 where
@@ -315,9 +308,9 @@ module _ {K : Type 0} {cmp : K → K → Ordering} (o : IsKeyOrder cmp) where
       go : (all count ≡ part count) ⊎ ((part count ≡ []) × ((k : K) → Known cmp (all count) k → Known cmp part_before k))
           → first_seen cmp before ≡ first_seen cmp part_before
           → first_seen cmp (before ++ all count) ≡ first_seen cmp (part_before ++ part count)
-      go (inl same) ih = seen_append o [] before (all count) ∙ ap₂ (first_seen_after cmp) ih same
-          ∙ sym (seen_append o [] part_before (part count))
-      go (inr out) ih = seen_append o [] before (all count) ∙ ap (λ s. first_seen_after cmp s (all count)) ih
+      go (inl same) ih = seen_append cmp [] before (all count) ∙ ap₂ (first_seen_after cmp) ih same
+          ∙ sym (seen_append cmp [] part_before (part count))
+      go (inr out) ih = seen_append cmp [] before (all count) ∙ ap (λ s. first_seen_after cmp s (all count)) ih
           ∙ none_new (first_seen cmp part_before) (all count) (λ k h. to_first_seen o part_before k (out.1 k h))
           ∙ sym (ap (first_seen cmp) (ap (λ l. part_before ++ l) out.0 ∙ append-nil part_before))
 

@@ -1,24 +1,26 @@
 -- The small county is a county within limits, and each of its choices has the chains that the county's choice has at kept places.
-use Rattle.tl_number.proofs.Common.{AllByRecursion, County, IsWithinLimits, among-unpieces, arrangement_of, chain_polygons, wanted_polygons}
-use Rattle.tl_number.proofs.Common.{AllKeysContained, numbered_choice, shapes_ascending, shapes_of_order, slice_get-get_or, turned_directed}
-use Rattle.tl_number.proofs.Common.{Among, Chain, Known, Option, arith, brings, chains, false, filter, length, lt-ltb, subst, times, tlids}
-use Rattle.tl_number.proofs.Common.{AreWhole, arrangement_apart, arrangement_known, arrangement_there, known-permutation, polygons-unturned}
-use Rattle.tl_number.proofs.Common.{Bool, among-get, among-map, ascending, at_places, each_from, is_linked, one_chain, one_entry, slice_get}
-use Rattle.tl_number.proofs.Common.{DirectedChain, HasChainsOf, LeavesChoices, OrderOfShapes, is_either_way, range_with_len, shapes_arrange}
-use Rattle.tl_number.proofs.Common.{IsApart, contains-among, directed_chain, directed_shape, known_is_among, option_to_list, polygons_along}
-use Rattle.tl_number.proofs.Common.{IsCounty, all_among, cases_Bool, entries_of, kept_tlids, keys_along, length-map, option_map, points_cmp}
-use Rattle.tl_number.proofs.Common.{IsShapeOrder, [], among-pieces, among-turned, keys_at_open, map-at_places, places_within, slice_get-map}
-use Rattle.tl_number.proofs.Common.{IsTrue, inl, is_kept, is_open, key_cmp, map-map, nat_cmp, or_left, or_parts, or_right, some_at, tlid_at}
-use Rattle.tl_number.proofs.Common.{List, Some, cond, inr, map, refl, sym, true, ℕ, ◌++◌, ◌+◌, ◌<◌, ◌||◌, ◌∙◌, ◌∷◌, ◌≡◌, ◌≤◌, ◌⊎◌}
-use Rattle.tl_number.proofs.Common.{PolygonKey, all_weaker, among_right, ap, append-nil, chain_feats, chain_nodes, open_places, points_keys}
-use Rattle.tl_number.proofs.Common.{among-unmap, among_known, choices, most_choices, most_records, polygon_keys, wanted_feats, wanted_nodes}
-use Rattle.tl_number.proofs.Common.{apart_from_sorted, arrangement_ascend, arrangement_of_number, numbered_arrangement, numbered_is_choice}
-use Rattle.tl_number.proofs.Common.{contains, flat_map, group_at, key_keys, link_key, nat_keys, one_here, to_filter, turned_if, unwrap_or}
+use Rattle.tl_number.proofs.Common.{AllByRecursion, among-unpieces, chain_polygons, directed_shape, lt-ltb, shapes_arrange, shapes_of_order}
+use Rattle.tl_number.proofs.Common.{AllKeysContained, numbered_choice, shapes_ascending, slice_get-get_or, turned_directed, wanted_polygons}
+use Rattle.tl_number.proofs.Common.{Among, Bool, Chain, Known, arith, brings, cond, false, filter, length, subst, times, tlids, true, ◌++◌}
+use Rattle.tl_number.proofs.Common.{AreWhole, IsCounty, contains, group_at, is_open, key_keys, link_key, nat_keys, one_here, or_parts, refl}
+use Rattle.tl_number.proofs.Common.{County, IsApart, IsTrue, Option, chains, choices, is_kept, map-map, nat_cmp, or_left, some_at, tlid_at}
+use Rattle.tl_number.proofs.Common.{DirectedChain, LeavesChoices, OrderOfShapes, among_right, arrangement_of, known_is_among, slice_get-map}
+use Rattle.tl_number.proofs.Common.{HasChainsOf, List, all_weaker, among-unmap, among_known, append-nil, kept_tlids, length-map, points_cmp}
+use Rattle.tl_number.proofs.Common.{IsShapeOrder, among-turned, chain_nodes, keys_at_open, most_records, open_places, or_right, points_keys}
+use Rattle.tl_number.proofs.Common.{IsWithinLimits, contains-among, directed_chain, key_cmp, option_to_list, polygons_along, range_with_len}
+use Rattle.tl_number.proofs.Common.{PolygonKey, cases_Bool, entries_of, is_linked, keys_along, one_chain, option_map, to_filter, unwrap_or}
+use Rattle.tl_number.proofs.Common.{Some, all_among, among-get, among-map, ascending, at_places, each_from, one_entry, slice_get, turned_if}
+use Rattle.tl_number.proofs.Common.{[], among-pieces, is_either_way, map-at_places, most_choices, places_within, polygon_keys, wanted_nodes}
+use Rattle.tl_number.proofs.Common.{ap, inl, inr, map, sym, ℕ, ◌+◌, ◌<◌, ◌∙◌, ◌∷◌, ◌≡◌, ◌≤◌, ◌⊎◌}
+use Rattle.tl_number.proofs.Common.{apart_from_sorted, arrangement_apart, arrangement_known, arrangement_there, flat_map, polygons-unturned}
+use Rattle.tl_number.proofs.Common.{arrangement_ascend, arrangement_of_number, known-permutation, numbered_arrangement, numbered_is_choice}
 use Rattle.tl_number.proofs.Ties.CountyParts.{all_pass, part_is, part_sides, part_within}
-use Rattle.tl_number.proofs.Ties.PickedPlaces.{AreMarked, marked_alike, marked_keys, pieces_places}
-use Rattle.tl_number.proofs.Ties.SmallChoices.{ascending_ordered, choice_flags, choice_part, choices_part, entries_part}
-use Rattle.tl_number.proofs.Ties.{OrderedCounty.link_on_side, FixedKeys.fixed_before, KeptOpen.keeps_open, PartChoices.KeepsOpen}
-use Rattle.tl_number.specs.{CountyParts.part_of, SmallCounty.kept_places, SmallCounty.small_county}
+use Rattle.tl_number.proofs.Ties.PartChoices.{KeepsOpen, ascending_ordered, choice_flags, choice_part, choices_part, entries_part}
+use Rattle.tl_number.proofs.Ties.PartChoices.{keeps_open}
+use Rattle.tl_number.proofs.Ties.Places.{AreMarked, marked_alike, marked_keys, pieces_places}
+use Rattle.tl_number.proofs.{Ties.Keys.fixed_before, Ties.OrderedCounty.link_on_side}
+use Rattle.tl_number.specs.CountyParts.{part_of}
+use Rattle.tl_number.specs.SmallCounty.{kept_places, small_county}
 
 -- an arrangement with a number is the choice with it
 choice_is : (county : County) (shapes : OrderOfShapes) → LeavesChoices county shapes → IsCounty county → (n : ℕ)
@@ -129,16 +131,6 @@ module _ (county : County) (shapes : OrderOfShapes) (known : LeavesChoices count
       (to_filter (λ (e : ℕ × Chain). keeps e.0) entry county.chains (among-get county.chains directed.place entry at.found)
       (ap keeps (sym at.tlid) ∙ tlids_marked place directed at.there ∙ kept)) m)
 
-  -- whether a place brings a wanted node, polygon, or name
-  abbrev brings_node : ℕ → Bool
-  brings_node p = brings nat_cmp shapes.places (wanted_nodes county shapes) (keys_along chain_nodes county by_shape) p
-
-  abbrev brings_side : ℕ → Bool
-  brings_side p = brings key_cmp shapes.places (wanted_polygons county shapes) along p
-
-  abbrev brings_name : ℕ → Bool
-  brings_name p = brings nat_cmp shapes.places (wanted_feats county shapes) (keys_along chain_feats county by_shape) p
-
   -- So a wanted polygon that is on a side is on a chain that is kept: at its own place, or at its first fixed one.
   on_sides : (k : PolygonKey) → contains key_cmp k (wanted_polygons county shapes) ≡ true → Known key_cmp (polygons_along county.chains) k
       → Known key_cmp (polygons_along kept_chains) k
@@ -151,16 +143,16 @@ module _ (county : County) (shapes : OrderOfShapes) (known : LeavesChoices count
           → (is_kept county shapes p ≡ true) ⊎ (is_kept county shapes p ≡ false) → Known key_cmp (polygons_along kept_chains) k
       here p below directed entry at m (inl kept) = on_kept p directed entry at kept k m
       here p below directed entry at m (inr out) =
-          let fixed = or_parts (brings_side p) (brings_name p) (or_parts (brings_node p) (brings_side p || brings_name p)
-          (or_parts (is_open shapes.places p) (brings_node p || (brings_side p || brings_name p)) out).1).1 in
-          let first = fixed_before key_keys shapes.places along (wanted_polygons county shapes) p fixed.0 k is_wanted
+          let closed = (or_parts (brings key_cmp shapes.places (wanted_polygons county shapes) along p) _
+          (or_parts (brings nat_cmp shapes.places (wanted_nodes county shapes) (keys_along chain_nodes county by_shape) p) _
+          (or_parts (is_open shapes.places p) _ out).1).1).0 in
+          let found = fixed_before key_keys shapes.places along (wanted_polygons county shapes) p closed k is_wanted
           (among_known key_keys k (group_at along p) (subst (Among k) (sym (sides_at p directed entry at)) (among-turned k directed.turned entry.1 m))) in
-          let other = some_at by_shape first.first (let less = first.before in omega (arith, less, below)) in
+          let first = found.0 in
+          let other = some_at by_shape first.first (let less = found.1 in omega (arith, less, below)) in
           let own = entry_at first.first other.0 other.1 in
-          on_kept first.first other.0 own.0 own.1 (or_right (is_open shapes.places first.first)
-          (brings_node first.first || (brings_side first.first || brings_name first.first)) (or_right (brings_node first.first)
-          (brings_side first.first || brings_name first.first) (or_left (brings_side first.first) (brings_name first.first) first.new_there))) k
-          (polygons-unturned k other.0.turned own.0.1
+          on_kept first.first other.0 own.0 own.1 (or_right (is_open shapes.places first.first) _ (or_right _ _ (or_left _ _ first.new_there)))
+          k (polygons-unturned k other.0.turned own.0.1
           (subst (Among k) (sides_at first.first other.0 own.0 own.1) (known_is_among key_keys k (group_at along first.first) first.here)))
 
   -- So all polygons of kept landmarks are on kept chains.

@@ -1,24 +1,53 @@
 -- Two choices are in one order in a county and in its small county.
-use Rattle.tl_number.proofs.Common.{Among, Bool, County, Eight, Equal, Fields8, Five, IsLeastBelow, Known, LeavesChoices, List}
-use Rattle.tl_number.proofs.Common.{OrderOfShapes, PolygonKey, Two, [], all_among, among-map, among_known, ap, arranged, chain_polygons}
-use Rattle.tl_number.proofs.Common.{choices, choices_cmp, cond, contains, false, feats, first_open, groups_cmp, is_gt, is_kept, is_linked}
-use Rattle.tl_number.proofs.Common.{is_open, kept_tlids, key_cmp, key_keys, keys_along, keys_at_open, known-left, known-right, link_key}
-use Rattle.tl_number.proofs.Common.{lt-ltb, map, name_under, nat_cmp, nat_keys, or_left, or_parts, or_right, ordering_then, packed}
-use Rattle.tl_number.proofs.Common.{polygon_under, polygons_along, refl, same_groups, slice_cmp, subst, sym, text_of, texts_in_order, times}
+use Rattle.tl_number.proofs.Common.{Among, Bool, County, DirectedChain, Eight, Equal, Fields8, Five, IsLeastBelow, IsPermutation-sym}
+use Rattle.tl_number.proofs.Common.{IsShapeOrder, IsTotalOrder, Known, LeavesChoices, List, OrderOfShapes, PolygonKey, Two, []}
+use Rattle.tl_number.proofs.Common.{along_shapes, among-map, among_any, among_known, ap, arranged, chain_polygons, choices, choices_cmp}
+use Rattle.tl_number.proofs.Common.{cond, contains, counted_choices, directed_cmp, false, false_from_ne_true, false≢true, feats, first_open}
+use Rattle.tl_number.proofs.Common.{groups_cmp, in_order, in_order-in_order, in_order-is_permutation, is_either_way, is_gt, is_kept}
+use Rattle.tl_number.proofs.Common.{is_linked, is_open, kept_tlids, key_cmp, key_keys, keys_along, keys_at_open, known-left, known-right}
+use Rattle.tl_number.proofs.Common.{link_key, lt-ltb, map, name_under, nat_cmp, nat_cmp_total, nat_keys, on_total, open_places, or_left}
+use Rattle.tl_number.proofs.Common.{or_parts, or_right, ordering_then, packed, points_along, points_cmp, points_keys, polygon_under}
+use Rattle.tl_number.proofs.Common.{polygons_along, refl, same_groups, slice_cmp, subst, sym, text_of, texts_in_order, then_total, times}
 use Rattle.tl_number.proofs.Common.{true, type_2_by_chain, type_5_by_name, type_8_together, types_1_to_4_cmp, types_5_to_7_cmp}
 use Rattle.tl_number.proofs.Common.{types_8_to_p_cmp, wanted_feats, wanted_nodes, wanted_polygons, ℕ, ◌+◌, ◌<◌, ◌∙◌, ◌≡◌}
-use Rattle.tl_number.proofs.Ties.KeyKinds.{name_kind, node_kind, numbered_alike, polygon_kind, polygon_number}
+use Rattle.tl_number.proofs.Ties.KeyKinds.{AreSeenAlike, name_kind, node_kind, numbered_alike, opened_in, polygon_kind, polygon_number}
+use Rattle.tl_number.proofs.Ties.KeyKinds.{seen_alike, unopened_stays}
 use Rattle.tl_number.proofs.Ties.OrderedCounty.{IsKeptPart, OrderedCounty, arranges_in, choice, link_on_side, new_in, one_map, order_in}
 use Rattle.tl_number.proofs.Ties.OrderedCounty.{stated, whole_in}
 use Rattle.tl_number.proofs.Ties.SmallCounty.{small_chains, small_choices, small_is, small_leaves, small_within}
-use Rattle.tl_number.proofs.Ties.SmallLinks.{eights_tie, linked_alike, sevens_tie}
-use Rattle.tl_number.proofs.Ties.WantedKeys.{AreSeenAlike, opened_in, seen_alike, unopened_stays}
+use Rattle.tl_number.proofs.Ties.SmallKeys.{AreWanted, fours_small, topologies_small}
+use Rattle.tl_number.proofs.Ties.SmallPolygons.{eights_tie, linked_alike, polygon_records_small, sevens_tie}
+use Rattle.tl_number.proofs.Ties.SmallRecords.{ones_small, sixes_small}
+use Rattle.tl_number.proofs.Ties.WantedNames.{names_alike, part_contents}
 use Rattle.tl_number.proofs.{Names.ContentFirst.same_type_5, Texts.SamePoints.twos_of_numbers, Ties.ListsAlike.value_filtered}
-use Rattle.tl_number.proofs.{Ties.OpenLinks.all_fail, Ties.OwnOrder.own_order, Ties.OwnOrder.own_order_is, Ties.Ranks.reordered_all}
-use Rattle.tl_number.proofs.{Ties.SmallKeys.AreWanted, Ties.SmallNames.fours_small, Ties.SmallPolygons.polygon_records_small}
-use Rattle.tl_number.proofs.{Ties.SmallRecords.ones_small, Ties.SmallRecords.sixes_small, Ties.SmallTopologies.topologies_small}
-use Rattle.tl_number.proofs.{Ties.WantedNames.names_alike, Ties.WantedNames.part_contents}
+use Rattle.tl_number.proofs.{Ties.Ranks.reordered_all}
 use Rattle.tl_number.specs.{CountyParts.part_of, SmallCounty.small_county}
+
+-- the chains in the directions of their shapes, put in order, their open places, and how many choices these leave
+abbrev pub own_order : County → OrderOfShapes
+own_order county = record {
+  by_shape = in_order (directed_cmp county) (along_shapes county);
+  places = open_places points_cmp is_either_way 0 (map (points_along county) (in_order (directed_cmp county) (along_shapes county)));
+  choices = counted_choices county;
+}
+
+module _ (county : County) where
+  directed_total : IsTotalOrder (directed_cmp county)
+  directed_total = then_total (on_total (points_along county) points_keys.total) (on_total (λ (directed : DirectedChain). directed.place) nat_cmp_total)
+
+  -- It's an order of the county's shapes.
+  pub own_order_is : IsShapeOrder county (own_order county)
+  own_order_is = record {
+    by_shape = record {
+      all = IsPermutation-sym (in_order (directed_cmp county) (along_shapes county)) (along_shapes county)
+          (in_order-is_permutation (directed_cmp county) (along_shapes county));
+      in_order = in_order-in_order directed_total (along_shapes county);
+    };
+    count = refl;
+    places = λ few. refl;
+  }
+
+-- ---- two choices are in one order in a county and in its small county
 
 -- Two choices of a county.
 module _ (c : OrderedCounty) (n k : ℕ) where
@@ -44,14 +73,10 @@ module _ (c : OrderedCounty) (n k : ℕ) where
       (same_type_5 c.county c.is (order_in c n) (order_in c k) (arranges_in c n) (arranges_in c k))
 
 -- a small county has all landmarks with their links, or none
-landmarks_kept : (county : County) (shapes : OrderOfShapes)
-    → (small_county county shapes).landmarks ≡ cond (is_linked county shapes) county.landmarks []
+landmarks_kept : (county : County) (shapes : OrderOfShapes) (b : Bool) → is_linked county shapes ≡ b
+    → ((small_county county shapes).landmarks ≡ cond b county.landmarks []) × ((small_county county shapes).links ≡ cond b county.links [])
 unfolding small_county part_of
-landmarks_kept county shapes = refl
-
-links_kept : (county : County) (shapes : OrderOfShapes) → (small_county county shapes).links ≡ cond (is_linked county shapes) county.links []
-unfolding small_county part_of
-links_kept county shapes = refl
+landmarks_kept county shapes b e = ((λ i. cond (e i) county.landmarks []), (λ i. cond (e i) county.links []))
 
 -- its polygons keep their content
 contents_kept : (county : County) (shapes : OrderOfShapes) (key : PolygonKey) → Known key_cmp (polygons_along (small_county county shapes).chains) key
@@ -144,8 +169,8 @@ module _ (whole : OrderedCounty) (order : OrderOfShapes) (small_known : LeavesCh
       let opened : List PolygonKey = first_open key_cmp whole.shapes.places (keys_along chain_polygons whole.county whole.shapes.by_shape) in
       let known = link_on_side whole.county whole.is whole.known.sides link there in
       polygon_kind.number_is whole n (link_key link) (polygon_kind.listed whole n (link_key link) known)
-      ∙ ap (λ p. 1 + p) (unopened_stays polygon_kind whole n k (link_key link) (all_among (λ l. contains key_cmp (link_key l) opened ≡ false) link
-      whole.county.links (all_fail (λ (l : Fields8). contains key_cmp (link_key l) opened) whole.county.links unlinked) there))
+      ∙ ap (λ p. 1 + p) (unopened_stays polygon_kind whole n k (link_key link) (false_from_ne_true (contains key_cmp (link_key link) opened)
+      (λ e. false≢true (sym unlinked ∙ among_any (λ (l : Fields8). contains key_cmp (link_key l) opened) link whole.county.links there e))))
       ∙ sym (polygon_kind.number_is whole k (link_key link) (polygon_kind.listed whole k (link_key link) known))
 
   links_small : (n k : ℕ) → groups_cmp Eight (type_8_together (choice whole n)) (type_8_together (choice whole k))
@@ -154,10 +179,9 @@ module _ (whole : OrderedCounty) (order : OrderOfShapes) (small_known : LeavesCh
     where
       go : (b : Bool) → is_linked whole.county whole.shapes ≡ b → groups_cmp Eight (type_8_together (choice whole n)) (type_8_together (choice whole k))
           ≡ groups_cmp Eight (type_8_together (choice small n)) (type_8_together (choice small k))
-      go true e = linked_alike polygons (landmarks_kept whole.county whole.shapes ∙ ap (λ b. cond b whole.county.landmarks []) e)
-          (links_kept whole.county whole.shapes ∙ ap (λ b. cond b whole.county.links []) e) (wanted_links e) n k
+      go true e = let kept = landmarks_kept whole.county whole.shapes true e in linked_alike polygons kept.0 kept.1 (wanted_links e) n k
       go false e = sym (eights_tie whole n k (closed_links e n k))
-          ∙ eights_tie small n k (λ link there. absurd (subst (Among link) (links_kept whole.county whole.shapes ∙ ap (λ b. cond b whole.county.links []) e) there))
+          ∙ eights_tie small n k (λ link there. absurd (subst (Among link) (landmarks_kept whole.county whole.shapes false e).1 there))
 
   -- So two choices are in one order.
   same_order : (n k : ℕ) → choices_cmp small.county n k ≡ choices_cmp whole.county n k

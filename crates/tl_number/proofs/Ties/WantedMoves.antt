@@ -2,11 +2,11 @@
 use Rattle.tl_number.proofs.Common.{AllByRecursion, AreWithin, Bool, IsKeyOrder, Known, List, OpenPlace, Ordering, Some, [], all_after, ap}
 use Rattle.tl_number.proofs.Common.{append_assoc, ap₂, arith, cond, drop, false, false≢true, filter, first_seen_after, first_stood}
 use Rattle.tl_number.proofs.Common.{flat_map, inl, inr, insert, known-append, known-left, known-right, length, map, moved, moved_count}
-use Rattle.tl_number.proofs.Common.{newly_seen, open_keys, range_with_len, refl, seen_after, slice_get, subst, suc, sym, take, true}
-use Rattle.tl_number.proofs.Common.{turned_by, zero, ℕ, ⊤, ◌%◌, ◌++◌, ◌+◌, ◌/◌, ◌<◌, ◌∙◌, ◌∷◌, ◌≡◌, ◌≤◌, ◌⊎◌}
-use Rattle.tl_number.proofs.Ties.NewlySeen.{AreAlike, alike_itself, newly_known, seen_append, seen_or_new}
+use Rattle.tl_number.proofs.Common.{newly_seen, open_keys, range_with_len, refl, seen_after, seen_append, slice_get, subst, suc, sym, take}
+use Rattle.tl_number.proofs.Common.{true, turned_by, zero, ℕ, ⊤, ◌%◌, ◌++◌, ◌+◌, ◌/◌, ◌<◌, ◌∙◌, ◌∷◌, ◌≡◌, ◌≤◌, ◌⊎◌}
+use Rattle.tl_number.proofs.Ties.Keys.{AreAlike, alike_itself, flat_map_filter, newly_known, seen_or_new, swapped_alike}
+use Rattle.tl_number.proofs.Ties.Places.{Covers}
 use Rattle.tl_number.proofs.Ties.Ranks.{AreReordered, reordered_before, reordered_block, reordered_itself, reordered_then}
-use Rattle.tl_number.proofs.{Ties.FixedKeys.flat_map_filter, Ties.OpenChains.Covers, Ties.KeyGroups.swapped_alike}
 
 -- the keys of the elements at kept places, of a list whose first place is given
 abbrev pub kept_keys : {X K : Type 0} → (ℕ → Bool) → (X → List K) → ℕ → List X → List K
@@ -106,7 +106,7 @@ module _ {X K : Type 0} {cmp : K → K → Ordering} (o : IsKeyOrder cmp) (keys_
       → AreMoved (met_at met place x) (place + 1) xs ys → AreMoved met place (x ∷ xs) (x ∷ ys)
   moved_behind met place x xs ys all later = record {
     met_too = (all, later.met_too);
-    reordered = λ seen more. rw (seen_append o seen here (kept (place + 1) xs), seen_append o seen here (kept (place + 1) ys))
+    reordered = λ seen more. rw (seen_append cmp seen here (kept (place + 1) xs), seen_append cmp seen here (kept (place + 1) ys))
         (later.reordered (first_seen_after cmp seen here) (λ k h. all_seen seen more k (is_open place) h));
   } where
     here : List K
@@ -127,7 +127,7 @@ module _ {X K : Type 0} {cmp : K → K → Ordering} (o : IsKeyOrder cmp) (keys_
       → ((k : K) → wanted k ≡ false → Known cmp block k → Known cmp met k) → AreMet met place ys → AreMoved met place xs ys
   moved_block met place xs ys block block_too rest e f alike known all = record {
     met_too = all;
-    reordered = λ seen more. rw (e, f, seen_append o seen block rest, seen_append o seen block_too rest)
+    reordered = λ seen more. rw (e, f, seen_append cmp seen block rest, seen_append cmp seen block_too rest)
         (reordered_before o wanted (first_seen_after cmp seen block) (first_seen_after cmp seen block_too) rest
         (reordered_block o wanted seen block block_too alike (λ k g h. more k (known k g h))));
   }

@@ -7,11 +7,11 @@ use Rattle.tl_number.proofs.Common.{in_order-filter, in_order-permutation, keys_
 use Rattle.tl_number.proofs.Common.{name_under, nat_cmp, nat_keys, option_cmp, option_to_list, ordering_then, place_in, rank_of}
 use Rattle.tl_number.proofs.Common.{ranked_there, refl, subst, sym, times, true, wanted_feats, ℕ, ◌∙◌, ◌≡◌}
 use Rattle.tl_number.proofs.Names.NamePlaces.{feat_cmp, feat_keys, feats_ordered, feats_permuted, name_stays}
-use Rattle.tl_number.proofs.Ties.KeyKinds.{AreNumberedAlike, name_kind, numbered_alike, seen_in}
+use Rattle.tl_number.proofs.Ties.KeyKinds.{AreNumberedAlike, AreSeenAlike, name_kind, numbered_alike, seen_in}
 use Rattle.tl_number.proofs.Ties.OrderedCounty.{OrderedCounty, directed_in, whole_in}
 use Rattle.tl_number.proofs.Ties.Ranks.{AreReordered, before_alike, in_filtered, masked_by, masked_from_stay, next_cmp, places_alike}
 use Rattle.tl_number.proofs.Ties.Ranks.{to_filtered}
-use Rattle.tl_number.proofs.{Lists.OrderPlaces.in_order-among, Ties.ListsAlike.value_filtered, Ties.WantedKeys.AreSeenAlike}
+use Rattle.tl_number.proofs.{Lists.OrderPlaces.in_order-among, Ties.ListsAlike.value_filtered}
 use Rattle.tl_number.specs.CountyParts.{part_of}
 
 -- the FEATs of all chains, one after another, are those along the arrangement

@@ -6,7 +6,7 @@ use Rattle.tl_number.proofs.choice_search.search_least.Goals as goal
 
 pub loop-number-init : goal.loop-number-init
 loop-number-init g c =
-    let county = g.C.Chart.county c.args.classes.now.chart.now in
+    let county = g.C.Chart.county c.args.county.now.classes.now.chart.now in
     record {
       chosen = c.in_ok-least.ensures.chosen;
       least = subst (IsLeastBelow county 1) (sym c.in_ok-least.ensures.number) (first_least county);
@@ -16,7 +16,7 @@ loop-number-init g c =
 
 pub loop-number-preserved-then-is_le : goal.loop-number-preserved-then-is_le
 loop-number-preserved-then-is_le g c =
-    let county = g.C.Chart.county c.args.classes.now.chart.now in
+    let county = g.C.Chart.county c.args.county.now.classes.now.chart.now in
     let old = c.loop-number.least.number in
     let next = c.choose_again.new.self.number in
     let stays : is_gt (choices_cmp county old next) ≡ false =
@@ -33,7 +33,7 @@ loop-number-preserved-then-is_le g c =
 
 pub loop-number-preserved : goal.loop-number-preserved
 loop-number-preserved g c =
-    let county = g.C.Chart.county c.args.classes.now.chart.now in
+    let county = g.C.Chart.county c.args.county.now.classes.now.chart.now in
     let old = c.loop-number.least.number in
     let next = c.choose_again.new.self.number in
     let gives_way : is_gt (choices_cmp county old next) ≡ true =

@@ -5,7 +5,7 @@ use Rattle.tl_number.proofs.choice_search.search_least.Given as goal
 abbrev pub invariant-loop-number : goal.invariant-loop-number
 invariant-loop-number g l = record {
   chosen : IsChosen l.shape_order l.least;
-  least : IsLeastBelow (g.C.Chart.county l.classes.chart.now) l.number l.least.number;
+  least : IsLeastBelow (g.C.Chart.county l.county.classes.now.chart.now) l.number l.least.number;
   other : IsChosen l.shape_order l.other;
-  arranged : IfSome l.arranged (λ view. arranged_county view ≡ chosen_county (g.C.Chart.county l.classes.chart.now) l.least.number);
+  arranged : IfSome l.arranged (λ view. arranged_county view ≡ chosen_county (g.C.Chart.county l.county.classes.now.chart.now) l.least.number);
 }

@@ -1,5 +1,5 @@
 use Rattle.tl_number.proofs.Common.{chain_polygons, first_open, key_cmp, keys_along, ◌∙◌}
-use Rattle.tl_number.proofs.Ties.KeptChains.{linked_if_any}
+use Rattle.tl_number.proofs.Ties.SearchSteps.{linked_if_any}
 use Rattle.tl_number.proofs.kept_places.has_open_links.Goals as goal
 
 pub returns : goal.returns

@@ -1,9 +1,6 @@
-use Rattle.tl_number.proofs.Common.{ap, arith, first_seen_after, flat_map, key_cmp, length, link_keys_at, pieces_next, range_with_len, refl}
+use Rattle.tl_number.proofs.Common.{ap, arith, first_seen_after, flat_map, key_cmp, length, link_keys_at, pieces_next, range_with_len}
 use Rattle.tl_number.proofs.Common.{seen_append, sym, ◌∙◌, ◌≡◌}
 use Rattle.tl_number.proofs.kept_places.see_links.Goals as goal
-
-pub loop-place-init : goal.loop-place-init
-loop-place-init g c = refl
 
 pub loop-place-preserved : goal.loop-place-preserved
 loop-place-preserved g c =

@@ -1,9 +1,6 @@
-use Rattle.tl_number.proofs.Common.{◌+◌, ◌∷◌, [], ◌∙◌, ap, arith, drop, drop_all, filter, first_seen_after, refl, contains, sym}
-use Rattle.tl_number.proofs.Ties.SeenGroups.{chosen_more, one_dropped}
+use Rattle.tl_number.proofs.Common.{[], ap, arith, contains, drop, drop_all, filter, first_seen_after, sym, ◌+◌, ◌∙◌, ◌∷◌}
+use Rattle.tl_number.proofs.Ties.SearchSteps.{chosen_more, one_dropped}
 use Rattle.tl_number.proofs.key_search.meet_wanted.Goals as goal
-
-pub loop-key-init : goal.loop-key-init
-loop-key-init g c = refl
 
 pub loop-key-preserved : goal.loop-key-preserved
 loop-key-preserved g c =

@@ -1,4 +1,4 @@
-use Rattle.tl_number.proofs.Lemmas.{places_within}
+use Rattle.tl_number.proofs.Common.{places_within}
 use Rattle.tl_number.proofs.least_choice.least_in_part.Goals as goal
 
 pub least_among_choices-requires : goal.least_among_choices-requires

@@ -1,13 +1,7 @@
-use Rattle.tl_number.proofs.Common.{◌≡◌, ◌+◌, ◌∷◌, [], ◌++◌, ◌∙◌, List, Bool, true, false, ap, arith, append-nil, cond, drop, drop_all, first_seen_after, newly_seen, refl, sym, IsKeyOrder}
-use Rattle.tl_number.proofs.Ties.SeenGroups.{new_more, one_dropped, seen_more}
+use Rattle.tl_number.proofs.Common.{IsKeyOrder, [], ap, append-nil, arith, cond, cond_both, drop, drop_all, false, first_seen_after}
+use Rattle.tl_number.proofs.Common.{newly_seen, refl, sym, true, ◌++◌, ◌+◌, ◌∙◌, ◌∷◌, ◌≡◌}
+use Rattle.tl_number.proofs.Ties.SearchSteps.{new_more, one_dropped, seen_more}
 use Rattle.tl_number.proofs.open_keys.see_keys.Goals as goal
-
-none : {X : Type 0} (b : Bool) (nothing : List X) → cond b nothing nothing ≡ nothing
-none true nothing = refl
-none false nothing = refl
-
-pub loop-key-init : goal.loop-key-init
-loop-key-init g c = record { all = refl; opened = refl }
 
 pub loop-key-preserved : goal.loop-key-preserved
 loop-key-preserved g c =
@@ -31,4 +25,5 @@ pub returns-clause-opened : goal.returns-clause-opened
 returns-clause-opened g c =
     let rest = drop_all c.loop-key.key-index c.args.keys.now (omega (arith, c.loop-key-test.false)) in
     sym (ap (λ keys. c.loop-key.opened.items ++ cond c.args.at_open (newly_seen g.K.Ord.cmp c.loop-key.all keys) []) rest
-    ∙ ap (λ l. c.loop-key.opened.items ++ l) (none c.args.at_open []) ∙ append-nil c.loop-key.opened.items) ∙ c.loop-key.invariant.opened
+    ∙ ap (λ l. c.loop-key.opened.items ++ l) (cond_both c.args.at_open [] [] (λ l. l ≡ []) (λ e. refl) (λ e. refl))
+    ∙ append-nil c.loop-key.opened.items) ∙ c.loop-key.invariant.opened

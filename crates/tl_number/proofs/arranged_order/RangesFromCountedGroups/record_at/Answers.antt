@@ -1,0 +1,28 @@
+use Rattle.tl_number.proofs.Common.{[], ap, arith, few_chains, length, length-map, packed_sixes, slice_get, subst, sym, type_6_by_chain}
+use Rattle.tl_number.proofs.Common.{unwrap_or, ◌<◌, ◌∙◌}
+use Rattle.canonical_form.proofs.Lists.ListPlaces.{get_dropped}
+use Rattle.std.proofs.lemmas.List.{length-drop}
+use Rattle.tl_number.proofs.arranged_order.RangesFromCountedGroups.record_at.Goals as goal
+
+pub overflow_add-self : goal.overflow_add-self
+overflow_add-self g c =
+    let chart = c.args.self.now.chart.now in
+    let county = g.C.Chart.county chart in
+    omega (
+      arith,
+      few_chains county (g.met.C.Chart.within_limits chart),
+      length-drop c.args.self.now.first (type_6_by_chain county),
+      length-map county.chains packed_sixes,
+      c.requires.group,
+    )
+
+pub make-requires-clause-place : goal.make-requires-clause-place
+make-requires-clause-place g c =
+    subst (λ group. c.args.place < length (unwrap_or group []))
+    (get_dropped c.args.self.now.first (type_6_by_chain (g.C.Chart.county c.args.self.now.chart.now)) c.args.group) c.requires.place
+
+pub returns : goal.returns
+returns g c =
+    c.make.ensures
+    ∙ sym (ap (λ group. slice_get (unwrap_or group []) c.args.place)
+    (get_dropped c.args.self.now.first (type_6_by_chain (g.C.Chart.county c.args.self.now.chart.now)) c.args.group))

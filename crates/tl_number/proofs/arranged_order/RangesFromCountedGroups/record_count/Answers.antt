@@ -1,0 +1,22 @@
+use Rattle.tl_number.proofs.Common.{[], ap, arith, few_chains, length, length-map, packed_sixes, sym, type_6_by_chain, unwrap_or, ◌∙◌}
+use Rattle.canonical_form.proofs.Lists.ListPlaces.{get_dropped}
+use Rattle.std.proofs.lemmas.List.{length-drop}
+use Rattle.tl_number.proofs.arranged_order.RangesFromCountedGroups.record_count.Goals as goal
+
+pub overflow_add-self : goal.overflow_add-self
+overflow_add-self g c =
+    let chart = c.args.self.now.chart.now in
+    let county = g.C.Chart.county chart in
+    omega (
+      arith,
+      few_chains county (g.met.C.Chart.within_limits chart),
+      length-drop c.args.self.now.first (type_6_by_chain county),
+      length-map county.chains packed_sixes,
+      c.requires,
+    )
+
+pub returns : goal.returns
+returns g c =
+    c.count_at.ensures
+    ∙ sym (ap (λ group. length (unwrap_or group []))
+    (get_dropped c.args.self.now.first (type_6_by_chain (g.C.Chart.county c.args.self.now.chart.now)) c.args.group))
