@@ -1,8 +1,9 @@
 -- The canonical text of records that were read, and why there may be none.
 use Rattle.tigercanon.proofs.Common.{Carries, CarriesSetInView, County, Err, GoesOut, IfErr, IfOk, IsAcceptedSet, IsCanonSetInView}
-use Rattle.tigercanon.proofs.Common.{IsCanonicalTextInView, IsCounty, IsOneCanonicalTextInView, IsOnlyTextInView, IsView, List, MatchResult}
+use Rattle.tigercanon.proofs.Common.{IsCanonicalTextInView, IsCounty, IsOneCanonicalTextInView, IsOnlyTextInView, List, Mask, MatchResult}
 use Rattle.tigercanon.proofs.Common.{Ok, Record, Renumbering, Result, StopsShort, WriteFault, [], county_of, if◌then◌else◌, is_ok, length}
-use Rattle.tigercanon.proofs.Common.{packed, packed_county, subst, sym, take, text_of, ℕ, ◌++◌, ◌+◌, ◌<◌, ◌∙◌, ◌∷◌, ◌≡◌}
+use Rattle.tigercanon.proofs.Common.{masked, masked_view, packed, packed_county, subst, sym, take, text_of, ℕ, ◌++◌, ◌+◌, ◌<◌, ◌∙◌, ◌∷◌}
+use Rattle.tigercanon.proofs.Common.{◌≡◌}
 use Rattle.tigercanon.proofs.Sets.{one_text, only_text, text_accepted, text_itself}
 
 -- the outcome of writing a text to a sink
@@ -16,27 +17,28 @@ pub goes_out : {W : Type 0} (failed : W → ℕ) (holds : W → List ℕ → Typ
 goes_out failed holds old new text (Ok n) long short failures bytes = ((long, bytes), failures)
 goes_out failed holds old new text (Err f) long short failures bytes = ((short, bytes), failures)
 
--- canonical texts through a view
-module _ (view : County → County) (view_laws : IsView view) where
+-- canonical texts under a mask
+module _ (mask : Mask) where
   -- a canonical text is its own canonical text
-  pub again : (parts : List (List ℕ)) (answer : List ℕ) → IsCanonicalTextInView view parts answer → (text : List ℕ)
-      → IsOneCanonicalTextInView view parts text → answer ≡ text
+  pub again : (parts : List (List ℕ)) (answer : List ℕ) → IsCanonicalTextInView (masked mask) parts answer → (text : List ℕ)
+      → IsOneCanonicalTextInView (masked mask) parts text → answer ≡ text
   again parts answer h text one =
-      one_text view view_laws parts answer text h
-      (subst (λ ps. IsCanonicalTextInView view ps text) (sym one.parts_are) (text_itself view view_laws one.whole text one.canonical))
+      one_text (masked mask) (masked_view mask) parts answer text h
+      (subst (λ ps. IsCanonicalTextInView (masked mask) ps text) (sym one.parts_are)
+      (text_itself (masked mask) (masked_view mask) one.whole text one.canonical))
 
   -- and is accepted
-  pub one_text_accepted : (parts : List (List ℕ)) (text : List ℕ) → IsOneCanonicalTextInView view parts text
+  pub one_text_accepted : (parts : List (List ℕ)) (text : List ℕ) → IsOneCanonicalTextInView (masked mask) parts text
       → (records : List Record) × IsAcceptedSet parts records
   one_text_accepted parts text one = (
     one.canonical.canonical,
     subst (λ ps. IsAcceptedSet ps one.canonical.canonical) (sym one.parts_are)
-        (text_accepted view view_laws one.whole text one.canonical),
+        (text_accepted (masked mask) (masked_view mask) one.whole text one.canonical),
   )
 
   -- products of a set's canonical county
-  module _ (parts : List (List ℕ)) (a canon : County) (set : IsCanonSetInView view parts a canon) where
-    abbrev pub text_of_set : (text : List ℕ) → text ≡ text_of (packed canon) → IsCanonicalTextInView view parts text
+  module _ (parts : List (List ℕ)) (a canon : County) (set : IsCanonSetInView (masked mask) parts a canon) where
+    abbrev pub text_of_set : (text : List ℕ) → text ≡ text_of (packed canon) → IsCanonicalTextInView (masked mask) parts text
     text_of_set text e = record {
       records = set.records;
       canonical = packed canon;
@@ -45,17 +47,17 @@ module _ (view : County → County) (view_laws : IsView view) where
       text_is = sym e;
     }
 
-    pub only_of_set : (text : List ℕ) → text ≡ text_of (packed canon) → IsOnlyTextInView view parts text
-    only_of_set text e = only_text view view_laws parts text (text_of_set text e)
+    pub only_of_set : (text : List ℕ) → text ≡ text_of (packed canon) → IsOnlyTextInView (masked mask) parts text
+    only_of_set text e = only_text (masked mask) (masked_view mask) parts text (text_of_set text e)
 
     -- the renaming onto the canonical county carries the set onto its text
     pub carried_of_set : IsCounty canon → (text : List ℕ) → text ≡ text_of (packed canon) → (renaming : Renumbering)
-        → Carries renaming a canon → CarriesSetInView view renaming parts (text ∷ [])
+        → Carries renaming a canon → CarriesSetInView (masked mask) renaming parts (text ∷ [])
     carried_of_set is text e renaming carries = record {
       records = set.records;
       other_records = packed canon;
       accepted = set.accepted;
-      other_accepted = text_accepted view view_laws parts text (text_of_set text e);
-      carries = subst (Carries renaming (view (county_of set.records))) (sym (set.canonical.own ∙ packed_county canon is))
+      other_accepted = text_accepted (masked mask) (masked_view mask) parts text (text_of_set text e);
+      carries = subst (Carries renaming (masked mask (county_of set.records))) (sym (set.canonical.own ∙ packed_county canon is))
           (subst (λ c. Carries renaming c canon) set.county_is carries);
     }

@@ -1,14 +1,13 @@
 -- The bytes read from sources over files are in the files, and what is reported for files that aren't read.
-use Rattle.tigercanon.proofs.Common.{All, All-cons, AreHeld, AreRead, AreReadUpTo, AreRefused, AreRefusedParts, AreSourcesOf, Bool, Check}
-use Rattle.tigercanon.proofs.Common.{Compare, Consumes, Fault, Fingerprint, GivenSet, IfSome, IsFaultOfRead, IsFirstFault, IsOfNoLines}
-use Rattle.tigercanon.proofs.Common.{IsRefusalBy, IsReportedBy, Job, List, Load, LoadFault, MAX, None, Normalise, Opened, Option}
-use Rattle.tigercanon.proofs.Common.{ReportsFor, ReportsSet, Respell, Some, [], ap, arith, bytes_of, empty_fault, false, if◌then◌else◌, inl}
-use Rattle.tigercanon.proofs.Common.{inr, map, most_records, refl, set_of_files, set_of_job, set_of_sources, slice_index_or, subst, sym}
-use Rattle.tigercanon.proofs.Common.{tiger, true, ℕ, ◌++◌, ◌<◌, ◌∷◌, ◌≡◌, ◌⊎◌}
-use Rattle.tigercanon.proofs.{FileParts.head_of, FileParts.tail_of, FileParts.taken_all, GivenSets.IsKnownOf}
-use Rattle.tigercanon.proofs.Common.{Mask, LeavesStopped, to_writer}
-use Rattle.tigercanon.proofs.Leaving.{kept}
-use Rattle.tigercanon.proofs.SourceSets.{left_untouched}
+use Rattle.tigercanon.proofs.Common.{All, All-cons, AreHeld, AreRead, AreReadFirst, AreReadUpTo, AreRefused, AreRefusedParts, AreSourcesOf}
+use Rattle.tigercanon.proofs.Common.{Bool, Check, Compare, Consumes, Fault, Fingerprint, Gave, GivenSet, IfSome, IsFaultHowever}
+use Rattle.tigercanon.proofs.Common.{IsFaultOfRead, IsFirstFault, IsNext, IsOfNoLines, IsRefusalBy, IsReportedBy, Job, LeavesStopped, List}
+use Rattle.tigercanon.proofs.Common.{Load, LoadFault, MAX, Mask, None, Normalise, Opened, Option, ReportsFor, ReportsSet, Respell, Some, []}
+use Rattle.tigercanon.proofs.Common.{ap, arith, bytes_of, false, if◌then◌else◌, inl, inr, map, most_records, refl, set_of_files, set_of_job}
+use Rattle.tigercanon.proofs.Common.{set_of_sources, slice_index_or, subst, sym, to_writer, true, ℕ, ◌++◌, ◌<◌, ◌∷◌, ◌≡◌}
+use Rattle.tigercanon.proofs.FileParts.{head_of, tail_of, taken_all}
+use Rattle.tigercanon.proofs.Parts.{fault_of_rest}
+use Rattle.tigercanon.proofs.{GivenSets.IsKnownOf, Leaving.kept, SourceSets.left_untouched}
 
 -- sources that give what their files hold; none has failed
 pub opened_from : {S F : Type 0} (left : S → Option (List ℕ)) (failed : S → ℕ) (bytes : F → Option (List ℕ)) (sources : List S) (files : List F)
@@ -89,47 +88,60 @@ module _ {S R : Type 0} (left : S → Option (List ℕ)) (given : S → ℕ) (re
   read_held (f ∷ fs) [] after parts s r = absurd cc
   read_held files before after parts s r = absurd r
 
-  -- parts that continue the bytes that were read
-  going_on : (files : List (Opened R)) (before after : List S) (closed : List (List ℕ)) (bytes : List ℕ)
-      → AreSourcesOf left before remaining files → AreReadUpTo left given before after closed bytes
-      → ((more : List ℕ) × (later : List (List ℕ)) × AreHeld remaining files (closed ++ (bytes ++ more) ∷ later))
-      ⊎ ((bytes ≡ []) × AreHeld remaining files closed)
-  going_on [] [] [] [] bytes s r = inr (r, tt)
-  going_on (f ∷ fs) (b ∷ bs) (n ∷ ns) [] bytes s r =
-      let rest = some_parts remaining fs in
-      let m = with_left (left b) (left n) bytes r.0.bytes in
-      inl (m.0, rest.0, (subst (λ known. IfSome known (λ all. bytes ++ m.0 ≡ all)) (head_of _ _ _ _ s) m.1, rest.1))
-  going_on (f ∷ fs) (b ∷ bs) (n ∷ ns) (p ∷ ps) bytes s r = behind (going_on fs bs ns ps bytes (tail_of _ _ _ _ s) r.2)
-    where
-      here : IfSome (bytes_of remaining f) (λ all. p ≡ all)
-      here = subst (λ known. IfSome known (λ all. p ≡ all)) (head_of _ _ _ _ s) (taken_all (left b) (left n) p r.0.bytes r.1)
+  -- if the first sources were read to their ends, the files hold the parts that these gave, and then what the other files hold
+  held_first : (others : List S → List S → Type 0) (Q : List (List ℕ) → Type 0)
+      → ((files : List (Opened R)) (bs ns : List S) → AreSourcesOf left bs remaining files → others bs ns
+      → (later : List (List ℕ)) × AreHeld remaining files later × Q later)
+      → (files : List (Opened R)) (before after : List S) (parts : List (List ℕ)) → AreSourcesOf left before remaining files
+      → AreReadFirst left given others before after parts → (later : List (List ℕ)) × AreHeld remaining files (parts ++ later) × Q later
+  held_first others Q rest files before after [] s r = rest files before after s r
+  held_first others Q rest (f ∷ fs) (b ∷ bs) (n ∷ ns) (p ∷ ps) s r =
+      let more = held_first others Q rest fs bs ns ps (tail_of _ _ _ _ s) r.2 in (
+        more.0,
+        (subst (λ known. IfSome known (λ bytes. p ≡ bytes)) (head_of _ _ _ _ s) (taken_all (left b) (left n) p r.0.bytes r.1), more.1),
+        more.2,
+      )
+  held_first others Q rest [] (b ∷ bs) (n ∷ ns) (p ∷ ps) s r = absurd cc
+  held_first others Q rest files before after parts s r = absurd r
 
-      behind : ((more : List ℕ) × (later : List (List ℕ)) × AreHeld remaining fs (ps ++ (bytes ++ more) ∷ later))
-          ⊎ ((bytes ≡ []) × AreHeld remaining fs ps)
-          → ((more : List ℕ) × (later : List (List ℕ)) × AreHeld remaining (f ∷ fs) ((p ∷ ps) ++ (bytes ++ more) ∷ later))
-          ⊎ ((bytes ≡ []) × AreHeld remaining (f ∷ fs) (p ∷ ps))
-      behind (inl h) = inl (h.0, h.1, (here, h.2))
-      behind (inr h) = inr (h.0, (here, h.1))
-  going_on [] (b ∷ bs) after closed bytes s r = absurd cc
-  going_on (f ∷ fs) [] after closed bytes s r = absurd cc
-  going_on files before after closed bytes s r = absurd r
+  -- the next file's part begins with the bytes that its source gave
+  next_held : (bytes : List ℕ) (files : List (Opened R)) (bs ns : List S) → AreSourcesOf left bs remaining files
+      → IsNext (λ b n. Gave left given b n bytes) bs ns → (later : List (List ℕ)) × AreHeld remaining files later
+      × ((more : List ℕ) × (rest : List (List ℕ)) × (later ≡ (bytes ++ more) ∷ rest))
+  next_held bytes (f ∷ fs) (b ∷ bs) (n ∷ ns) s r =
+      let rest = some_parts remaining fs in
+      let m = with_left (left b) (left n) bytes r.0.bytes in (
+        (bytes ++ m.0) ∷ rest.0,
+        (subst (λ known. IfSome known (λ all. bytes ++ m.0 ≡ all)) (head_of _ _ _ _ s) m.1, rest.1),
+        (m.0, rest.0, refl),
+      )
+  next_held bytes [] (b ∷ bs) (n ∷ ns) s r = absurd cc
+  next_held bytes files bs ns s r = absurd r
 
   module _ (files : List (Opened R)) (before after : List S) (sources : AreSourcesOf left before remaining files) where
     -- the files are refused for a fault in the bytes that were read
     read_refused : (reads : S → ℕ) (fault : LoadFault) → IsFaultOfRead left given reads before after fault
         → AreRefused remaining files (Load fault)
-    read_refused reads fault h = go (going_on files before after h.0 h.1 sources h.2)
+    read_refused reads fault h = go h.2
       where
-        go : ((more : List ℕ) × (later : List (List ℕ)) × AreHeld remaining files (h.0 ++ (h.1 ++ more) ∷ later))
-            ⊎ ((h.1 ≡ []) × AreHeld remaining files h.0)
-            → AreRefused remaining files (Load fault)
-        go (inl k) = record { parts = _; held = k.2; refused = h.3 k.0 k.1 }
-        go (inr k) = record {
-          parts = h.0;
-          held = k.1;
-          refused = (empty_fault tiger most_records h.0 fault).0
-              (subst (λ (bytes : List ℕ). IsFirstFault (h.0 ++ (bytes ++ []) ∷ []) fault) k.0 (h.3 [] []));
-        }
+        go : AreReadUpTo left given before after h.0 h.1 → AreRefused remaining files (Load fault)
+        go (inl (read, none)) =
+            let held = held_first (λ bs ns. ns ≡ bs) (λ later. Unit {0})
+            (λ fs bs ns s same. let some = some_parts remaining fs in (some.0, some.1, tt)) files before after h.0 sources read in
+            record {
+              parts = h.0 ++ held.0;
+              held = held.1;
+              refused = fault_of_rest h.0 held.0 fault (subst (λ (bytes : List ℕ). IsFaultHowever most_records h.0 bytes fault) none h.3);
+            }
+        go (inr read) =
+            let held = held_first (IsNext (λ b n. Gave left given b n h.1))
+            (λ later. (more : List ℕ) × (rest : List (List ℕ)) × (later ≡ (h.1 ++ more) ∷ rest)) (next_held h.1) files before after h.0
+            sources read in
+            record {
+              parts = h.0 ++ held.0;
+              held = held.1;
+              refused = subst (λ later. IsFirstFault (h.0 ++ later) fault) (sym held.2.2) (h.3 held.2.0 held.2.1);
+            }
 
     refused_parts : (fault : Fault) → AreRefusedParts left given before after fault → AreRefused remaining files fault
     refused_parts fault r = record {
@@ -140,8 +152,7 @@ module _ {S R : Type 0} (left : S → Option (List ℕ)) (given : S → ℕ) (re
 
     refused_files : (job : Job) (reads : S → ℕ) (fault : Fault) → IsRefusalBy job left given reads before after fault
         → AreRefused remaining files fault
-    refused_files Normalise reads fault (inl r) = refused_parts fault r
-    refused_files Normalise reads fault (inr h) = subst (AreRefused remaining files) (sym h.1) (read_refused reads h.0 h.2)
+    refused_files Normalise reads (Load f) r = read_refused reads f r
     refused_files job reads fault r = refused_parts fault r
 
     -- facts about the sources hold for the files

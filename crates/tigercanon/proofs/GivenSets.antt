@@ -1,7 +1,8 @@
 -- A statement about a set and its output holds for another set if every fact about the first is a fact about the second.
 use Rattle.tigercanon.proofs.Common.{Compare, Different, Does, Done, Ending, Err, Fault, GivenOutput, GivenSet, HoldsAccepted, IsOfNoLines}
-use Rattle.tigercanon.proofs.Common.{IsTextOf, Job, LeavesStopped, Link, List, Load, Mask, Memory, OfTwoSets, Ok, Option, Profile}
-use Rattle.tigercanon.proofs.Common.{ReportsFor, ReportsSet, Result, Stopped, Write, inl, inr, ℕ, ◌⊎◌}
+use Rattle.tigercanon.proofs.Common.{IsTextOf, Job, LeavesStopped, List, Mask, OfTwoSets, Ok, Option, ReportsFor, ReportsSet, Result}
+use Rattle.tigercanon.proofs.Common.{Stopped, Write, inl, inr, ℕ, ◌⊎◌}
+use Rattle.tigercanon.proofs.Refusing.{refused_weaker}
 
 -- every fact about one set is a fact about the other
 pub record IsKnownOf (a b : GivenSet) : Type 0 where
@@ -16,11 +17,7 @@ pub record IsPrintedTo (x y : GivenOutput) : Type 0 where
   pub failed : x.failed → y.failed
 
 set_reported : (a b : GivenSet) → IsKnownOf a b → (fault : Fault) → ReportsSet a fault → ReportsSet b fault
-set_reported a b known (Load f) t = (λ of. known.refused (Load f) (t.0 of), λ is. known.unread (t.1 is))
-set_reported a b known (Link f) t = λ ne. known.refused (Link f) (t ne)
-set_reported a b known (Profile f) t = λ ne. known.refused (Profile f) (t ne)
-set_reported a b known (Write f) t = absurd t
-set_reported a b known Memory t = tt
+set_reported a b known fault t = (refused_weaker a.refused b.refused known.refused fault t.0, λ is. known.unread (t.1 is))
 
 module _ (a b c d : GivenSet) (first : IsKnownOf a b) (second : IsKnownOf c d) where
   of_two : (holds : List (List ℕ) → List (List ℕ) → Type 0) → OfTwoSets holds a c → OfTwoSets holds b d
@@ -33,8 +30,7 @@ module _ (a b c d : GivenSet) (first : IsKnownOf a b) (second : IsKnownOf c d) w
   }
 
   text_of : (mask : Mask) (job : Job) (ending : Ending) (text : List ℕ) → IsTextOf mask job a c ending text → IsTextOf mask job b d ending text
-  text_of mask Compare Done text h = of_two _ h
-  text_of mask Compare Different text h = of_two _ h
+  text_of mask Compare ending text h = (of_two _ h.0, h.1)
   text_of mask job Done text h = record { parts = h.parts; held = first.holds h.parts h.held; answered = h.answered }
   text_of mask job Different text h = absurd h
 

@@ -1,6 +1,6 @@
 -- Sets under a mask: the view of a set's county, and the mask that leaves nothing out.
-use Rattle.tigercanon.proofs.Common.{County, IsAcceptable, IsViewedSet, List, Mask, county_of, masked, masked_by_none, no_mask, plain}
-use Rattle.tigercanon.proofs.Common.{subst, sym, ℕ, ◌∙◌, ◌≡◌}
+use Rattle.tigercanon.proofs.Common.{County, IsViewedSet, List, Mask, county_of, masked, masked_by_none, no_mask, plain, subst, sym, ℕ, ◌∙◌}
+use Rattle.tigercanon.proofs.Common.{◌≡◌}
 
 -- a mask that leaves nothing out shows counties as they are
 pub none_is_plain : masked no_mask ≡ plain
@@ -22,6 +22,3 @@ module _ (mask : Mask) (parts : List (List ℕ)) where
     county_is = subst (λ (m : Mask). county ≡ masked m (county_of set.records)) (sym none)
         (set.county_is ∙ sym (masked_by_none (county_of set.records)));
   }
-
-pub viewed_acceptable : {view : County → County} (parts : List (List ℕ)) (county : County) → IsViewedSet view parts county → IsAcceptable parts
-viewed_acceptable parts county set = (set.records, set.accepted)

@@ -1,15 +1,13 @@
 -- Sources that were read one after another.
-use Rattle.tigercanon.proofs.Common.{AreRead, AreReadButOnce, AreReadUpTo, Gave, IsAtEnd, IsUnread, List, LoadedInto, NoneFailed, OneFailed}
-use Rattle.tigercanon.proofs.Common.{Option, Record, RoseBy, SomeUnread, WasFedInto, [], ap, arith, gave_none, get_or, inl, inr, length}
-use Rattle.tigercanon.proofs.Common.{map-set_same, most_records, refl, set, subst, suc, sym, zero, ℕ, ◌++◌, ◌+◌, ◌<◌, ◌∙◌, ◌∷◌, ◌≡◌}
+use Rattle.tigercanon.proofs.Common.{AreRead, AreReadFirst, Gave, IsAtEnd, IsUnread, List, LoadedInto, NoneFailed, OneFailed, Option}
+use Rattle.tigercanon.proofs.Common.{Record, SomeUnread, WasFedInto, [], ap, arith, get_or, inl, inr, length, map-set_same, most_records}
+use Rattle.tigercanon.proofs.Common.{refl, set, subst, suc, sym, zero, ℕ, ◌++◌, ◌+◌, ◌<◌, ◌∙◌, ◌∷◌, ◌≡◌}
 use Rattle.tigercanon.proofs.FileParts.{head_of, tail_of}
 
 module _ {R : Type 0} (remaining : R → Option (List ℕ)) (given : R → ℕ) where
   -- the first sources were read to their ends and returned these parts, and the others are unchanged
   abbrev pub GaveParts : List R → List R → List (List ℕ) → Type 0
-  GaveParts before after [] = after ≡ before
-  GaveParts (b ∷ bs) (n ∷ ns) (part ∷ parts) = Gave remaining given b n part × IsAtEnd (remaining n) × GaveParts bs ns parts
-  GaveParts _ _ _ = ⊥
+  GaveParts = AreReadFirst remaining given (λ before after. after ≡ before)
 
   -- this many of the sources were read, and the loader was fed their bytes
   abbrev pub HasRead : {K : Type 0} → (K → List Record → Type 0) → List R → List R → ℕ → LoadedInto K → Type 0
@@ -17,41 +15,41 @@ module _ {R : Type 0} (remaining : R → Option (List ℕ)) (given : R → ℕ) 
       × WasFedInto holds most_records loader parts []
 
   -- the next source is unchanged
-  pub next_untouched : (bs ns : List R) (parts : List (List ℕ)) (d : R) → GaveParts bs ns parts
-      → get_or ns (length parts) d ≡ get_or bs (length parts) d
-  next_untouched bs ns [] d g = ap (λ (rs : List R). get_or rs 0 d) g
-  next_untouched (b ∷ bs) (n ∷ ns) (part ∷ parts) d g = next_untouched bs ns parts d g.2
-  next_untouched bs ns parts d g = absurd g
+  pub untouched : (bs ns : List R) (parts : List (List ℕ)) (i : ℕ) (d : R) → GaveParts bs ns parts → length parts ≡ i
+      → get_or ns i d ≡ get_or bs i d
+  untouched bs ns [] i d g e = ap (λ (rs : List R). get_or rs i d) g
+  untouched (b ∷ bs) (n ∷ ns) (part ∷ parts) zero d g e = absurd (omega (arith, e))
+  untouched (b ∷ bs) (n ∷ ns) (part ∷ parts) (suc i) d g e = untouched bs ns parts i d g.2 (omega (arith, e))
+  untouched bs ns parts i d g e = absurd g
+
+  -- what holds for the next source and the rest, once that source has changed
+  pub next_changed : (others : List R → List R → Type 0) (bs ns : List R) (parts : List (List ℕ)) (i : ℕ) (d x : R) → GaveParts bs ns parts
+      → length parts ≡ i → i < length bs → ((rest : List R) → others (get_or ns i d ∷ rest) (x ∷ rest))
+      → AreReadFirst remaining given others bs (set ns i x) parts
+  next_changed others [] ns parts i d x g e l h = absurd (omega (arith, l))
+  next_changed others (b ∷ bs) ns [] zero d x g e l h =
+      subst (λ (rs : List R). ((rest : List R) → others (get_or rs 0 d ∷ rest) (x ∷ rest)) → others (b ∷ bs) (set rs 0 x)) (sym g)
+      (λ h. h bs) h
+  next_changed others (b ∷ bs) ns [] (suc i) d x g e l h = absurd (omega (arith, e))
+  next_changed others (b ∷ bs) (n ∷ ns) (part ∷ parts) zero d x g e l h = absurd (omega (arith, e))
+  next_changed others (b ∷ bs) (n ∷ ns) (part ∷ parts) (suc i) d x g e l h =
+      (g.0, g.1, next_changed others bs ns parts i d x g.2 (omega (arith, e)) (omega (arith, l)) h)
+  next_changed others bs ns parts i d x g e l h = absurd g
+
+  -- the parts of the first sources, and those of the next ones
+  parts_joined : (others : List R → List R → Type 0) (more : List (List ℕ)) (bs ns : List R) (parts : List (List ℕ))
+      → AreReadFirst remaining given (λ b n. AreReadFirst remaining given others b n more) bs ns parts
+      → AreReadFirst remaining given others bs ns (parts ++ more)
+  parts_joined others more bs ns [] g = g
+  parts_joined others more (b ∷ bs) (n ∷ ns) (part ∷ parts) g = (g.0, g.1, parts_joined others more bs ns parts g.2)
+  parts_joined others more bs ns parts g = absurd g
 
   -- the next source was read to its end too
-  pub one_more : (bs ns : List R) (parts : List (List ℕ)) (d x : R) (part : List ℕ) → GaveParts bs ns parts → length parts < length bs
-      → Gave remaining given (get_or bs (length parts) d) x part → IsAtEnd (remaining x)
-      → GaveParts bs (set ns (length parts) x) (parts ++ part ∷ [])
-  one_more [] ns [] d x part g l gave end = absurd (omega arith)
-  one_more (b ∷ bs) ns [] d x part g l gave end =
-      subst (λ (rs : List R). GaveParts (b ∷ bs) (set rs 0 x) (part ∷ [])) (sym g) (gave, end, refl)
-  one_more (b ∷ bs) (n ∷ ns) (p ∷ parts) d x part g l gave end =
-      (g.0, g.1, one_more bs ns parts d x part g.2 (omega arith) gave end)
-  one_more bs ns parts d x part g l gave end = absurd g
-
-  -- or it returned these bytes, and reading stopped
-  pub up_to_next : (bs ns : List R) (parts : List (List ℕ)) (d x : R) (bytes : List ℕ) → GaveParts bs ns parts
-      → length parts < length bs → Gave remaining given (get_or bs (length parts) d) x bytes
-      → AreReadUpTo remaining given bs (set ns (length parts) x) parts bytes
-  up_to_next [] ns [] d x bytes g l gave = absurd (omega arith)
-  up_to_next (b ∷ bs) ns [] d x bytes g l gave =
-      subst (λ (rs : List R). AreReadUpTo remaining given (b ∷ bs) (set rs 0 x) [] bytes) (sym g) (gave, refl)
-  up_to_next (b ∷ bs) (n ∷ ns) (p ∷ parts) d x bytes g l gave =
-      (g.0, g.1, up_to_next bs ns parts d x bytes g.2 (omega arith) gave)
-  up_to_next bs ns parts d x bytes g l gave = absurd g
-
-  -- the sources after them have returned nothing yet
-  pub nothing_more : (bs ns : List R) (parts : List (List ℕ)) → GaveParts bs ns parts → AreReadUpTo remaining given bs ns parts []
-  nothing_more [] ns [] g = subst (λ (rs : List R). AreReadUpTo remaining given [] rs [] []) (sym g) refl
-  nothing_more (b ∷ bs) ns [] g =
-      subst (λ (rs : List R). AreReadUpTo remaining given (b ∷ bs) rs [] []) (sym g) (gave_none remaining given b, refl)
-  nothing_more (b ∷ bs) (n ∷ ns) (part ∷ parts) g = (g.0, g.1, nothing_more bs ns parts g.2)
-  nothing_more bs ns parts g = absurd g
+  pub one_more : (bs ns : List R) (parts : List (List ℕ)) (i : ℕ) (d x : R) (part : List ℕ) → GaveParts bs ns parts → length parts ≡ i
+      → i < length bs → Gave remaining given (get_or ns i d) x part → IsAtEnd (remaining x)
+      → GaveParts bs (set ns i x) (parts ++ part ∷ [])
+  one_more bs ns parts i d x part g e l gave end =
+      parts_joined _ (part ∷ []) bs (set ns i x) parts (next_changed _ bs ns parts i d x g e l (λ rest. (gave, end, refl)))
 
   -- as many parts as sources are all
   pub all_read : (bs ns : List R) (parts : List (List ℕ)) → GaveParts bs ns parts → length parts ≡ length bs
@@ -60,48 +58,6 @@ module _ {R : Type 0} (remaining : R → Option (List ℕ)) (given : R → ℕ) 
   all_read (b ∷ bs) ns [] g e = absurd (omega arith)
   all_read (b ∷ bs) (n ∷ ns) (part ∷ parts) g e = (g.0, g.1, all_read bs ns parts g.2 (omega arith))
   all_read bs ns parts g e = absurd g
-
-  -- the same if the number of parts is a place
-  module _ (bs ns : List R) (parts : List (List ℕ)) (i : ℕ) (d x : R) (g : GaveParts bs ns parts) (e : length parts ≡ i)
-      (l : i < length bs) where
-    pub untouched_at : get_or ns i d ≡ get_or bs i d
-    untouched_at = subst (λ (k : ℕ). get_or ns k d ≡ get_or bs k d) e (next_untouched bs ns parts d g)
-
-    pub gave_there : (bytes : List ℕ) → Gave remaining given (get_or ns i d) x bytes → Gave remaining given (get_or bs (length parts) d) x bytes
-    gave_there bytes gave =
-        subst (λ (k : ℕ). Gave remaining given (get_or bs k d) x bytes) (sym e)
-        (subst (λ (s : R). Gave remaining given s x bytes) untouched_at gave)
-
-    pub one_more_at : (part : List ℕ) → Gave remaining given (get_or ns i d) x part → IsAtEnd (remaining x)
-        → GaveParts bs (set ns i x) (parts ++ part ∷ [])
-    one_more_at part gave end =
-        subst (λ (k : ℕ). GaveParts bs (set ns k x) (parts ++ part ∷ [])) e
-        (one_more bs ns parts d x part g (omega arith) (gave_there part gave) end)
-
-    pub up_to_at : (bytes : List ℕ) → Gave remaining given (get_or ns i d) x bytes
-        → AreReadUpTo remaining given bs (set ns i x) parts bytes
-    up_to_at bytes gave =
-        subst (λ (k : ℕ). AreReadUpTo remaining given bs (set ns k x) parts bytes) e
-        (up_to_next bs ns parts d x bytes g (omega arith) (gave_there bytes gave))
-
--- reading stopped at a read of the next source, before which that source gave these bytes
-module _ {R : Type 0} (remaining : R → Option (List ℕ)) (given reads : R → ℕ) where
-  but_once : (bs ns : List R) (parts : List (List ℕ)) (d x last : R) (bytes : List ℕ) → GaveParts remaining given bs ns parts
-      → length parts < length bs → Gave remaining given (get_or bs (length parts) d) last bytes → RoseBy 1 (reads last) (reads x)
-      → AreReadButOnce remaining given reads bs (set ns (length parts) x) parts bytes
-  but_once [] ns [] d x last bytes g l gave one = absurd (omega arith)
-  but_once (b ∷ bs) ns [] d x last bytes g l gave one =
-      subst (λ (rs : List R). AreReadButOnce remaining given reads (b ∷ bs) (set rs 0 x) [] bytes) (sym g) (last, gave, one, refl)
-  but_once (b ∷ bs) (n ∷ ns) (p ∷ parts) d x last bytes g l gave one =
-      (g.0, g.1, but_once bs ns parts d x last bytes g.2 (omega arith) gave one)
-  but_once bs ns parts d x last bytes g l gave one = absurd g
-
-  pub but_once_at : (bs ns : List R) (parts : List (List ℕ)) (i : ℕ) (d x last : R) (bytes : List ℕ) → GaveParts remaining given bs ns parts
-      → length parts ≡ i → i < length bs → Gave remaining given (get_or ns i d) last bytes → RoseBy 1 (reads last) (reads x)
-      → AreReadButOnce remaining given reads bs (set ns i x) parts bytes
-  but_once_at bs ns parts i d x last bytes g e l gave one =
-      subst (λ (k : ℕ). AreReadButOnce remaining given reads bs (set ns k x) parts bytes) e
-      (but_once bs ns parts d x last bytes g (omega arith) (gave_there remaining given bs ns parts i d last g e l bytes gave) one)
 
 -- ---- failures
 

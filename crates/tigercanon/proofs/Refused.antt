@@ -36,11 +36,10 @@ set_refused set (Load Device) reported s = absurd (omega (arith, s))
 set_refused set (Load LoadMemory) reported s = absurd (omega (arith, s))
 set_refused set (Load f) reported s = reported.0 tt
 set_refused set (Link LinkMemory) reported s = absurd (omega (arith, s))
-set_refused set (Link f) reported s = reported (λ e. cc)
+set_refused set (Link f) reported s = reported.0 (λ e. cc)
 set_refused set (Profile ProfileMemory) reported s = absurd (omega (arith, s))
-set_refused set (Profile f) reported s = reported (λ e. cc)
-set_refused set (Write f) reported s = absurd reported
-set_refused set Memory reported s = absurd (omega (arith, s))
+set_refused set (Profile f) reported s = reported.0 (λ e. cc)
+set_refused set fault reported s = absurd (omega (arith, s))
 
 module _ (first second : GivenSet) where
   reported_refused : (job : Job) (fault : Fault) (set : Option ℕ) → ReportsFor job first second fault set → status_of fault ≡ 3
@@ -79,13 +78,9 @@ module _ (mask : Mask) (job : Job) (first second : GivenSet) (out : GivenOutput)
       → DeviceFailed first second out
   left_device (Write f) set left s = inr (inr left.1)
   left_device (Load Device) set left s = reported_device first second out job set left.1
-  left_device (Load LoadMemory) set left s = absurd (omega (arith, s))
-  left_device (Load f) set left s = absurd (omega (arith, s))
   left_device (Link LinkMemory) set left s = absurd (omega (arith, s))
-  left_device (Link f) set left s = absurd (omega (arith, s))
   left_device (Profile ProfileMemory) set left s = absurd (omega (arith, s))
-  left_device (Profile f) set left s = absurd (omega (arith, s))
-  left_device Memory set left s = absurd (omega (arith, s))
+  left_device fault set left s = absurd (omega (arith, s))
 
   pub done : (r : Result Ending Stopped) → Does mask job first second out r → status_of_outcome r ≡ 0 → IsDone mask job first second out
   done (Ok Done) did s = did

@@ -25,6 +25,6 @@ module _ (parts others : List (List ℕ)) (same : HaveSameLines parts others) wh
       let found = fault_elsewhere tiger most_records parts others fault same h in
       (Load found.0, found.1, ap Load found.2)
   refused_alike (Link fault) h = (Link fault, (h.0, spelled_alike h.0 h.1, h.2), refl)
-  refused_alike (Profile fault) h = (Profile fault, (h.0, spelled_alike h.0 h.1, h.2, h.3), refl)
+  refused_alike (Profile fault) h = (Profile fault, (h.0, spelled_alike h.0 h.1, h.2), refl)
   refused_alike (Write fault) h = absurd h
   refused_alike Memory h = absurd h

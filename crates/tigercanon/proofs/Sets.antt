@@ -1,15 +1,16 @@
 -- Each set is accepted or has one refusal; two sets have one canonical text exactly if their counties are the same.
-use Rattle.tigercanon.proofs.Common.{All, IsAccepted, IsOnlyText, IsRefusal, LoadFault, one_verdict, spelled_fit, spelled_once, text_spells}
-use Rattle.tigercanon.proofs.Common.{All-from_recursion, IsCanonicalTextInView, IsFirstBrokenClause, one_canonical_same, recursion_from_All}
-use Rattle.tigercanon.proofs.Common.{AllByRecursion, IsCanonicalText, accepted_within, one_first_clause, profile_has_none, text_spells_only}
-use Rattle.tigercanon.proofs.Common.{AreSame, County, FaultAt, IsLinked, IsView, Memory, Profile, Record, Unlinked, county_of, inl, text_of}
-use Rattle.tigercanon.proofs.Common.{Fault, IsStrictInView, RecordsRefusal, linked_has_none, one_first_rule, same-reflexive, strict_in_view}
-use Rattle.tigercanon.proofs.Common.{FitsRecord, IsFirstBrokenRule, IsOnlyTextInView, accepted_no_fault, canonical_exists, canonical_within}
-use Rattle.tigercanon.proofs.Common.{IsAcceptedSet, IsSetRefusal, IsWithinLimit, OutOfProfile, SpellsWithin, most_records, tiger_is_sound}
-use Rattle.tigercanon.proofs.Common.{Link, List, Load, Spells, Write, [], ap, inr, lit≤, plain, refl, subst, sym, ℕ, ◌∙◌, ◌∷◌, ◌≡◌, ◌⊎◌}
-use Rattle.tl_load.specs.{Choice.tiger, Outcome.IsFaulty, Outcome.IsSpelled}
-use Rattle.canonical_form.proofs.CanonicalLists.Accepted.{accepted_or_refused, canonical_accepted, canonical_as_it_is, canonical_of_itself}
-use Rattle.canonical_form.proofs.CanonicalLists.Accepted.{same_canonical_text}
+use Rattle.tigercanon.proofs.Common.{All, AllByRecursion, AreSame, County, Fault, FaultAt, FitsRecord, IsAccepted, IsAcceptedSet}
+use Rattle.tigercanon.proofs.Common.{IsCanonicalText, IsCanonicalTextInView, IsFaulty, IsOnlyTextInView, IsRecordsRefusal, IsRefusal}
+use Rattle.tigercanon.proofs.Common.{IsSetRefusal, IsSpelled, IsStrictInView, IsView, IsWithinLimit, Link, List, Load, LoadFault, Memory}
+use Rattle.tigercanon.proofs.Common.{OutOfProfile, Profile, Record, RecordsRefusal, Spells, SpellsWithin, Unlinked, Write, []}
+use Rattle.tigercanon.proofs.Common.{accepted_no_fault, accepted_within, ap, canonical_exists, canonical_within, county_of, inl, inr, lit≤}
+use Rattle.tigercanon.proofs.Common.{most_records, one_canonical_same, one_verdict, recursion_from_All, refl, same-reflexive, spelled_fit}
+use Rattle.tigercanon.proofs.Common.{spelled_once, strict_in_view, subst, sym, text_of, text_spells, text_spells_only, tiger_is_sound, ℕ}
+use Rattle.tigercanon.proofs.Common.{◌∙◌, ◌∷◌, ◌≡◌, ◌⊎◌}
+use Rattle.std.proofs.lemmas.List.Elements.{All-from_recursion}
+use Rattle.tl_load.specs.Choice.{tiger}
+use Rattle.canonical_form.proofs.CanonicalLists.Accepted.{accepted_not_refused, accepted_or_refused, canonical_accepted, canonical_as_it_is}
+use Rattle.canonical_form.proofs.CanonicalLists.Accepted.{canonical_of_itself, one_refusal, same_canonical_text}
 
 pub set_accepted_or_refused : (parts : List (List ℕ))
     → ((records : List Record) × IsAcceptedSet parts records) ⊎ ((refusal : Fault) × IsSetRefusal parts refusal)
@@ -20,7 +21,7 @@ set_accepted_or_refused parts = go (one_verdict tiger tiger_is_sound most_record
         → ((records : List Record) × IsAcceptedSet parts records) ⊎ ((refusal : Fault) × IsSetRefusal parts refusal)
     judged records spelled (inl accepted) = inl (records, record { spelled = spelled; accepted = accepted })
     judged records spelled (inr (Unlinked f, h)) = inr (Link f, (records, spelled, h))
-    judged records spelled (inr (OutOfProfile f, h)) = inr (Profile f, (records, spelled, h.0, h.1))
+    judged records spelled (inr (OutOfProfile f, h)) = inr (Profile f, (records, spelled, h))
 
     go : IsSpelled tiger most_records parts ⊎ IsFaulty tiger most_records parts
         → ((records : List Record) × IsAcceptedSet parts records) ⊎ ((refusal : Fault) × IsSetRefusal parts refusal)
@@ -36,15 +37,18 @@ spelled_not_faulty : (parts : List (List ℕ)) (records : List Record) (fault : 
     → FaultAt tiger most_records parts fault → ⊥
 spelled_not_faulty = accepted_no_fault tiger tiger_is_sound most_records
 
+-- the refusal of the records that the parts spell
+refusal_of : (parts : List (List ℕ)) (records : List Record) → SpellsWithin tiger most_records parts records → (f : RecordsRefusal)
+    → IsRecordsRefusal parts f → IsRefusal records f
+refusal_of parts records spelled f h = subst (λ rs. IsRefusal rs f) (one_list parts h.0 records h.1 spelled) h.2
+
 pub accepted_set_not_refused : (parts : List (List ℕ)) (records : List Record) (refusal : Fault) → IsAcceptedSet parts records
     → IsSetRefusal parts refusal → ⊥
 accepted_set_not_refused parts records (Load fault) a h = spelled_not_faulty parts records fault a.spelled h
 accepted_set_not_refused parts records (Link fault) a h =
-    linked_has_none records fault a.accepted.linked
-    (subst (λ rs. IsFirstBrokenRule rs fault) (one_list parts h.0 records h.1 a.spelled) h.2)
+    accepted_not_refused records (Unlinked fault) a.accepted (refusal_of parts records a.spelled (Unlinked fault) h)
 accepted_set_not_refused parts records (Profile fault) a h =
-    profile_has_none (county_of records) fault a.accepted.profile
-    (subst (λ (rs : List Record). IsFirstBrokenClause (county_of rs) fault) (one_list parts h.0 records h.1 a.spelled) h.3)
+    accepted_not_refused records (OutOfProfile fault) a.accepted (refusal_of parts records a.spelled (OutOfProfile fault) h)
 accepted_set_not_refused parts records (Write fault) a h = h
 accepted_set_not_refused parts records Memory a h = h
 
@@ -55,26 +59,25 @@ one_fault parts f g h k = go (one_verdict tiger tiger_is_sound most_records part
     go (inl s) = absurd (s.none f h)
     go (inr t) = t.only f h ∙ sym (t.only g k)
 
+one_spelled_refusal : (parts : List (List ℕ)) (f g : RecordsRefusal) → IsRecordsRefusal parts f → IsRecordsRefusal parts g → f ≡ g
+one_spelled_refusal parts f g h k = one_refusal k.0 f g (refusal_of parts k.0 k.1 f h) k.2
+
 pub one_set_refusal : (parts : List (List ℕ)) (f g : Fault) → IsSetRefusal parts f → IsSetRefusal parts g → f ≡ g
 one_set_refusal parts (Load f) (Load g) h k = ap Load (one_fault parts f g h k)
 one_set_refusal parts (Load f) (Link g) h k = absurd (spelled_not_faulty parts k.0 f k.1 h)
 one_set_refusal parts (Load f) (Profile g) h k = absurd (spelled_not_faulty parts k.0 f k.1 h)
 one_set_refusal parts (Link f) (Load g) h k = absurd (spelled_not_faulty parts h.0 g h.1 k)
-one_set_refusal parts (Link f) (Link g) h k =
-    ap Link (one_first_rule k.0 f g (subst (λ rs. IsFirstBrokenRule rs f) (one_list parts h.0 k.0 h.1 k.1) h.2) k.2)
-one_set_refusal parts (Link f) (Profile g) h k =
-    absurd (linked_has_none k.0 f k.2 (subst (λ rs. IsFirstBrokenRule rs f) (one_list parts h.0 k.0 h.1 k.1) h.2))
+one_set_refusal parts (Link f) (Link g) h k = let e = one_spelled_refusal parts (Unlinked f) (Unlinked g) h k in cc
+one_set_refusal parts (Link f) (Profile g) h k = let e = one_spelled_refusal parts (Unlinked f) (OutOfProfile g) h k in cc
 one_set_refusal parts (Profile f) (Load g) h k = absurd (spelled_not_faulty parts h.0 g h.1 k)
-one_set_refusal parts (Profile f) (Link g) h k = absurd (linked_has_none k.0 g (subst IsLinked (one_list parts h.0 k.0 h.1 k.1) h.2) k.2)
-one_set_refusal parts (Profile f) (Profile g) h k =
-    ap Profile (one_first_clause (county_of k.0) f g
-    (subst (λ (rs : List Record). IsFirstBrokenClause (county_of rs) f) (one_list parts h.0 k.0 h.1 k.1) h.3) k.3)
+one_set_refusal parts (Profile f) (Link g) h k = let e = one_spelled_refusal parts (OutOfProfile f) (Unlinked g) h k in cc
+one_set_refusal parts (Profile f) (Profile g) h k = let e = one_spelled_refusal parts (OutOfProfile f) (OutOfProfile g) h k in cc
 one_set_refusal parts (Write f) g h k = absurd h
 one_set_refusal parts Memory g h k = absurd h
 one_set_refusal parts f (Write g) h k = absurd k
 one_set_refusal parts f Memory h k = absurd k
 
--- canonical texts through a view
+-- canonical texts in a view
 module _ (view : County → County) (view_laws : IsView view) where
   -- the printed records of a canonical list fit their columns and keep the limit
   fitting : (parts : List (List ℕ)) (text : List ℕ) (h : IsCanonicalTextInView view parts text)
@@ -120,7 +123,7 @@ module _ (view : County → County) (view_laws : IsView view) where
       (subst (λ (rs : List Record). AreSame (view (county_of h.records)) (view (county_of rs)))
       (one_list parts h.records k.records h.spelled k.spelled) (same-reflexive (view (county_of h.records))))
 
-  -- as one part it is accepted, describes the same map, and is its own canonical text, through the view and without one
+  -- as one part it is accepted, describes the same map, and is its own canonical text, in the view and without one
   module _ (parts : List (List ℕ)) (text : List ℕ) (h : IsCanonicalTextInView view parts text) where
     pub text_accepted : IsAcceptedSet (text ∷ []) h.canonical
     unfolding tiger
@@ -175,8 +178,3 @@ module _ (view : County → County) (view_laws : IsView view) where
 
     pub only_strict_text : (text : List ℕ) → IsCanonicalTextInView view parts text → text ≡ text_of answer
     only_strict_text text k = one_text parts text (text_of answer) k strict_text
-
--- the plain view shows all of a county
-module _ (parts : List (List ℕ)) (text : List ℕ) where
-  pub only_as_it_is : IsOnlyTextInView plain parts text → IsOnlyText parts text
-  only_as_it_is only = λ records canonical accepted is same. only records canonical accepted is refl same

@@ -1,9 +1,11 @@
 -- What a job over sources and a sink did.
-use Rattle.tigercanon.proofs.Common.{AreRead, Compare, GivenSet, IsTextOf, Normalise, OneFailed, PrintsTo, Profile, Reports, ap, is_of_sink}
-use Rattle.tigercanon.proofs.Common.{AreRefusedParts, IsCutOffInView, IsSetRefusal, LeavesStopped, Ok, ReportsRefusalOfRead, set_of_sources}
-use Rattle.tigercanon.proofs.Common.{Device, Ending, Fault, Memory, Option, Respell, Result, Stopped, Write, false, masked, subst, to_sink}
-use Rattle.tigercanon.proofs.Common.{Does, Done, Err, Job, Link, List, Load, Mask, None, inl, inr, refl, sym, true, ◌+◌, ◌∷◌, ◌≡◌}
-use Rattle.tigercanon.proofs.Common.{GivenOutput, IsOfNoLines, ReportsFor, ReportsRead, ReportsSet, SomeUnread, StopsReading, WriteFault, ℕ}
+use Rattle.tigercanon.proofs.Common.{Compare, CompareFault, Device, Does, Done, Ending, Err, Fault, GivenOutput, GivenSet, IsCutOffInView}
+use Rattle.tigercanon.proofs.Common.{IsSetRefusal, IsTextOf, Job, LeavesStopped, List, Load, Mask, None, Normalise, Ok, OneFailed, Option}
+use Rattle.tigercanon.proofs.Common.{PrintsTo, ReportsFor, ReportsOne, ReportsRead, ReportsRefusalOfOneRead, ReportsRefusalOfRead}
+use Rattle.tigercanon.proofs.Common.{ReportsSet, Result, Some, SomeUnread, Stopped, Write, WriteFault, ap, false, inl, inr, is_of_sink}
+use Rattle.tigercanon.proofs.Common.{masked, refl, set_of_sources, stopped_by, subst, sym, to_sink, true, ℕ, ◌+◌, ◌∷◌, ◌≡◌}
+use Rattle.tigercanon.proofs.Refusing.{refused_weaker}
+use Rattle.tigercanon.specs.declared.library.comparing.CompareFault.TheVariants.{In, Memory as NoMemory}
 
 -- a source that failed couldn't be read
 unread_of_failed : {R : Type 0} (failed reads : R → ℕ) (before after : List R) → OneFailed failed before after
@@ -16,17 +18,21 @@ module _ (known : GivenSet) where
   -- the fault of parts of the set, after reading
   pub read_reported : (parts : List (List ℕ)) → ((fault : Fault) → IsSetRefusal parts fault → known.refused fault) → (fault : Fault)
       → ReportsRefusalOfRead parts fault → ReportsSet known fault
-  read_reported parts refuse (Load f) t = ((λ of. refuse (Load f) (t.0 of)), (λ is. absurd (t.1 (ap Load is))))
-  read_reported parts refuse (Link f) t = λ other. refuse (Link f) (t.0 other)
-  read_reported parts refuse (Profile f) t = λ other. refuse (Profile f) (t.0 other)
-  read_reported parts refuse (Write f) t = absurd t.0
-  read_reported parts refuse Memory t = tt
+  read_reported parts refuse fault t = (refused_weaker (IsSetRefusal parts) known.refused refuse fault t.0, λ is. absurd (t.1 is))
 
--- the set is refused for the fault of parts that were read to their ends
-pub refused_of_read : {R : Type 0} (remaining : R → Option (List ℕ)) (given : R → ℕ) (before after : List R) (parts : List (List ℕ))
-    → AreRead remaining given before after parts → (fault : Fault) → IsSetRefusal parts fault
-    → AreRefusedParts remaining given before after fault
-refused_of_read remaining given before after parts read fault r = record { parts = parts; read = read; refused = r }
+-- the fault of one of two sets that were compared
+module _ (first second : GivenSet) where
+  pub one_reported : (a b : List (List ℕ)) → first.holds a → ((f : Fault) → IsSetRefusal a f → first.refused f)
+      → ((f : Fault) → IsSetRefusal b f → second.refused f) → (reported : CompareFault) → ReportsRefusalOfOneRead a b reported
+      → ReportsOne first second (stopped_by reported).fault (stopped_by reported).set
+  one_reported a b held refuse other (In set f) (inl reported) = inl (ap Some reported.0, read_reported first a refuse f reported.1)
+  one_reported a b held refuse other (In set f) (inr reported) = inr (
+    ap Some reported.0,
+    (a, held),
+    inl (record { parts = a; held = held; records = reported.1.0; accepted = reported.1.1 }),
+    read_reported second b other f reported.2,
+  )
+  one_reported a b held refuse other NoMemory reported = absurd reported
 
 -- ---- the end of a job
 
@@ -34,9 +40,9 @@ module _ (mask : Mask) (first second : GivenSet) where
   -- a fault that is reported for the sets leaves the output alone
   pub left_untouched : (out : GivenOutput) → out.kept → (job : Job) (fault : Fault) (set : Option ℕ) → ReportsFor job first second fault set
       → LeavesStopped mask job first second out fault set
-  left_untouched out kept Compare (Write f) set (inl reported) = absurd reported.1
-  left_untouched out kept Compare (Write f) set (inr reported) = absurd reported.3
-  left_untouched out kept job (Write f) set reported = absurd reported.1.0
+  left_untouched out kept Compare (Write f) set (inl reported) = absurd reported.1.0
+  left_untouched out kept Compare (Write f) set (inr reported) = absurd reported.3.0
+  left_untouched out kept job (Write f) set reported = absurd reported.1.0.0
   left_untouched out kept job fault set reported = (kept, reported)
 
   -- a job that has its text prints it, or stops at the output
@@ -53,17 +59,6 @@ module _ (mask : Mask) (first second : GivenSet) where
       (refl, h.2, record { text = text; answered = (ending, is); printed = h.3.1; short = h.3.0 })
 
 module _ {R : Type 0} (remaining : R → Option (List ℕ)) (given failed reads : R → ℕ) (before after : List R) where
-  -- the report if reading stopped at a fault
-  reported_of_read : (fault : Fault) → is_of_sink fault ≡ false → ReportsRead remaining given reads before after fault
-      → (fault ≡ Load Device → OneFailed failed before after)
-      → ReportsSet (set_of_sources Normalise remaining given failed reads before after) fault
-  reported_of_read (Load f) e t device =
-      ((λ of. inr (f, refl, t of)), (λ is. unread_of_failed failed reads before after (device (ap Load is))))
-  reported_of_read (Link f) e t device = λ ne. inl (t ne)
-  reported_of_read (Profile f) e t device = λ ne. inl (t ne)
-  reported_of_read (Write f) e t device = absurd cc
-  reported_of_read Memory e t device = tt
-
   -- the state after normalising to a sink
   pub normalised_leave : {W : Type 0} (sink_failed : W → ℕ) (holds : W → List ℕ → Type 0) (old new : W) (mask : Mask) (fault : Fault)
       → ((f : WriteFault) → fault ≡ Write f → IsCutOffInView (masked mask) remaining given before after holds old new f.written)
@@ -84,4 +79,4 @@ module _ {R : Type 0} (remaining : R → Option (List ℕ)) (given failed reads 
         },
       )
   normalised_leave sink_failed holds old new mask fault cut rose reported same device second =
-      (same refl, (refl, (reported_of_read fault refl reported device, tt)))
+      (same refl, (refl, ((reported refl, λ is. unread_of_failed failed reads before after (device is)), tt)))

@@ -1,5 +1,5 @@
 -- The outcome of comparing two sets: whether they are one map, and why there may be no verdict.
-use Rattle.std.specs.Prelude.{List, [], codes, ℕ, ◌++◌, ◌∷◌, ◌≡◌, ◌⊎◌}
+use Rattle.std.specs.Prelude.{List, ℕ, ◌≡◌, ◌⊎◌}
 use Rattle.tl_layout.specs.declared.record_type.Record.{Record}
 use Rattle.county_chart.specs.{County.County, County.county_of, Renumbering.AreSame, Renumbering.Renumbering}
 use Rattle.canonical_form.specs.CountyViews.{plain}
@@ -26,16 +26,6 @@ AreOneMapInView view a b = (r : Renumbering) × CarriesSetInView view r a b
 -- both sets are accepted, and some renaming carries the first onto the second
 abbrev pub AreOneMap : List (List ℕ) → List (List ℕ) → Type 0
 AreOneMap = AreOneMapInView plain
-
--- the text is the line that says that the sets are one map through this view, or the line that says that they are different maps
--- through it
-pub record SaysSameInView (view : County → County) (a b : List (List ℕ)) (text : List ℕ) : Type 0 where
-  pub one_map : AreOneMapInView view a b
-  pub text_is : text ≡ codes "same" ++ 10 ∷ []
-
-pub record SaysDifferentInView (view : County → County) (a b : List (List ℕ)) (text : List ℕ) : Type 0 where
-  pub different : AreDifferentInView view a b
-  pub text_is : text ≡ codes "different" ++ 10 ∷ []
 
 -- the set is accepted
 abbrev pub IsAcceptable : List (List ℕ) → Type 0

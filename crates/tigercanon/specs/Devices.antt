@@ -2,18 +2,12 @@
 use Rattle.std.specs.Prelude.{Err, IfErr, List, None, Ok, Option, Result, ℕ, ◌+◌, ◌≡◌, ◌≢◌, ◌⊎◌}
 use Rattle.command_line.specs.{declared.plans.Job.Job, declared.plans.Job.TheVariants.Normalise}
 use Rattle.tigercanon.specs.declared.fault.Fault.TheVariants.{Load, Memory, Write}
-use Rattle.tigercanon.specs.Normalising.{AreRefusedParts, StopsShort, Took}
-use Rattle.tigercanon.specs.Reading.{AreRead, IsFaultOfRead, NoneFailed, SomeUnread}
+use Rattle.tigercanon.specs.Normalising.{AreRefusedParts, IsRefusalOfRead, StopsShort, Took}
+use Rattle.tigercanon.specs.Reading.{AreRead, NoneFailed, SomeUnread}
 use Rattle.tigercanon.specs.{Files.bytes_of, Outcomes.GivenOutput, Outcomes.GivenSet, declared.program.files.Opened.Opened}
 use Rattle.tigercanon.specs.{declared.fault.Fault.Fault, declared.program.ending.Ending.Ending, declared.program.ending.Stopped.Stopped}
-use Rattle.tl_load.specs.{declared.fault.LoadFault.LoadFault, declared.fault.LoadFault.TheVariants.Device, declared.source.Counted.Counted}
+use Rattle.tl_load.specs.{declared.fault.LoadFault.TheVariants.Device, declared.source.Counted.Counted}
 use Rattle.tl_write.specs.declared.fault.WriteFault.{WriteFault}
-
--- the sources were read to their ends, and the parts that they gave are refused for this fault; or it is a fault in the lines of
--- every set that begins with what was read, and the read that brought it was the last
-abbrev pub IsRefusalOfRead : {R : Type 0} → (R → Option (List ℕ)) → (R → ℕ) → (R → ℕ) → List R → List R → Fault → Type 0
-IsRefusalOfRead remaining given reads before after fault = AreRefusedParts remaining given before after fault
-    ⊎ ((of_lines : LoadFault) × (fault ≡ Load of_lines) × IsFaultOfRead remaining given reads before after of_lines)
 
 -- what a job refuses sources for: normalising reads no further than the read that brings a fault, and every other job reads all
 -- sources to their ends first

@@ -1,11 +1,9 @@
 -- Which faults a call may report for parts that it refuses, and for their records.
 use Rattle.std.specs.Prelude.{List, ℕ, ◌≢◌}
-use Rattle.tl_layout.specs.declared.record_type.Record.{Record}
-use Rattle.tl_load.specs.Loaded.{IsOfLines}
+use Rattle.tl_load.specs.{Loaded.IsOfLines, declared.fault.LoadFault.LoadFault}
 use Rattle.tl_load.specs.declared.fault.LoadFault.TheVariants.{Device, Memory as LoadMemory}
 use Rattle.county_chart.specs.declared.fault.LinkFault.TheVariants.{Memory as LinkMemory}
 use Rattle.county_chart.specs.declared.profile_fault.ProfileFault.TheVariants.{Memory as ProfileMemory}
-use Rattle.county_chart.specs.{County.county_of, LinkRules.IsFirstBrokenRule, LinkRules.IsLinked, Profile.IsFirstBrokenClause}
 use Rattle.tigercanon.specs.declared.fault.Fault.TheVariants.{Link, Load, Memory, Profile, Write}
 use Rattle.tigercanon.specs.{Respelling.IsFirstFault, Sets.IsSetRefusal, declared.fault.Fault.Fault}
 
@@ -17,25 +15,25 @@ ReportsFirstFault parts (Profile _) = ⊥
 ReportsFirstFault parts (Write _) = ⊥
 ReportsFirstFault parts Memory = Unit {0}
 
+-- unless the fault is a failed allocation or a device's, it is one of these refusals; it is never a sink's
+abbrev pub RefusesBy : (Fault → Type 0) → Fault → Type 0
+RefusesBy refused (Load fault) = IsOfLines fault → refused (Load fault)
+RefusesBy refused (Link fault) = fault ≢ LinkMemory → refused (Link fault)
+RefusesBy refused (Profile fault) = fault ≢ ProfileMemory → refused (Profile fault)
+RefusesBy refused (Write _) = ⊥
+RefusesBy refused Memory = Unit {0}
+
 -- unless the fault is a failed allocation or a device's, the set is refused for it
 abbrev pub ReportsRefusal : List (List ℕ) → Fault → Type 0
-ReportsRefusal parts (Load fault) = IsOfLines fault → IsSetRefusal parts (Load fault)
-ReportsRefusal parts (Link fault) = fault ≢ LinkMemory → IsSetRefusal parts (Link fault)
-ReportsRefusal parts (Profile fault) = fault ≢ ProfileMemory → IsSetRefusal parts (Profile fault)
-ReportsRefusal parts (Write _) = ⊥
-ReportsRefusal parts Memory = Unit {0}
+ReportsRefusal parts fault = RefusesBy (IsSetRefusal parts) fault
 
 -- the same for parts that have been read, and the fault is not a device's
 abbrev pub ReportsRefusalOfRead : List (List ℕ) → Fault → Type 0
 ReportsRefusalOfRead parts fault = ReportsRefusal parts fault × (fault ≢ Load Device)
 
--- unless the fault is a failed allocation, these records are refused for it; it is never a fault of loading
-abbrev pub RefusesRecords : List Record → Fault → Type 0
-RefusesRecords records (Load _) = ⊥
-RefusesRecords records (Link fault) = fault ≢ LinkMemory → IsFirstBrokenRule records fault
-RefusesRecords records (Profile fault) = fault ≢ ProfileMemory → IsLinked records × IsFirstBrokenClause (county_of records) fault
-RefusesRecords records (Write _) = ⊥
-RefusesRecords records Memory = Unit {0}
+-- the same if the parts are known to spell records: the fault is never one of loading
+abbrev pub RefusesSpelled : List (List ℕ) → Fault → Type 0
+RefusesSpelled parts fault = ReportsRefusal parts fault × ((of_loading : LoadFault) → fault ≢ Load of_loading)
 
 -- the fault is a failed allocation
 abbrev pub IsWantOfMemory : Fault → Type 0

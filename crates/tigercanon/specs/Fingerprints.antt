@@ -6,7 +6,7 @@ use Rattle.county_chart.specs.County.{County}
 use Rattle.canonical_form.specs.CountyViews.{plain}
 use Rattle.tigercanon.specs.{Normalising.IsOnlyTextInView, Sets.IsCanonicalTextInView}
 
--- these bytes are the hash of the canonical text of the parts through this view, and no other text is canonical for what the view
+-- these bytes are the hash of the canonical text of the parts in this view, and no other text is canonical for what the view
 -- shows of their map
 pub record IsFingerprintInView (view : County → County) (parts : List (List ℕ)) (bytes : List ℕ) : Type 0 where
   pub text : List ℕ
@@ -18,7 +18,7 @@ pub record IsFingerprintInView (view : County → County) (parts : List (List �
 abbrev pub IsFingerprint : List (List ℕ) → List ℕ → Type 0
 IsFingerprint = IsFingerprintInView plain
 
--- the text is the line of the fingerprint of the parts through this view, in lowercase hexadecimal digits
+-- the text is the line of the fingerprint of the parts in this view, in lowercase hexadecimal digits
 pub record SaysFingerprintInView (view : County → County) (parts : List (List ℕ)) (text : List ℕ) : Type 0 where
   pub bytes : List ℕ
   pub fingerprint : IsFingerprintInView view parts bytes

@@ -4,7 +4,6 @@ pub mod Sets
 pub mod Faults
 pub mod Findings
 pub mod LentParts
-pub mod Linked
 pub mod Statuses
 pub mod Refusals
 pub mod Outcomes
@@ -13,7 +12,6 @@ pub mod Reading
 pub mod Normalising
 pub mod Comparing
 pub mod Fingerprints
-pub mod Stopping
 pub mod TwoSets
 pub mod Devices
 pub mod Running

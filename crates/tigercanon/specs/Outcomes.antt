@@ -1,16 +1,14 @@
 -- What a job over a set did: what it printed, or why it printed nothing. The definitions apply to any set and any output, by what
 -- is known about them.
-use Rattle.std.specs.Prelude.{List, Option, length, take, ℕ, ◌+◌, ◌<◌, ◌≡◌, ◌≢◌, ◌⊎◌}
+use Rattle.std.specs.Prelude.{List, Option, length, take, ℕ, ◌+◌, ◌<◌, ◌≡◌, ◌⊎◌}
 use Rattle.std.specs.Io.KnownBytes.{Appends}
 use Rattle.tl_layout.specs.{declared.mask.Mask.Mask, declared.record_type.Record.Record}
-use Rattle.tl_load.specs.{Loaded.IsOfLines, declared.fault.LoadFault.TheVariants.Device}
-use Rattle.county_chart.specs.declared.fault.LinkFault.TheVariants.{Memory as LinkMemory}
-use Rattle.county_chart.specs.declared.profile_fault.ProfileFault.TheVariants.{Memory as ProfileMemory}
+use Rattle.tl_load.specs.declared.fault.LoadFault.TheVariants.{Device}
 use Rattle.county_chart.specs.MaskedCounty.{masked}
 use Rattle.command_line.specs.declared.plans.Job.{Job}
 use Rattle.command_line.specs.declared.plans.Job.TheVariants.{Check, Compare, Fingerprint, Normalise, Respell}
-use Rattle.tigercanon.specs.declared.fault.Fault.TheVariants.{Link, Load, Memory, Profile, Write}
-use Rattle.tigercanon.specs.Sets.{IsAcceptedSet, IsCanonicalTextInView, SaysAccepted}
+use Rattle.tigercanon.specs.declared.fault.Fault.TheVariants.{Link, Load, Profile}
+use Rattle.tigercanon.specs.{Faults.RefusesBy, Sets.IsAcceptedSet, Sets.IsCanonicalTextInView, Sets.SaysAccepted}
 use Rattle.tigercanon.specs.{Fingerprints.SaysFingerprintInView, Normalising.Took, Respelling.IsRespelt, declared.fault.Fault.Fault}
 
 -- what is known about a set that a job was given: what it means that these are its parts, that it is refused for this fault, and
@@ -71,11 +69,7 @@ IsRead set = (parts : List (List ℕ)) × set.holds parts
 
 -- unless the fault is a failed allocation, the set is refused for it, or, if it is a device's, it couldn't be read
 abbrev pub ReportsSet : GivenSet → Fault → Type 0
-ReportsSet set (Load fault) = (IsOfLines fault → set.refused (Load fault)) × (fault ≡ Device → set.unread)
-ReportsSet set (Link fault) = fault ≢ LinkMemory → set.refused (Link fault)
-ReportsSet set (Profile fault) = fault ≢ ProfileMemory → set.refused (Profile fault)
-ReportsSet set (Write _) = ⊥
-ReportsSet set Memory = Unit {0}
+ReportsSet set fault = RefusesBy set.refused fault × (fault ≡ Load Device → set.unread)
 
 -- whether a job over one set can report this fault: respelling checks only lines
 abbrev pub IsReportedBy : Job → Fault → Type 0

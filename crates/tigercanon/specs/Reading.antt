@@ -5,6 +5,11 @@ use Rattle.tl_layout.specs.{Limits.most_records, declared.record_type.Record.Rec
 use Rattle.tl_load.specs.{Keeping.LoadedInto, Keeping.WasFedInto, Loaded.IsFaultHowever, Loaded.IsWellSoFar, Sources.Gave, Sources.RoseBy}
 use Rattle.tl_load.specs.declared.fault.LoadFault.{LoadFault}
 
+-- this holds for the next source, and the sources after it are unchanged
+abbrev pub IsNext : {R : Type 0} → (R → R → Type 0) → List R → List R → Type 0
+IsNext holds (b ∷ bs) (n ∷ ns) = holds b n × (ns ≡ bs)
+IsNext holds _ _ = ⊥
+
 module _ {R : Type 0} (remaining : R → Option (List ℕ)) (given : R → ℕ) where
   -- the sources were read to their ends, and gave these parts
   abbrev pub AreRead : List R → List R → List (List ℕ) → Type 0
@@ -12,22 +17,23 @@ module _ {R : Type 0} (remaining : R → Option (List ℕ)) (given : R → ℕ) 
   AreRead (b ∷ bs) (n ∷ ns) (part ∷ parts) = Gave remaining given b n part × IsAtEnd (remaining n) × AreRead bs ns parts
   AreRead _ _ _ = ⊥
 
-  -- the first sources were read to their ends and gave these parts, the next one, if there is one, gave these bytes, and the
-  -- sources after it are unchanged
+  -- the first sources were read to their ends and gave these parts, and this holds for the other sources
+  abbrev pub AreReadFirst : (List R → List R → Type 0) → List R → List R → List (List ℕ) → Type 0
+  AreReadFirst others before after [] = others before after
+  AreReadFirst others (b ∷ bs) (n ∷ ns) (part ∷ parts) = Gave remaining given b n part × IsAtEnd (remaining n) × AreReadFirst others bs ns parts
+  AreReadFirst others _ _ _ = ⊥
+
+  -- the first sources were read to their ends and gave these parts, and no other was read, or the next one alone gave these bytes
   abbrev pub AreReadUpTo : List R → List R → List (List ℕ) → List ℕ → Type 0
-  AreReadUpTo (b ∷ bs) (n ∷ ns) (part ∷ parts) bytes = Gave remaining given b n part × IsAtEnd (remaining n) × AreReadUpTo bs ns parts bytes
-  AreReadUpTo (b ∷ bs) (n ∷ ns) [] bytes = Gave remaining given b n bytes × (ns ≡ bs)
-  AreReadUpTo [] [] [] bytes = bytes ≡ []
-  AreReadUpTo _ _ _ _ = ⊥
+  AreReadUpTo before after parts bytes = (AreReadFirst (λ bs ns. ns ≡ bs) before after parts × (bytes ≡ []))
+      ⊎ AreReadFirst (IsNext (λ b n. Gave remaining given b n bytes)) before after parts
 
 module _ {R : Type 0} (remaining : R → Option (List ℕ)) (given reads : R → ℕ) where
   -- the first sources were read to their ends and gave these parts, the next one gave these bytes before its last read, and the
   -- sources after it are unchanged
   abbrev pub AreReadButOnce : List R → List R → List (List ℕ) → List ℕ → Type 0
-  AreReadButOnce (b ∷ bs) (n ∷ ns) (part ∷ parts) bytes =
-      Gave remaining given b n part × IsAtEnd (remaining n) × AreReadButOnce bs ns parts bytes
-  AreReadButOnce (b ∷ bs) (n ∷ ns) [] bytes = (last : R) × Gave remaining given b last bytes × RoseBy 1 (reads last) (reads n) × (ns ≡ bs)
-  AreReadButOnce _ _ _ _ = ⊥
+  AreReadButOnce before after parts bytes = AreReadFirst remaining given
+      (IsNext (λ b n. (last : R) × Gave remaining given b last bytes × RoseBy 1 (reads last) (reads n))) before after parts
 
   -- no line was faulty before the last read
   abbrev pub WasWellBefore : List R → List R → Type 0

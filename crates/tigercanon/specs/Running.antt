@@ -5,8 +5,8 @@ use Rattle.tl_load.specs.declared.fault.LoadFault.TheVariants.{Device}
 use Rattle.tl_layout.specs.declared.mask.Mask.{Mask}
 use Rattle.command_line.specs.declared.plans.Job.{Job}
 use Rattle.tigercanon.specs.TwoSets.{IsDifferent, IsDone, IsPartOnly, IsReportedWhy, RefusesOne}
-use Rattle.tigercanon.specs.{Files.AreHeld, Files.lacks_file, Outcomes.GivenSet, Sets.IsSetRefusal, Stopping.reads_two}
-use Rattle.tigercanon.specs.{Outcomes.GivenOutput, Refusals.fault_line, Stopping.set_of_job, declared.program.files.Opened.Opened}
+use Rattle.tigercanon.specs.{Files.AreHeld, Files.lacks_file, Outcomes.GivenSet, Sets.IsSetRefusal, Statuses.reads_two}
+use Rattle.tigercanon.specs.{Outcomes.GivenOutput, Refusals.fault_line, Statuses.set_of_job, declared.program.files.Opened.Opened}
 use Rattle.tigercanon.specs.{declared.fault.Fault.Fault, declared.fault.Fault.TheVariants.Load, declared.program.ending.Stopped.Stopped}
 
 -- what the files hold is refused for this fault
@@ -27,33 +27,27 @@ set_of_files remaining files = record {
 abbrev pub to_writer : Option (List ℕ) → Option (List ℕ) → GivenOutput
 to_writer old new = record { got = Appends old new; kept = Keeps old new; failed = Unit {0} }
 
--- what a job over files prints if it is done
-abbrev pub PrintsDone : {R : Type 0} → Mask → Job → (R → Option (List ℕ)) → List (Opened R) → List (Opened R) → Option (List ℕ) → Option (List ℕ)
-    → Type 0
-PrintsDone mask job remaining first second old new =
-    IsDone mask job (set_of_files remaining first) (set_of_files remaining second) (to_writer old new)
-
--- what a comparison prints if its files are different maps
-abbrev pub PrintsDifferent : {R : Type 0} → Mask → Job → (R → Option (List ℕ)) → List (Opened R) → List (Opened R) → Option (List ℕ)
-    → Option (List ℕ) → Type 0
-PrintsDifferent mask job remaining first second old new =
-    IsDifferent mask job (set_of_files remaining first) (set_of_files remaining second) (to_writer old new)
-
 -- a set of files is refused for something that the job checks
 abbrev pub IsRefusedBy : {R : Type 0} → Job → (R → Option (List ℕ)) → List (Opened R) → List (Opened R) → Type 0
 IsRefusedBy job remaining first second = RefusesOne job (set_of_files remaining first) (set_of_files remaining second)
 
--- nothing was printed for the files, or a beginning of the job's output that isn't all of it
-abbrev pub PrintsSome : {R : Type 0} → Mask → Job → (R → Option (List ℕ)) → List (Opened R) → List (Opened R) → Option (List ℕ) → Option (List ℕ)
-    → Type 0
-PrintsSome mask job remaining first second old new =
-    IsPartOnly mask job (set_of_files remaining first) (set_of_files remaining second) (to_writer old new)
+module _ {R : Type 0} (mask : Mask) (job : Job) (remaining : R → Option (List ℕ)) (first second : List (Opened R))
+    (old new : Option (List ℕ)) where
+  -- what a job over files prints if it is done
+  abbrev pub PrintsDone : Type 0
+  PrintsDone = IsDone mask job (set_of_files remaining first) (set_of_files remaining second) (to_writer old new)
 
--- why a job over files stopped, and that this is reported
-abbrev pub ReportsWhy : {R : Type 0} → Mask → Job → (R → Option (List ℕ)) → List (Opened R) → List (Opened R) → Option (List ℕ) → Option (List ℕ)
-    → (List ℕ → Type 0) → ℕ → Type 0
-ReportsWhy mask job remaining first second old new reported status =
-    IsReportedWhy mask job (set_of_files remaining first) (set_of_files remaining second) (to_writer old new) reported status
+  -- what a comparison prints if its files are different maps
+  abbrev pub PrintsDifferent : Type 0
+  PrintsDifferent = IsDifferent mask job (set_of_files remaining first) (set_of_files remaining second) (to_writer old new)
+
+  -- nothing was printed for the files, or a beginning of the job's output that isn't all of it
+  abbrev pub PrintsSome : Type 0
+  PrintsSome = IsPartOnly mask job (set_of_files remaining first) (set_of_files remaining second) (to_writer old new)
+
+  -- why a job over files stopped, and that this is reported
+  abbrev pub ReportsWhy : (List ℕ → Type 0) → ℕ → Type 0
+  ReportsWhy = IsReportedWhy mask job (set_of_files remaining first) (set_of_files remaining second) (to_writer old new)
 
 -- whether a set that the job reads lacks a file that it needs, by whether each of two sets does
 abbrev pub lacks_one : Job → Bool → Bool → Bool

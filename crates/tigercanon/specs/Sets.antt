@@ -2,9 +2,10 @@
 use Rattle.std.specs.Prelude.{List, [], codes, ℕ, ◌++◌, ◌∷◌, ◌≡◌}
 use Rattle.tl_layout.specs.{Limits.most_records, RecordText.text_of, declared.record_type.Record.Record}
 use Rattle.tl_load.specs.{Choice.tiger, Outcome.SpellsWithin, Verdicts.without_place}
-use Rattle.county_chart.specs.{County.County, County.county_of, LinkRules.IsFirstBrokenRule, LinkRules.IsLinked, Packing.packed}
-use Rattle.county_chart.specs.{Profile.IsFirstBrokenClause, Renumbering.Carries, Renumbering.Renumbering}
-use Rattle.canonical_form.specs.{Accepted.IsAccepted, Accepted.IsCanonicalInView, CountyViews.plain}
+use Rattle.county_chart.specs.{County.County, County.county_of, LinkRules.IsLinked, Packing.Typed, Packing.packed, Packing.type_after_type}
+use Rattle.county_chart.specs.Renumbering.{Carries, Renumbering}
+use Rattle.canonical_form.specs.{Accepted.IsAccepted, Accepted.IsCanonicalInView, Accepted.IsRefusal, Accepted.RecordsRefusal}
+use Rattle.canonical_form.specs.{Accepted.RecordsRefusal.OutOfProfile, Accepted.RecordsRefusal.Unlinked, CountyViews.plain}
 use Rattle.tigercanon.specs.declared.fault.Fault.TheVariants.{Link, Load, Memory, Profile, Write}
 use Rattle.tigercanon.specs.{Respelling.IsFirstFault, declared.fault.Fault.Fault}
 
@@ -13,14 +14,17 @@ pub record IsAcceptedSet (parts : List (List ℕ)) (records : List Record) : Typ
   pub spelled : SpellsWithin tiger most_records parts records
   pub accepted : IsAccepted records
 
+-- the parts spell records, which are refused for this
+abbrev pub IsRecordsRefusal : List (List ℕ) → RecordsRefusal → Type 0
+IsRecordsRefusal parts refusal = (records : List Record) × SpellsWithin tiger most_records parts records × IsRefusal records refusal
+
 -- what a set is refused for: the fault of its first faulty line; if the lines spell records, the first rule that these break; if
 -- the records fit together, the first clause of the profile that their county breaks. A sink's failure and a failed allocation are
 -- no refusals of a set.
 abbrev pub IsSetRefusal : List (List ℕ) → Fault → Type 0
 IsSetRefusal parts (Load fault) = IsFirstFault parts fault
-IsSetRefusal parts (Link fault) = (records : List Record) × SpellsWithin tiger most_records parts records × IsFirstBrokenRule records fault
-IsSetRefusal parts (Profile fault) = (records : List Record) × SpellsWithin tiger most_records parts records × IsLinked records
-    × IsFirstBrokenClause (county_of records) fault
+IsSetRefusal parts (Link fault) = IsRecordsRefusal parts (Unlinked fault)
+IsSetRefusal parts (Profile fault) = IsRecordsRefusal parts (OutOfProfile fault)
 IsSetRefusal parts _ = ⊥
 
 -- the refusal without the part and line of a faulty line
@@ -37,7 +41,7 @@ pub record SaysAccepted (parts : List (List ℕ)) (text : List ℕ) : Type 0 whe
   pub accepted : IsAcceptedSet parts records
   pub text_is : text ≡ codes "accepted" ++ 10 ∷ []
 
--- the text of a canonical list, through this view, of the accepted records that the parts spell
+-- the text of a canonical list, in this view, of the accepted records that the parts spell
 pub record IsCanonicalTextInView (view : County → County) (parts : List (List ℕ)) (text : List ℕ) : Type 0 where
   pub records : List Record
   pub canonical : List Record
@@ -61,7 +65,7 @@ pub record CarriesSetInView (view : County → County) (renaming : Renumbering) 
 abbrev pub CarriesSet : Renumbering → List (List ℕ) → List (List ℕ) → Type 0
 CarriesSet = CarriesSetInView plain
 
--- the set is one part, which is a canonical text through this view
+-- the set is one part, which is a canonical text in this view
 pub record IsOneCanonicalTextInView (view : County → County) (parts : List (List ℕ)) (text : List ℕ) : Type 0 where
   pub whole : List (List ℕ)
   pub canonical : IsCanonicalTextInView view whole text
@@ -84,3 +88,11 @@ pub record IsCanonSetInView (view : County → County) (parts : List (List ℕ))
   pub accepted : IsAcceptedSet parts records
   pub county_is : county ≡ view (county_of records)
   pub canonical : IsCanonicalInView view records (packed canon)
+
+-- the records fit together, and their county is that of the tables
+abbrev pub AreLinkedAs : Typed → List Record → Type 0
+AreLinkedAs tables records = IsLinked records × (county_of (type_after_type tables) ≡ county_of records)
+
+-- the parts spell records which fit together, and whose county is that of the tables
+abbrev pub IsLinkedSet : List (List ℕ) → Typed → Type 0
+IsLinkedSet parts tables = (records : List Record) × SpellsWithin tiger most_records parts records × AreLinkedAs tables records

@@ -1,8 +1,10 @@
--- The exit status for a job that stopped, and for a command line that isn't a plan.
-use Rattle.std.specs.Prelude.{Err, Ok, Result, ℕ}
+-- Why a job stopped, the set that it names, and the exit status, also for a command line that isn't a plan.
+use Rattle.std.specs.Prelude.{Bool, Err, None, Ok, Option, Result, Some, false, true, ℕ}
+use Rattle.command_line.specs.{declared.plans.Job.Job, declared.plans.Job.TheVariants.Compare}
 use Rattle.command_line.specs.declared.plans.PlanFault.{PlanFault}
 use Rattle.command_line.specs.declared.plans.PlanFault.TheVariants.{Memory as PlanMemory, Usage}
 use Rattle.tigercanon.specs.declared.fault.Fault.TheVariants.{Link, Load, Memory, Profile, Write}
+use Rattle.tigercanon.specs.declared.library.comparing.CompareFault.{CompareFault, TheVariants.In, TheVariants.Memory as NoVerdict}
 use Rattle.tigercanon.specs.declared.program.ending.Ending.TheVariants.{Different, Done}
 use Rattle.tigercanon.specs.{declared.fault.Fault.Fault, declared.program.ending.Ending.Ending, declared.program.ending.Stopped.Stopped}
 use Rattle.county_chart.specs.declared.fault.LinkFault.TheVariants.{Memory as LinkMemory}
@@ -31,3 +33,18 @@ status_of_outcome (Err stopped) = status_of stopped.fault
 abbrev pub plan_status_of : PlanFault → ℕ
 plan_status_of (Usage _) = 2
 plan_status_of PlanMemory = 5
+
+-- the fault with the set that it names; a failed allocation that belongs to no set has none
+abbrev pub stopped_by : CompareFault → Stopped
+stopped_by (In set fault) = record { fault = fault; set = Some set }
+stopped_by NoVerdict = record { fault = Memory; set = None }
+
+-- whether the job reads two sets
+abbrev pub reads_two : Job → Bool
+reads_two Compare = true
+reads_two job = false
+
+-- the set that is named if this one of a job's sets is at fault; a job that reads one set names none
+abbrev pub set_of_job : Job → ℕ → Option ℕ
+set_of_job Compare set = Some set
+set_of_job job set = None

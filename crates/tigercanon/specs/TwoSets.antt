@@ -2,7 +2,7 @@
 use Rattle.std.specs.Prelude.{Err, List, None, Ok, Option, Result, Some, [], codes, ℕ, ◌++◌, ◌∷◌, ◌≡◌, ◌⊎◌}
 use Rattle.command_line.specs.{declared.plans.Job.Job, declared.plans.Job.TheVariants.Compare}
 use Rattle.tigercanon.specs.declared.program.ending.Ending.TheVariants.{Different, Done}
-use Rattle.tigercanon.specs.Comparing.{SaysDifferentInView, SaysSameInView}
+use Rattle.tigercanon.specs.Comparing.{AreDifferentInView, AreOneMapInView}
 use Rattle.tigercanon.specs.Outcomes.{GivenOutput, GivenSet, HoldsAccepted, IsAnswer, IsAnswered, IsRead, Prints, PrintsFront, Refuses}
 use Rattle.tigercanon.specs.Outcomes.{Reports, ReportsSet}
 use Rattle.tigercanon.specs.{Faults.IsOfNoLines, Refusals.fault_line, Statuses.status_of, declared.program.ending.Ending.Ending}
@@ -18,28 +18,24 @@ pub record OfTwoSets (holds : List (List ℕ) → List (List ℕ) → Type 0) (f
   pub others_held : second.holds others
   pub fact : holds parts others
 
--- the line that says that two sets are one map under a mask, or that they are different maps
-abbrev pub IsLineSame : Mask → GivenSet → GivenSet → List ℕ → Type 0
-IsLineSame mask first second text = OfTwoSets (λ a b. SaysSameInView (masked mask) a b text) first second
+-- what a comparison under a mask found for two sets if it ends in this way, and the line that it then prints
+abbrev pub IsEndingOf : Mask → Ending → List (List ℕ) → List (List ℕ) → Type 0
+IsEndingOf mask Done = AreOneMapInView (masked mask)
+IsEndingOf mask Different = AreDifferentInView (masked mask)
 
-abbrev pub IsLineDifferent : Mask → GivenSet → GivenSet → List ℕ → Type 0
-IsLineDifferent mask first second text = OfTwoSets (λ a b. SaysDifferentInView (masked mask) a b text) first second
+abbrev pub line_of_ending : Ending → List ℕ
+line_of_ending Done = codes "same" ++ 10 ∷ []
+line_of_ending Different = codes "different" ++ 10 ∷ []
 
 -- the text that a job prints if it ends in this way; only a comparison can find its sets to be different maps
 abbrev pub IsTextOf : Mask → Job → GivenSet → GivenSet → Ending → List ℕ → Type 0
-IsTextOf mask Compare first second Done = IsLineSame mask first second
-IsTextOf mask Compare first second Different = IsLineDifferent mask first second
+IsTextOf mask Compare first second ending = λ text. OfTwoSets (IsEndingOf mask ending) first second × (text ≡ line_of_ending ending)
 IsTextOf mask job first second Done = IsAnswered (IsAnswer mask job) first
 IsTextOf mask job first second Different = λ text. ⊥
 
 -- a text that a job prints, however it ends
 abbrev pub IsText : Mask → Job → GivenSet → GivenSet → List ℕ → Type 0
 IsText mask job first second text = (ending : Ending) × IsTextOf mask job first second ending text
-
--- the line that a comparison prints
-abbrev pub line_of_ending : Ending → List ℕ
-line_of_ending Done = codes "same" ++ 10 ∷ []
-line_of_ending Different = codes "different" ++ 10 ∷ []
 
 -- the fault is the named set's; the second set's is reported only once the first set is read, and only if that set is accepted, or
 -- if the fault concerns no line: a failed read, or no memory for reading

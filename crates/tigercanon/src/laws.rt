@@ -23,6 +23,7 @@ pub fn accepted_set_or_one_refusal()
 /// If sets have the same lines, one after the other, all or none are accepted, and they have the same canonical texts. If one is
 /// refused, so is each other, for the same rule at the same place, except for the part and line of a faulty line. So it makes no
 /// difference at which line boundaries a set is cut into parts.
+#[tactic(auto, using(crate::proofs::SameLines::accepted_alike, crate::proofs::SameLines::text_alike, crate::proofs::SameLines::refused_alike))]
 pub fn sets_of_the_same_lines_are_alike()
     ensures accepted { (parts others : List (List ℕ)) (records : List Record) →
         HaveSameLines parts others → IsAcceptedSet parts records → IsAcceptedSet others records }
@@ -73,7 +74,7 @@ pub fn a_canonical_text_is_its_own()
 
 /// Through each view, which shows all of a county or less, an accepted set has exactly one canonical text, and no canonical list of
 /// what the view shows of its map has another. The texts of two sets are equal exactly if what the view shows of their counties is
-/// the same. And a canonical text, as one part, is an accepted set, and its own canonical text through the view and without it.
+/// the same. And a canonical text, as one part, is an accepted set, and its own canonical text in the view and without it.
 pub fn one_canonical_text_in_each_view()
     ensures exists { (view : County → County) (parts : List (List ℕ)) (records : List Record) →
         IsView view → IsAcceptedSet parts records → (text : List ℕ) × IsCanonicalTextInView view parts text }

@@ -35,6 +35,6 @@ pub use library::normalising::{
 };
 pub use library::respelling::respell;
 pub use program::counted::run_counted;
+pub use program::ending::{args_error, exit_status, report};
 pub use program::files::{CountedFile, Opened, open_files};
-pub use program::reporting::{args_error, exit_status, report};
 pub use program::running::run;

@@ -2,7 +2,6 @@
 
 pub(crate) mod checking;
 pub(crate) mod comparing;
-pub(crate) mod comparison;
 pub(crate) mod fingerprinting;
 pub(crate) mod linked;
 pub(crate) mod making;
@@ -10,4 +9,3 @@ pub(crate) mod normalising;
 pub(crate) mod products;
 pub(crate) mod reading;
 pub(crate) mod respelling;
-pub(crate) mod unlinked;

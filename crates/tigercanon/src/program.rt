@@ -4,7 +4,4 @@ pub(crate) mod counted;
 pub(crate) mod ending;
 pub(crate) mod files;
 pub(crate) mod jobs;
-pub(crate) mod missing;
-pub(crate) mod reporting;
 pub(crate) mod running;
-pub(crate) mod writing;

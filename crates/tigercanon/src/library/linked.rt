@@ -1,18 +1,64 @@
-//! Linked records, and their county, which reads the records' tables.
+//! Sets, the records that are linked from them, and their county, which reads the records' tables.
 
-ghost use Rattle.std.specs.Prelude.{IfErr, IfOk, List, OnOk, ℕ, ◌≡◌};
-ghost use Rattle.tigercanon.specs.{Comparing.IsAcceptable, Faults.RefusesRecords, Faults.ReportsRefusalOfRead, Linked.AreLinkedAs};
-ghost use Rattle.tigercanon.specs.{Linked.IsLinkedSet, Sets.IsViewedSet};
+ghost use Rattle.std.specs.Prelude.{IfErr, IfOk, IfSome, List, OnOk, [], ℕ, ◌≡◌};
+ghost use Rattle.tigercanon.specs.{Comparing.IsAcceptable, Faults.RefusesSpelled, Faults.ReportsRefusalOfRead, Sets.IsLinkedSet};
+ghost use Rattle.tigercanon.specs.Sets.{IsViewedSet};
 ghost use Rattle.county_chart.specs.{County.county_of, Packing.type_after_type};
-ghost use Rattle.tl_layout.specs.declared.record_type.Record.{Record};
 ghost use Rattle.canonical_form.specs.CountyViews.{plain};
 
 use crate::fault::Fault;
-use crate::library::unlinked::UnlinkedSet;
+use crate::library::reading::load;
 use bumpalo::Bump;
 use std::alloc::Global;
-use tl_county::{Chart, CountyOver, LinkFault, LinkedRecords};
+use tl_county::{Chart, CountyOver, LinkFault, LinkedRecords, link_in_order};
+use tl_layout::Tables;
+use tl_load::LoaderFor;
 use tl_profile::{Admitted, admit_linked};
+
+/// A set that isn't linked yet.
+pub(crate) trait UnlinkedSet: Drop + Sized {
+    /// The set can be linked.
+    ghost IsReady: { Self → Type 0 };
+
+    /// These are the parts of the set.
+    ghost Says: { Self → List (List ℕ) → Type 0 };
+
+    /// Links the records of the set.
+    fn link(self, alloc: Global) -> Result<LinkedRecords, Fault>
+        requires { IsReady self }
+        ensures linked { (parts : List (List ℕ)) → Says self parts → IfOk result (IsLinkedSet parts) }
+        ensures refused { (parts : List (List ℕ)) → Says self parts → IfErr result (ReportsRefusalOfRead parts) };
+}
+
+/// Parts in memory.
+impl<'a, 'b> UnlinkedSet for &'a [&'b [u8]] {
+    ghost use Rattle.tigercanon.specs.LentParts.{bytes_of_parts};
+
+    ghost IsReady = { λ _. Unit {0} };
+
+    ghost Says = { λ slices parts. parts ≡ bytes_of_parts slices.now };
+
+    fn link(self, alloc: Global) -> Result<LinkedRecords, Fault> {
+        let tables: Tables = load(alloc, self)?;
+        Ok(link_in_order(alloc, tables)?)
+    }
+}
+
+/// What a loader was fed, if it has no fault of a device.
+impl UnlinkedSet for LoaderFor<Tables> {
+    ghost use Rattle.tl_layout.specs.{Limits.most_records, Tables.HoldsByType};
+    ghost use Rattle.tl_load.specs.{Keeping.WasFedInto, Loaded.IsNotDevice};
+
+    ghost IsReady = { λ loader. ((parts : List (List ℕ)) × WasFedInto HoldsByType most_records loader parts [])
+        × IfSome loader.fault IsNotDevice };
+
+    ghost Says = { λ loader parts. WasFedInto HoldsByType most_records loader parts [] };
+
+    fn link(self, alloc: Global) -> Result<LinkedRecords, Fault> {
+        let tables = self.finish()?;
+        Ok(link_in_order(alloc, tables)?)
+    }
+}
 
 /// The county of linked records, over their tables and an arena, which outlive it.
 fn county_of_linked<'a>(
@@ -38,7 +84,7 @@ pub(crate) fn admitted_county<'a>(
 ) -> Result<Admitted<CountyOver<'a>>, Fault>
     ensures view { IfOk result (λ admitted. (parts : List (List ℕ)) → IsLinkedSet parts linked.now
         → IsViewedSet plain parts (⟦<CountyOver<'a> as Chart>⟧.county admitted)) }
-    ensures refused { IfErr result (λ fault. (records : List Record) → AreLinkedAs linked.now records → RefusesRecords records fault) }
+    ensures refused { IfErr result (λ fault. (parts : List (List ℕ)) → IsLinkedSet parts linked.now → RefusesSpelled parts fault) }
 {
     let county = county_of_linked(alloc, arena, linked)?;
     Ok(admit_linked(alloc, county, linked.polygon_without_chain())?)

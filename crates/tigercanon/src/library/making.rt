@@ -1,16 +1,14 @@
 //! The one way from a set to a product of its map: the set is linked and admitted, put under a mask and into canonical form.
 
 ghost use Rattle.std.specs.Prelude.{IfErr, IfOk, List, ℕ, ◌≡◌};
-ghost use Rattle.tigercanon.specs.{Faults.RefusesRecords, Faults.ReportsRefusalOfRead, Linked.AreLinkedAs, Linked.IsLinkedSet};
-ghost use Rattle.tigercanon.specs.{Sets.IsCanonSetInView, Sets.IsViewedSet};
+ghost use Rattle.tigercanon.specs.{Faults.RefusesSpelled, Faults.ReportsRefusalOfRead, Sets.IsLinkedSet, Sets.IsCanonSetInView};
+ghost use Rattle.tigercanon.specs.Sets.{IsViewedSet};
 ghost use Rattle.county_chart.specs.MaskedCounty.{masked};
-ghost use Rattle.tl_layout.specs.{declared.mask.Mask.Mask, declared.record_type.Record.Record};
-ghost use Rattle.canonical_form.specs.CountyViews.{plain};
+ghost use Rattle.tl_layout.specs.declared.mask.Mask.{Mask};
 ghost use Rattle.arranged_county.specs.Views.{arranged_county, source_of};
 
 use crate::fault::Fault;
-use crate::library::linked::admitted_county;
-use crate::library::unlinked::UnlinkedSet;
+use crate::library::linked::{UnlinkedSet, admitted_county};
 use bumpalo::Bump;
 use std::alloc::{AllocError, Global};
 use tl_county::{Chart, LinkedRecords};
@@ -76,7 +74,7 @@ pub(crate) fn make_of_linked<'a, D, P: Product<D>>(
     requires { P.IsReady product device.old }
     ensures made { IfOk result (λ made. (parts : List (List ℕ)) → IsLinkedSet parts linked.now
         → P.Answers mask parts product device.old made device.new) }
-    ensures refused { IfErr result (λ fault. (records : List Record) → AreLinkedAs linked.now records → RefusesRecords records fault) }
+    ensures refused { IfErr result (λ fault. (parts : List (List ℕ)) → IsLinkedSet parts linked.now → RefusesSpelled parts fault) }
     ensures untouched { IfErr result (λ _. device.new ≡ device.old) }
 {
     let admitted = admitted_county(alloc, arena, linked)?;
@@ -87,7 +85,6 @@ pub(crate) fn make_of_linked<'a, D, P: Product<D>>(
     Ok(make_masked(alloc, masked_county, product, device, mask)?)
 }
 
-/// Makes the product from a set under a mask.
 pub(crate) fn make_of<S: UnlinkedSet, D, P: Product<D>>(
     alloc: Global,
     set: S,

@@ -6,7 +6,7 @@ ghost use Rattle.tigercanon.specs.Normalising.{ReportsRead, Took, is_of_sink, is
 ghost use Rattle.tigercanon.specs.Reading.{AreRead, NoneFailed, OneFailed};
 ghost use Rattle.tigercanon.specs.Sets.{CarriesSet, CarriesSetInView, IsAcceptedSet, IsCanonicalText, IsCanonicalTextInView};
 ghost use Rattle.tigercanon.specs.Sets.{IsOneCanonicalText, IsOneCanonicalTextInView};
-ghost use Rattle.tigercanon.specs.{Faults.IsWantOfMemory, Faults.ReportsRefusal, LentParts.bytes_of_parts, Linked.IsLinkedSet};
+ghost use Rattle.tigercanon.specs.{Faults.IsWantOfMemory, Faults.ReportsRefusal, LentParts.bytes_of_parts, Sets.IsLinkedSet};
 ghost use Rattle.county_chart.specs.MaskedCounty.{masked};
 ghost use Rattle.tl_layout.specs.declared.record_type.Record.{Record};
 ghost use Rattle.tl_write.specs.declared.fault.WriteFault.{WriteFault};

@@ -1,6 +1,5 @@
 //! What the calls make from a canonical county: its text in memory, the renaming onto it, its text on a sink, and its hash.
 
-ghost use Rattle.sha2.specs.Sha256.{sha256};
 ghost use Rattle.std.specs.Prelude.{IfOk, [], ◌<◌, ◌∷◌, ◌≡◌};
 ghost use Rattle.tigercanon.specs.Sets.{CarriesSetInView, IsCanonicalTextInView};
 ghost use Rattle.tigercanon.specs.{Fingerprints.IsFingerprintInView, Normalising.IsWrittenInView};
@@ -35,7 +34,6 @@ fn text_with_capacity(alloc: Global, chains: usize) -> Vec<u8>
     text
 }
 
-/// The text of a canonical county, in memory.
 fn text_in_memory<C: Chart>(alloc: Global, county: &CanonCounty<C>) -> Result<Vec<u8>, AllocError>
     ensures { IfOk result (λ text. text.items ≡ text_of (packed (arranged_county county.now))) }
 {
@@ -68,18 +66,6 @@ impl Sink for Hashing {
         self.hasher.update(buf);
         Ok(buf.len())
     }
-}
-
-/// The SHA-256 hash of the text of a canonical county. The text is hashed as it is written, and isn't kept.
-fn hash_of<C: Chart>(county: &CanonCounty<C>) -> [u8; 32]
-    ensures { result ≡ sha256 (text_of (packed (arranged_county county.now))) }
-{
-    let mut hashing = Hashing {
-        hasher: Sha256::new(),
-    };
-    // Hashing never fails.
-    let _ = write_to(county, &mut hashing);
-    hashing.hasher.finalize()
 }
 
 /// Makes the canonical text, in memory.
@@ -153,7 +139,7 @@ impl<W: Sink> Product<W> for Written {
     }
 }
 
-/// Makes the SHA-256 hash of the canonical text.
+/// Makes the SHA-256 hash of the canonical text, which is hashed as it is written, and isn't kept.
 #[derive(Drop)]
 pub(crate) struct Hash;
 
@@ -171,6 +157,11 @@ impl Product<()> for Hash {
         _device: &mut (),
         _mask: Mask,
     ) -> [u8; 32] {
-        hash_of(county)
+        let mut hashing = Hashing {
+            hasher: Sha256::new(),
+        };
+        // Hashing never fails.
+        let _ = write_to(county, &mut hashing);
+        hashing.hasher.finalize()
     }
 }

@@ -1,15 +1,14 @@
 //! What the program does, over open files and outputs that count their failures.
 
-ghost use Rattle.std.specs.Prelude.{Contains, Err, [], ◌<◌, ◌∷◌, ◌≡◌, ◌≢◌, ◌≤◌, ◌⊎◌};
+ghost use Rattle.std.specs.Prelude.{Contains, Err, [], ◌<◌, ◌∷◌, ◌≡◌, ◌≢◌, ◌≤◌};
 ghost use Rattle.tigercanon.specs.Devices.{DeviceFailed, NoFileFailed, ReportsNoDevice, set_of_counted, to_sink};
 ghost use Rattle.tigercanon.specs.TwoSets.{Does, IsDifferent, IsDone, IsReportedWhy};
 ghost use Rattle.tigercanon.specs.{Files.AreReadable, Files.lacks_file, Files.opened_of, Outcomes.ReportsLineTo, Running.IsMissingOne};
 ghost use Rattle.tigercanon.specs.{Running.ReportsMissing, Running.stopped_at_missing};
 
-use crate::program::ending::{Ending, Stopped, report_outcome};
+use crate::program::ending::{Ending, Stopped, refuse_missing, report_outcome};
 use crate::program::files::{CountedFile, lacks_counted_file};
 use crate::program::jobs::do_job;
-use crate::program::missing::refuse_missing;
 use command_line::{Job, Plan};
 use std::alloc::Global;
 use std::io::Read;

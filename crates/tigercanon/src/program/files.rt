@@ -87,17 +87,11 @@ fn is_first_counted_absent<R>(files: &[CountedFile<R>]) -> bool
     }
 }
 
-fn has_counted_failed<R>(file: &CountedFile<R>) -> bool
-    ensures { result ≡ is_failed file.now.inner }
-{
-    matches!(file.get_ref(), Opened::Failed)
-}
-
 /// The same for files that count their failures.
 pub(crate) fn lacks_counted_file<R>(files: &[CountedFile<R>]) -> bool
     ensures { result ≡ lacks_file (opened_of files.now) }
 {
-    is_first_counted_absent(files) || files.iter().any(|file| has_counted_failed(file))
+    is_first_counted_absent(files) || files.iter().any(|file| has_failed(file.get_ref()))
 }
 
 /// The files of a set as sources, one each, that haven't failed.

@@ -5,20 +5,70 @@ ghost use Rattle.std.specs.Prelude.{Contains, Err, IfErr, IfOk, OnOk, [], ◌<�
 ghost use Rattle.tigercanon.specs.Running.{IsMissingOne, IsRefusedBy, PrintsDifferent, PrintsDone, PrintsSome, ReportsMissing, ReportsWhy};
 ghost use Rattle.tigercanon.specs.Running.{set_of_files, stopped_at_missing, to_writer};
 ghost use Rattle.tigercanon.specs.{Files.AreOpened, Files.lacks_file, Outcomes.ReportsLine, Refusals.fault_line};
-ghost use Rattle.tigercanon.specs.{Statuses.status_of_outcome, Stopping.set_of_job, TwoSets.Does};
+ghost use Rattle.tigercanon.specs.{Statuses.status_of_outcome, Statuses.set_of_job, TwoSets.Does};
 
 use crate::fault::Fault;
 use crate::library::comparing::{FIRST, SECOND};
-use crate::program::ending::{Ending, Stopped, report_outcome};
+use crate::program::ending::{Ending, Stopped, refuse_missing, report_outcome, stopped_in};
 use crate::program::files::{CountedFile, Opened, lacks_file, open_files};
 use crate::program::jobs::do_job;
-use crate::program::missing::{refuse_missing, stopped_in};
-use crate::program::writing::LentOut;
 use command_line::Job;
 use std::alloc::Global;
 use std::io::{Read, Write};
-use tl_layout::Mask;
+use tl_layout::{DeviceFault, Mask};
 use tl_load::Source;
+use tl_write::Sink;
+
+/// A sink over a lent writer. Every error of the writer counts as a failure, and so does a write that takes none of a nonempty
+/// buffer. No failed write is tried again.
+#[derive(Drop)]
+pub(crate) struct LentOut<'a, W> {
+    writer: &'a mut W,
+    failures: u64,
+}
+
+impl<'a, W: Write> LentOut<'a, W> {
+    /// A sink that hasn't failed yet.
+    pub(crate) fn new(writer: &'a mut W) -> LentOut<'a, W>
+        ensures same { result.writer.ghost_name ≡ writer.entry.ghost_name }
+        ensures now { result.writer.now ≡ writer.old }
+        ensures failures { result.failures ≡ 0 }
+    {
+        LentOut {
+            writer,
+            failures: 0,
+        }
+    }
+
+    pub(crate) fn give_back(self) -> &'a mut W
+        ensures same { result.ghost_name ≡ self.entry.writer.ghost_name }
+        ensures now { result.now ≡ self.entry.writer.now }
+    {
+        self.writer
+    }
+}
+
+impl<W: Write> Sink for LentOut<'_, W> {
+    ghost use Rattle.tigercanon.specs.Lending.{HoldsUnderName};
+
+    ghost failed = { λ s. s.failures };
+
+    ghost holds = { λ s. HoldsUnderName s.writer.ghost_name (W.contents s.writer.now) };
+
+    fn failures(&self) -> u64 {
+        self.failures
+    }
+
+    fn write(&mut self, buf: &[u8]) -> Result<usize, DeviceFault> {
+        match self.writer.write(buf) {
+            Ok(count) if count > 0 || buf.is_empty() => Ok(count),
+            _ => {
+                self.failures += 1;
+                Err(DeviceFault)
+            }
+        }
+    }
+}
 
 /// The files of one of a job's sets as sources that haven't failed, if there is memory for them.
 fn open_set<R: Read + Drop>(

@@ -10,8 +10,15 @@ admit_linked-requires c =
 pub returns-in_err-admit_linked-clause-refused : goal.returns-in_err-admit_linked-clause-refused
 returns-in_err-admit_linked-clause-refused c =
     let p = err_from_is_err_and c.from_residual-in_err-admit_linked.result c.from_residual-in_err-admit_linked.ensures.1 in
-    rw (p.1, p.2) (λ records linked ne. (
-      linked.0,
-      subst (λ (county : County). IsFirstBrokenClause county c.in_err-admit_linked.field-0.0) (c.in_ok-county.ensures.county ∙ linked.1)
-          (c.in_err-admit_linked.ensures.broken ne),
+    rw (p.1, p.2) (λ parts linked. (
+      λ ne. (
+        linked.0,
+        linked.1,
+        (
+          linked.2.0,
+          subst (λ (county : County). IsFirstBrokenClause county c.in_err-admit_linked.field-0.0) (c.in_ok-county.ensures.county ∙ linked.2.1)
+              (c.in_err-admit_linked.ensures.broken ne),
+        ),
+      ),
+      λ of is. cc,
     ))

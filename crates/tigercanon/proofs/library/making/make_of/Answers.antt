@@ -1,4 +1,4 @@
-use Rattle.tigercanon.proofs.{Common.IfErr-weaker, Common.IfOk-weaker, Refusing.refused_of_read}
+use Rattle.tigercanon.proofs.Common.{Device, IfErr-weaker, IfOk-weaker}
 use Rattle.tigercanon.proofs.library.making.make_of.Goals as goal
 
 pub returns-clause-made : goal.returns-clause-made
@@ -9,4 +9,5 @@ returns-clause-made g c parts says =
 pub returns-clause-refused : goal.returns-clause-refused
 returns-clause-refused g c parts says =
     let l = c.in_ok-linked.ensures.linked parts says in
-    IfErr-weaker c.make_of_linked.result _ _ (λ fault h. refused_of_read parts l.0 l.1 fault (h l.0 l.2)) c.make_of_linked.ensures.refused
+    IfErr-weaker c.make_of_linked.result _ _ (λ fault refused. ((refused parts l).0, (refused parts l).1 Device))
+    c.make_of_linked.ensures.refused

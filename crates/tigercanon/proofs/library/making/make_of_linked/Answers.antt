@@ -1,6 +1,5 @@
+use Rattle.tigercanon.proofs.Common.{ap, masked, ◌∙◌}
 use Rattle.tigercanon.proofs.Masking.{viewed_by_none}
-use Rattle.std.proofs.Common.{◌∙◌, ap}
-use Rattle.county_chart.specs.MaskedCounty.{masked}
 use Rattle.tigercanon.proofs.library.making.make_of_linked.Goals as goal
 
 pub returns-then-is_none-clause-made : goal.returns-then-is_none-clause-made

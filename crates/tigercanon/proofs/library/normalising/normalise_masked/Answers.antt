@@ -9,7 +9,7 @@ pub returns-clause-only : goal.returns-clause-only
 returns-clause-only c = only_text (masked c.args.mask) (masked_view c.args.mask) _ _ (returns-clause-canonical c)
 
 pub returns-clause-again : goal.returns-clause-again
-returns-clause-again c = λ text one. again (masked c.args.mask) (masked_view c.args.mask) _ _ (returns-clause-canonical c) text one
+returns-clause-again c = λ text one. again c.args.mask _ _ (returns-clause-canonical c) text one
 
 pub returns-clause-plain : goal.returns-clause-plain
 returns-clause-plain c = text_as_it_is (masked c.args.mask) (masked_view c.args.mask) _ _ (returns-clause-canonical c)
@@ -26,5 +26,5 @@ returns-in_err-made-clause-succeeds c = λ records accepted.
 pub returns-in_err-made-clause-again_succeeds : goal.returns-in_err-made-clause-again_succeeds
 returns-in_err-made-clause-again_succeeds c = λ text one.
     let p = err_from_is_err_and c.from_residual.result c.from_residual.ensures.1 in
-    let set = one_text_accepted (masked c.args.mask) (masked_view c.args.mask) _ text one in
+    let set = one_text_accepted c.args.mask _ text one in
     rw (p.1, p.2) (accepted_wants_memory _ set.0 set.1 c.in_err-made.field-0.0 (c.in_err-made.ensures.refused _ refl))

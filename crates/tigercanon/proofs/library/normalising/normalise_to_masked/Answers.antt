@@ -1,6 +1,6 @@
-use Rattle.tigercanon.proofs.Common.{MatchResult-at_err, MatchResult-at_ok, Took, ap, cond, err_from_is_err_and, length, masked}
-use Rattle.tigercanon.proofs.Common.{masked_view, subst, sym, take, ◌+◌, ◌<◌, ◌∙◌, ◌≡◌}
-use Rattle.tigercanon.proofs.{Refusing.not_stopped, Refusing.read_refused, Sets.only_text}
+use Rattle.tigercanon.proofs.Common.{Device, Fault, IsSetRefusal, Load, MatchResult-at_err, MatchResult-at_ok, RefusesSpelled, Took, Write}
+use Rattle.tigercanon.proofs.Common.{ap, cond, err_from_is_err_and, length, masked, masked_view, subst, sym, take, ◌+◌, ◌<◌, ◌∙◌, ◌≡◌}
+use Rattle.tigercanon.proofs.{Refusing.not_of_sink, Refusing.read_refused, Sets.only_text}
 use Rattle.tigercanon.proofs.library.normalising.normalise_to_masked.Goals as goal
 
 pub returns-clause-written : goal.returns-clause-written
@@ -45,11 +45,25 @@ returns-in_err-made-clause-failures g c =
     let l = c.in_ok-linked.ensures.linked in
     let failed = g.W.Sink.failed c.args.out.now in
     rw (p.1, p.2) (ap g.W.Sink.failed c.in_err-made.ensures.untouched ∙ ap (λ b. cond b (failed + 1) failed)
-    (sym (not_stopped l.2.0 c.in_err-made.field-0.0 (c.in_err-made.ensures.refused l.2.0 l.2.2))))
+    (sym (not_of_sink (IsSetRefusal l.0) c.in_err-made.field-0.0 (c.in_err-made.ensures.refused l.0 l.2).0)))
+
+pub returns-in_err-made-clause-stopped : goal.returns-in_err-made-clause-stopped
+returns-in_err-made-clause-stopped g c = λ fault is.
+    let p = err_from_is_err_and c.from_residual-in_err-made.result c.from_residual-in_err-made.ensures.1 in
+    let l = c.in_ok-linked.ensures.linked in
+    let e : c.in_err-made.field-0.0 ≡ Write fault = cc in
+    absurd ((subst (λ (f : Fault). RefusesSpelled l.0 f) e (c.in_err-made.ensures.refused l.0 l.2)).0)
+
+pub returns-in_err-made-clause-device : goal.returns-in_err-made-clause-device
+returns-in_err-made-clause-device g c = λ is.
+    let p = err_from_is_err_and c.from_residual-in_err-made.result c.from_residual-in_err-made.ensures.1 in
+    let l = c.in_ok-linked.ensures.linked in
+    let e : c.in_err-made.field-0.0 ≡ Load Device = cc in
+    absurd ((c.in_err-made.ensures.refused l.0 l.2).1 Device e)
 
 pub returns-in_err-made-clause-refused : goal.returns-in_err-made-clause-refused
 returns-in_err-made-clause-refused g c =
     let p = err_from_is_err_and c.from_residual-in_err-made.result c.from_residual-in_err-made.ensures.1 in
     let l = c.in_ok-linked.ensures.linked in
-    rw (p.1, p.2) (read_refused g.R.Source.remaining g.R.Source.given g.R.Source.reads c.args.parts.now c.link_sources.new.parts l.0 l.1 l.2.0 l.2.1
-    c.in_err-made.field-0.0 (c.in_err-made.ensures.refused l.2.0 l.2.2))
+    rw (p.1, p.2) (read_refused g.R.Source.remaining g.R.Source.given g.R.Source.reads c.args.parts.now c.link_sources.new.parts l.0 l.1
+    c.in_err-made.field-0.0 (c.in_err-made.ensures.refused l.0 l.2))

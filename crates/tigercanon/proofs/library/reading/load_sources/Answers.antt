@@ -1,10 +1,8 @@
-use Rattle.tigercanon.proofs.Common.{Err, IfErr-weaker, IfOk-weaker, MAX, [], ap, arith, err_from_is_err_and, inl, inr, length-append}
-use Rattle.tigercanon.proofs.Common.{most_records, subst, sym, ℕ, ◌++◌, ◌+◌, ◌<◌, ◌∙◌, ◌∷◌, ◌≡◌}
-use Rattle.tigercanon.proofs.ReadParts.{all_read, but_once_at, none_more, nothing_more, one_failed, one_more_at, untouched_at, up_to_at}
+use Rattle.tigercanon.proofs.Common.{Err, IfErr-weaker, IfOk-weaker, MAX, WasWellBefore, [], ap, arith, err_from_is_err_and, inl, inr}
+use Rattle.tigercanon.proofs.Common.{length-append, most_records, refl, set, subst, sym, ℕ, ◌++◌, ◌+◌, ◌<◌, ◌∙◌, ◌∷◌, ◌≡◌}
+use Rattle.tigercanon.proofs.ReadParts.{all_read, next_changed, none_more, one_failed, one_more, untouched}
 use Rattle.tigercanon.proofs.RecordedFaults.{counted_device, counted_none, none_recorded, recorded_fault}
 use Rattle.tl_load.specs.declared.fault.LoadFault.TheVariants as faults
-use Rattle.std.proofs.Math.ListN.{set}
-use Rattle.tigercanon.specs.Reading.{WasWellBefore}
 use Rattle.tigercanon.proofs.library.reading.load_sources.Goals as goal
 
 pub read_part_by-requires-clause-failures : goal.read_part_by-requires-clause-failures
@@ -12,8 +10,8 @@ read_part_by-requires-clause-failures g c =
     let i = c.loop-source.source-index in
     let d = c.source-item.result in
     let r = c.loop-source.invariant.read in
-    let same = untouched_at g.R.Source.remaining g.R.Source.given _ _ r.0 i d d r.1 r.2 c.loop-source-test.true in
-    subst (λ s. g.R.Source.failed s < MAX) (sym same) (c.requires i d c.loop-source-test.true)
+    subst (λ s. g.R.Source.failed s < MAX) (sym (untouched g.R.Source.remaining g.R.Source.given _ _ r.0 i d r.1 r.2))
+    (c.requires i d c.loop-source-test.true)
 
 pub returns-in_err-read_part_by-clause-faulty : goal.returns-in_err-read_part_by-clause-faulty
 returns-in_err-read_part_by-clause-faulty g c =
@@ -29,23 +27,22 @@ returns-in_err-read_part_by-clause-faulty g c =
     let well : WasWellBefore g.R.Source.remaining g.R.Source.given g.R.Source.reads c.args.sources.now (set c.loop-source.sources i x) = (
       r.0,
       s.taken,
-      but_once_at g.R.Source.remaining g.R.Source.given g.R.Source.reads _ _ r.0 i d x s.last s.taken r.1 r.2 c.loop-source-test.true s.gave
-          s.one_read,
+      next_changed g.R.Source.remaining g.R.Source.given _ _ _ r.0 i d x r.1 r.2 c.loop-source-test.true
+          (λ rest. ((s.last, s.gave, s.one_read), refl)),
       s.should most_records r.0 [] r.3,
     ) in
     elim (f.3 most_records r.0 [] r.3) [
       | inl (end, fed) ↦ (
         r.0 ++ f.0 ∷ [],
         [],
-        nothing_more g.R.Source.remaining g.R.Source.given _ _ _
-            (one_more_at g.R.Source.remaining g.R.Source.given _ _ r.0 i d x r.1 r.2 c.loop-source-test.true f.0 f.1 end),
+        inl (one_more g.R.Source.remaining g.R.Source.given _ _ r.0 i d x f.0 r.1 r.2 c.loop-source-test.true f.1 end, refl),
         recorded_fault g.K.Collector.holds c.read_part_by.new.self fault _ _ c.in_err-read_part_by.ensures.reported fed lines,
         well,
       )
       | inr fed ↦ (
         r.0,
         f.0,
-        up_to_at g.R.Source.remaining g.R.Source.given _ _ r.0 i d x r.1 r.2 c.loop-source-test.true f.0 f.1,
+        inr (next_changed g.R.Source.remaining g.R.Source.given _ _ _ r.0 i d x r.1 r.2 c.loop-source-test.true (λ rest. (f.1, refl))),
         recorded_fault g.K.Collector.holds c.read_part_by.new.self fault _ _ c.in_err-read_part_by.ensures.reported fed lines,
         well,
       )
@@ -80,7 +77,7 @@ loop-source-preserved g c =
     record {
       read = (
         r.0 ++ f.0 ∷ [],
-        one_more_at g.R.Source.remaining g.R.Source.given _ _ r.0 i d x r.1 r.2 c.loop-source-test.true f.0 f.1 p.0,
+        one_more g.R.Source.remaining g.R.Source.given _ _ r.0 i d x f.0 r.1 r.2 c.loop-source-test.true f.1 p.0,
         length-append r.0 (f.0 ∷ []) ∙ ap (λ (n : ℕ). n + 1) r.2,
         p.1,
       );

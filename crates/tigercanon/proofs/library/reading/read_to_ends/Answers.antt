@@ -1,6 +1,6 @@
-use Rattle.tigercanon.proofs.Common.{◌+◌, ◌∙◌, ◌<◌, ℕ, [], ◌∷◌, ◌++◌, inl, sym, ap, arith, subst, length-append}
-use Rattle.tigercanon.proofs.Common.{err_from_is_err_and, MAX, Load, IsUnread}
-use Rattle.tigercanon.proofs.ReadParts.{all_read, none_more, one_more_at, unread_at, untouched_at}
+use Rattle.tigercanon.proofs.Common.{IsUnread, Load, MAX, [], ap, arith, err_from_is_err_and, inl, length-append, subst, sym, ℕ, ◌++◌, ◌+◌}
+use Rattle.tigercanon.proofs.Common.{◌<◌, ◌∙◌, ◌∷◌}
+use Rattle.tigercanon.proofs.ReadParts.{all_read, none_more, one_more, unread_at, untouched}
 use Rattle.tigercanon.proofs.library.reading.read_to_ends.Goals as goal
 
 pub read_to_end-requires-clause-failures : goal.read_to_end-requires-clause-failures
@@ -8,8 +8,8 @@ read_to_end-requires-clause-failures g c =
     let i = c.loop-source.source-index in
     let d = c.source-item.result in
     let r = c.loop-source.invariant.read in
-    let same = untouched_at g.R.Source.remaining g.R.Source.given _ _ r.0 i d d r.1 r.2 c.loop-source-test.true in
-    subst (λ s. g.R.Source.failed s < MAX) (sym same) (c.requires i d c.loop-source-test.true)
+    subst (λ s. g.R.Source.failed s < MAX) (sym (untouched g.R.Source.remaining g.R.Source.given _ _ r.0 i d r.1 r.2))
+    (c.requires i d c.loop-source-test.true)
 
 pub returns-in_err-read_to_end-clause-stopped : goal.returns-in_err-read_to_end-clause-stopped
 returns-in_err-read_to_end-clause-stopped g c =
@@ -17,7 +17,7 @@ returns-in_err-read_to_end-clause-stopped g c =
     let i = c.loop-source.source-index in
     let d = c.source-item.result in
     let r = c.loop-source.invariant.read in
-    let same = untouched_at g.R.Source.remaining g.R.Source.given _ _ r.0 i d d r.1 r.2 c.loop-source-test.true in
+    let same = untouched g.R.Source.remaining g.R.Source.given _ _ r.0 i d r.1 r.2 in
     let device = c.in_err-read_to_end.ensures.device in
     rw (p.1, p.2) (inl (
       ap Load device.0,
@@ -36,7 +36,7 @@ loop-source-preserved g c =
     record {
       read = (
         r.0 ++ f.0 ∷ [],
-        one_more_at g.R.Source.remaining g.R.Source.given _ _ r.0 i d x r.1 r.2 c.loop-source-test.true f.0 f.1 f.2,
+        one_more g.R.Source.remaining g.R.Source.given _ _ r.0 i d x f.0 r.1 r.2 c.loop-source-test.true f.1 f.2,
         length-append r.0 (f.0 ∷ []) ∙ ap (λ (n : ℕ). n + 1) r.2,
         f.3 r.0 r.3,
       );

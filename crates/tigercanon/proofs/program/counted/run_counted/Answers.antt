@@ -1,4 +1,4 @@
-use Rattle.tigercanon.proofs.Common.{IfErr-at_err, ap, arith, set_of_counted, status_of_outcome, sym, ◌∙◌}
+use Rattle.tigercanon.proofs.Common.{IfErr-at_err, ap, arith, status_of_outcome, sym, ◌∙◌}
 use Rattle.tigercanon.proofs.Refused.{device, different, done, no_device_reported, status_is_one, unreported, why}
 use Rattle.tigercanon.proofs.program.counted.run_counted.Goals as goal
 
@@ -9,26 +9,17 @@ pub returns-clause-done : goal.returns-clause-done
 returns-clause-done g c = λ zero.
     let o = c.do_counted-outcome in
     let is = sym c.report_outcome.ensures.status ∙ zero in
-    done c.args.plan.now.mask c.args.plan.now.job
-    (set_of_counted c.args.plan.now.job g.R.Read.remaining c.args.first.now c.do_counted-outcome.new.first)
-    (set_of_counted c.args.plan.now.job g.R.Read.remaining c.args.second.now c.do_counted-outcome.new.second)
-    _ o.result (o.ensures.did (λ missing. absurd (omega (arith, is, ap status_of_outcome (o.ensures.missing missing))))) is
+    done _ _ _ _ _ o.result (o.ensures.did (λ missing. absurd (omega (arith, is, ap status_of_outcome (o.ensures.missing missing))))) is
 
 pub returns-clause-different : goal.returns-clause-different
 returns-clause-different g c = λ one.
     let o = c.do_counted-outcome in
     let is = sym c.report_outcome.ensures.status ∙ one in
-    different c.args.plan.now.mask c.args.plan.now.job
-    (set_of_counted c.args.plan.now.job g.R.Read.remaining c.args.first.now c.do_counted-outcome.new.first)
-    (set_of_counted c.args.plan.now.job g.R.Read.remaining c.args.second.now c.do_counted-outcome.new.second)
-    _ o.result (o.ensures.did (λ missing. absurd (omega (arith, is, ap status_of_outcome (o.ensures.missing missing))))) is
+    different _ _ _ _ _ o.result (o.ensures.did (λ missing. absurd (omega (arith, is, ap status_of_outcome (o.ensures.missing missing))))) is
 
 pub returns-clause-reported : goal.returns-clause-reported
 returns-clause-reported g c = λ above none.
-    why c.args.plan.now.mask c.args.plan.now.job
-    (set_of_counted c.args.plan.now.job g.R.Read.remaining c.args.first.now c.do_counted-outcome.new.first)
-    (set_of_counted c.args.plan.now.job g.R.Read.remaining c.args.second.now c.do_counted-outcome.new.second)
-    _ c.do_counted-outcome.result c.report_outcome.result _ (c.do_counted-outcome.ensures.did none) c.report_outcome.ensures.status
+    why _ _ _ _ _ c.do_counted-outcome.result c.report_outcome.result _ (c.do_counted-outcome.ensures.did none) c.report_outcome.ensures.status
     c.report_outcome.ensures.reported above
 
 pub returns-clause-unreported : goal.returns-clause-unreported
@@ -38,10 +29,7 @@ returns-clause-unreported g c = λ most.
 
 pub returns-clause-device : goal.returns-clause-device
 returns-clause-device g c = λ four none.
-    device c.args.plan.now.mask c.args.plan.now.job
-    (set_of_counted c.args.plan.now.job g.R.Read.remaining c.args.first.now c.do_counted-outcome.new.first)
-    (set_of_counted c.args.plan.now.job g.R.Read.remaining c.args.second.now c.do_counted-outcome.new.second)
-    _ _ c.report_outcome.result (returns-clause-reported g c (omega (arith, four)) none) four
+    device _ _ _ _ _ _ _ (returns-clause-reported g c (omega (arith, four)) none) four
 
 pub returns-clause-no_device : goal.returns-clause-no_device
 returns-clause-no_device g c = λ other.

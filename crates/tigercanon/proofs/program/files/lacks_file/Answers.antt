@@ -1,7 +1,4 @@
-use Rattle.tigercanon.proofs.Common.{is_failed, sym, ◌∙◌}
-use Rattle.std.proofs.Common.{rules, tests}
-use Rattle.std.proofs.lemmas.Iterator.{YieldsList-from_slice}
-use Rattle.std.proofs.lemmas.Iterator.Search.{any_from_yields_List}
+use Rattle.tigercanon.proofs.Common.{YieldsList-from_slice, any_from_yields_List, is_failed, rules, sym, tests, ◌∙◌}
 use Rattle.tigercanon.proofs.program.files.lacks_file.Goals as goal
 
 pub returns-else-is_first_absent : goal.returns-else-is_first_absent

@@ -1,5 +1,5 @@
 use Rattle.tigercanon.proofs.Common.{Check, Done, None, err_from_is_err_and, no_mask, refl, set_of_sources, to_sink}
-use Rattle.tigercanon.proofs.SourceSets.{left_untouched, read_reported, refused_of_read, text_printed}
+use Rattle.tigercanon.proofs.SourceSets.{left_untouched, read_reported, text_printed}
 use Rattle.tigercanon.proofs.program.jobs.check_set.Goals as goal
 
 pub returns-clause-did : goal.returns-clause-did
@@ -18,4 +18,4 @@ returns-in_err-judge-clause-did g c =
     let l = c.in_ok-loader.ensures.fed in
     let fault = c.in_err-judge.field-0.0 in
     rw (p.1, p.2) (left_untouched no_mask set set (to_sink g.W.Sink.failed g.W.Sink.holds c.args.out.now c.args.out.now) refl Check fault None
-    (refl, (read_reported set l.0 (refused_of_read g.R.Source.remaining g.R.Source.given _ _ l.0 l.1) fault (c.in_err-judge.ensures.refused l.0 l.2), tt)))
+    (refl, (read_reported set l.0 (λ f refused. record { parts = l.0; read = l.1; refused = refused }) fault (c.in_err-judge.ensures.refused l.0 l.2), tt)))

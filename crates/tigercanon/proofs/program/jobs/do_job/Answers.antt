@@ -1,7 +1,6 @@
-use Rattle.tigercanon.proofs.Common.{Bool, Compare, Done, Err, None, Normalise, Respell, ap, err_from_is_err_and, if◌then◌else◌, refl}
-use Rattle.tigercanon.proofs.Common.{set_of_sources, to_sink, ◌+◌, ◌∙◌}
-use Rattle.tigercanon.proofs.SourceSets.{left_untouched, normalised_leave, text_printed}
-use Rattle.tigercanon.proofs.Common.{IsTextOf, subst, sym}
+use Rattle.tigercanon.proofs.Common.{Bool, Compare, Done, Err, IsTextOf, Normalise, Respell, ap, err_from_is_err_and, if◌then◌else◌}
+use Rattle.tigercanon.proofs.Common.{set_of_sources, subst, sym, ◌+◌, ◌∙◌}
+use Rattle.tigercanon.proofs.SourceSets.{normalised_leave, text_printed}
 use Rattle.tigercanon.proofs.program.jobs.do_job.Goals as goal
 
 pub returns-in_ok-text-in-Respell-clause-did : goal.returns-in_ok-text-in-Respell-clause-did

@@ -1,5 +1,5 @@
 use Rattle.tigercanon.proofs.Common.{Done, Fingerprint, None, err_from_is_err_and, refl, set_of_sources, to_sink}
-use Rattle.tigercanon.proofs.SourceSets.{left_untouched, read_reported, refused_of_read, text_printed}
+use Rattle.tigercanon.proofs.SourceSets.{left_untouched, read_reported, text_printed}
 use Rattle.tigercanon.proofs.program.jobs.fingerprint_set.Goals as goal
 
 pub returns-clause-did : goal.returns-clause-did
@@ -25,4 +25,4 @@ returns-in_err-hash-clause-did g c =
     let l = c.in_ok-loader.ensures.fed in
     let fault = c.in_err-hash.field-0.0 in
     rw (p.1, p.2) (left_untouched c.args.mask set set (to_sink g.W.Sink.failed g.W.Sink.holds c.args.out.now c.args.out.now) refl Fingerprint fault None
-    (refl, (read_reported set l.0 (refused_of_read g.R.Source.remaining g.R.Source.given _ _ l.0 l.1) fault (c.in_err-hash.ensures.refused l.0 l.2), tt)))
+    (refl, (read_reported set l.0 (λ f refused. record { parts = l.0; read = l.1; refused = refused }) fault (c.in_err-hash.ensures.refused l.0 l.2), tt)))

@@ -1,4 +1,4 @@
-use Rattle.tigercanon.proofs.Common.{Device, Load, Memory, bytes_of, err_from_is_err_and, false, rules, set_of_files, to_writer, true, ◌∙◌}
+use Rattle.tigercanon.proofs.Common.{Device, Load, Memory, bytes_of, err_from_is_err_and, false, rules, true, ◌∙◌}
 use Rattle.tigercanon.proofs.FileSources.{below_most, known_of_files, unopened_left}
 use Rattle.tigercanon.proofs.{GivenSets.does_of, Leaving.printed_to_writer}
 use Rattle.tigercanon.proofs.program.running.run_files.Goals as goal
@@ -13,13 +13,13 @@ pub returns-in_err-first-clause-did : goal.returns-in_err-first-clause-did
 returns-in_err-first-clause-did g c =
     let p = err_from_is_err_and c.from_residual-in_err-first.result c.from_residual-in_err-first.ensures.1 in
     rw (p.1, p.2, c.in_err-first.ensures.memory) (unopened_left g.R.Read.remaining c.args.mask (g.W.Write.contents c.args.out.now)
-    c.args.first.items c.args.second.items Memory tt tt (λ files. tt) c.args.job true)
+    c.args.first.items c.args.second.items Memory tt tt (λ files. (tt, λ is. tt)) c.args.job true)
 
 pub returns-in_err-second-clause-did : goal.returns-in_err-second-clause-did
 returns-in_err-second-clause-did g c =
     let p = err_from_is_err_and c.from_residual-in_err-second.result c.from_residual-in_err-second.ensures.1 in
     rw (p.1, p.2, c.in_err-second.ensures.memory) (unopened_left g.R.Read.remaining c.args.mask (g.W.Write.contents c.args.out.now)
-    c.args.first.items c.args.second.items Memory tt tt (λ files. tt) c.args.job false)
+    c.args.first.items c.args.second.items Memory tt tt (λ files. (tt, λ is. tt)) c.args.job false)
 
 pub do_job-outcome-requires-clause-first : goal.do_job-outcome-requires-clause-first
 do_job-outcome-requires-clause-first g c = below_most (λ s. s.failures) _ _ c.deref_mut.ensures.value c.in_ok-first.ensures.opened.1

@@ -1,11 +1,9 @@
-use Rattle.tigercanon.proofs.{CanonicalTexts.carried_of_set, CanonicalTexts.text_of_set, Common.masked, Common.masked_view}
+use Rattle.tigercanon.proofs.{CanonicalTexts.carried_of_set, CanonicalTexts.text_of_set}
 use Rattle.tigercanon.proofs.library.products.TextAndRenamingProductUnit.of.Goals as goal
 
 pub returns : goal.returns
-returns g c = λ parts set.
-    let seen = masked c.args._mask in
-    let view_laws = masked_view c.args._mask in (
-      text_of_set seen view_laws _ _ _ set c.in_ok-text.text.items c.in_ok-text.ensures,
-      carried_of_set seen view_laws _ _ _ set c.args.county.now.whole.is_county c.in_ok-text.text.items c.in_ok-text.ensures
-          c.in_ok-renaming.renaming c.in_ok-renaming.ensures.carries,
-    )
+returns g c = λ parts set. (
+  text_of_set c.args._mask _ _ _ set c.in_ok-text.text.items c.in_ok-text.ensures,
+  carried_of_set c.args._mask _ _ _ set c.args.county.now.whole.is_county c.in_ok-text.text.items c.in_ok-text.ensures
+      c.in_ok-renaming.renaming c.in_ok-renaming.ensures.carries,
+)

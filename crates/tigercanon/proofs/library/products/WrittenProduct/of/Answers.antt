@@ -1,12 +1,11 @@
-use Rattle.tigercanon.proofs.{CanonicalTexts.goes_out, CanonicalTexts.text_of_set, Common.masked, Common.masked_view, Common.refl}
+use Rattle.tigercanon.proofs.{CanonicalTexts.goes_out, CanonicalTexts.text_of_set, Common.refl}
 use Rattle.tigercanon.proofs.library.products.WrittenProduct.of.Goals as goal
 
 pub returns : goal.returns
 returns g c = λ parts set.
-    let mask = c.args._mask in
     let w = c.write_to.ensures in
     record {
       text = _;
-      canonical = text_of_set (masked mask) (masked_view mask) _ _ _ set _ refl;
+      canonical = text_of_set c.args._mask _ _ _ set _ refl;
       out = goes_out g.W.Sink.failed g.W.Sink.holds _ _ _ c.write_to.result w.length w.short w.failures w.bytes;
     }

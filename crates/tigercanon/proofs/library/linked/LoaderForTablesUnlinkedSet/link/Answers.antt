@@ -1,6 +1,6 @@
 use Rattle.tigercanon.proofs.Common.{[], most_records}
 use Rattle.tigercanon.proofs.Refusing.{within_limits}
-use Rattle.tigercanon.proofs.library.unlinked.LoaderForTablesUnlinkedSet.link.Goals as goal
+use Rattle.tigercanon.proofs.library.linked.LoaderForTablesUnlinkedSet.link.Goals as goal
 
 pub link_in_order-requires : goal.link_in_order-requires
 link_in_order-requires c =

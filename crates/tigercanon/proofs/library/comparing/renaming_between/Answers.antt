@@ -1,6 +1,6 @@
 use Rattle.tigercanon.proofs.Common.{Carries, IfOk-weaker, arranged_by, subst, sym, ◌≡◌}
 use Rattle.tigercanon.proofs.Verdicts.{one_county}
-use Rattle.tigercanon.proofs.library.comparison.renaming_between.Goals as goal
+use Rattle.tigercanon.proofs.library.comparing.renaming_between.Goals as goal
 
 pub returns : goal.returns
 returns g c =
