@@ -24,7 +24,6 @@ fn lines_of(rt: &impl Host, patterns: &[&str]) -> Vec<u8> {
     sets::lines_of(rt.alloc(), patterns).expect(rt, "there is memory")
 }
 
-/// The county of this set.
 fn county_of(rt: &impl Host, row: &str, set: &[u8]) -> County {
     sets::county_of(rt.alloc(), set).expect(rt, row)
 }

@@ -32,7 +32,6 @@ fn number(other: bool, n: u64, most: u64) -> u64 {
     if other { most.saturating_sub(n) } else { n }
 }
 
-/// The TLID of a chain.
 fn tlid(other: bool, chain: u64) -> u64
     requires { chain < 5000 }
 {

@@ -94,7 +94,6 @@ pub(crate) fn normalise_parts<'t>(
     }
 }
 
-/// The fingerprint of the parts under a mask.
 pub(crate) fn fingerprint_parts(
     alloc: Global,
     parts: &[Part],

@@ -46,7 +46,6 @@ use county_chart::{
 use std::alloc::{AllocError, Global};
 use tl_layout::{BodyP, Rec5, Record, Tables};
 
-/// The polygons of tables in order.
 fn polygons_of(alloc: Global, tables: &OrderedTables) -> Result<Polygons, AllocError>
     requires tables { AreInOrder (ordered_of tables.now) }
     requires topologies { IsPermutation tables.now.records.type_i.items (ordered_of tables.now).of_type_i }
@@ -85,7 +84,6 @@ fn check_rules(
     check_landmarks(tables, ordered.repeated.type_p, linked, polygons)
 }
 
-/// The chains of tables in order, under their TLIDs.
 fn build_chains<'t, C: StoredChain, B: ChainBuilder<'t, C>>(
     alloc: Global,
     builder: &mut B,
@@ -108,7 +106,6 @@ fn build_chains<'t, C: StoredChain, B: ChainBuilder<'t, C>>(
     Ok(Table::new(tlids, chains))
 }
 
-/// The polygons of tables in order, under their keys.
 fn build_polygons(
     alloc: Global,
     tables: &OrderedTables,
@@ -122,7 +119,6 @@ fn build_polygons(
     Ok(Table::new(keys, bodies))
 }
 
-/// The landmarks of tables in order, under their LANDs.
 fn build_landmarks<L: StoredLandmark, B: LandmarkBuilder<L>>(
     alloc: Global,
     builder: &mut B,

@@ -28,7 +28,6 @@ impl Model for PointRank {
 }
 
 impl PointRank {
-    /// The rank of a point.
     pub(crate) fn of(point: Point) -> PointRank
         ensures rank { result ≡ point_rank point }
         ensures on_map { IsOnMap point }

@@ -10,7 +10,6 @@ use county_chart::{Chart, KeySet, PolygonKey, ProfileFault, least_unknown};
 use std::alloc::{AllocError, Global};
 use tl_layout::Side;
 
-/// Inserts the polygon on a side into a set, if there is a polygon.
 fn insert_side(polygons: &mut KeySet<PolygonKey>, side: Option<Side>) -> Result<(), AllocError>
     ensures { OnOk result (distinct key_cmp polygons.new ≡ distinct key_cmp (polygons.old ++ keys_on side)) }
 {

@@ -69,7 +69,6 @@ fn is_record_turned_back(record: &Record) -> bool {
     }
 }
 
-/// The records of these lines.
 fn records_in(rt: &impl Host, lines: &[&str]) -> Vec<Record> {
     let set = lines_of(rt, lines);
     records_of(rt.alloc(), &set).expect(rt, "the lines are records")
@@ -109,7 +108,6 @@ fn records_are_read_and_written(rt: HostRuntime) {
     same(&rt, "records", &found, &(13, true, true, true, Some(10)));
 }
 
-/// Contents are blanked.
 #[test]
 fn contents_are_blanked(rt: HostRuntime) {
     let records = records_in(&rt, plain());

@@ -7,12 +7,10 @@ use test_support::sets::carries;
 use test_support::worked_sets::{MAIN, MAIN_TURNED, NAMED, NAMED_BACKWARDS, SIDED};
 use tl_cert::{PolygonKey, Renaming};
 
-/// The renaming has these lists.
 fn has_lists(rt: &impl Host, row: &str, renaming: &Renaming, lists: &Lists<'_>) {
     same(rt, row, &Lists::of(renaming), lists);
 }
 
-/// The renaming of these lists.
 fn renaming(rt: &impl Host, lists: &Lists<'_>) -> Renaming {
     Renaming::new(
         Vec::from_slice(rt.alloc(), lists.chains).expect(rt, "there is memory"),

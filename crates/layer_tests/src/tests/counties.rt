@@ -16,7 +16,6 @@ fn has_the_numbers(rt: &impl Host, county: &County) {
     same_items(rt, "polygons", county.polygons(), &polygons);
 }
 
-/// The type of the name with this FEAT, if there is one.
 fn type_of_name(county: &County, feat: u32) -> Option<[u8; 4]> {
     match county.name(feat) {
         Some(body) => Some(body.fetype()),
@@ -93,7 +92,6 @@ const A10: PolygonKey = (*b"A4701", 10);
 
 const A2: PolygonKey = (*b"A4701", 2);
 
-/// The set of these polygons.
 fn set_of(rt: &impl Host, polygons: &[PolygonKey]) -> KeySet<PolygonKey> {
     let mut set = KeySet::new(rt.alloc());
     for key in polygons {

@@ -21,7 +21,6 @@ const BYTES: [(u8, bool); 9] = [
 /// The longest text.
 const MOST: usize = 100;
 
-/// Puts a byte into a text.
 fn put_byte(text: &mut [u8; MOST], place: usize, byte: u8) {
     if let Some(there) = text.get_mut(place) {
         *there = byte;

@@ -31,7 +31,6 @@ fn sources_are_read_to_their_end(rt: HostRuntime) {
     gives_the_street(&rt, "a reader", &mut counted);
 }
 
-/// Feeds a loader in pieces of this size.
 fn feed_pieces(rt: &impl Host, loader: &mut Loader, set: &[u8], size: usize) {
     assert!(rt; 0 < size, "a piece has a byte");
     for piece in set.chunks(size) {

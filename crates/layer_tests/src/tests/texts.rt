@@ -41,7 +41,6 @@ const NUMBER: FieldFault = FieldFault {
     column: 16,
 };
 
-/// Faults of one line.
 fn of_a_line() -> [(LineFault, &'static str); 4] {
     let no_type = "the first byte is no known record type";
     let too_long = "the line is longer than its record type allows";

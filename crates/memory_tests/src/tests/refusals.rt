@@ -94,7 +94,6 @@ fn answer_one_renaming(rt: &impl Host, sets: &[SetLines]) {
     }
 }
 
-/// Sweeps the whole calls.
 pub(super) fn sweep_whole_calls(rt: &impl Host, of: Swept<'_>) {
     sweep(rt, "Respell", of, &whole::Respell);
     sweep(rt, "Normalise", of, &whole::Normalise);
@@ -120,17 +119,14 @@ fn sweep_masked_calls(rt: &impl Host, of: Swept<'_>) {
     sweep_twice(rt, "AreOneMapMasked", of, &whole::AreOneMapMasked);
 }
 
-/// Sweeps linking.
 fn sweep_linking(rt: &impl Host, of: Swept<'_>) {
     sweep(rt, "LinkInOrder", of, &linking::LinkInOrder);
 }
 
-/// Sweeps admission.
 fn sweep_admitting(rt: &impl Host, of: Swept<'_>) {
     sweep(rt, "AdmitLinked", of, &over_linked::AdmitLinked);
 }
 
-/// Sweeps all steps.
 pub(super) fn sweep_steps(rt: &impl Host, of: Swept<'_>) {
     sweep_linking(rt, of);
     sweep_admitting(rt, of);

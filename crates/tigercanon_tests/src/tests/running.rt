@@ -41,7 +41,6 @@ struct Row {
     reads: Option<usize>,
 }
 
-/// The files, opened.
 fn opened<'a>(
     rt: &impl Host,
     files: &[File],

@@ -36,7 +36,6 @@ fn numbers_at(alloc: Global, numbers: &[u64], places: &[u64]) -> Result<Vec<u64>
     Ok(found)
 }
 
-/// Sorts places by the numbers there.
 fn sort_places(numbers: &[u64], places: &mut Vec<u64>) -> Result<(), AllocError>
     ensures permutation { IsPermutation places.old.items places.new.items }
     ensures in_order { OnOk result (IsInOrder (on (λ place. get_or numbers.now place 0) nat_cmp) places.new.items) }

@@ -91,7 +91,6 @@ impl<R: Host> Call<R> for LinkInOrder {
     }
 }
 
-/// The chains of an order, in that order.
 pub(super) fn chains_by_shape(rt: &impl Host, shape_order: &ShapeOrder) -> Vec<DirectedChain> {
     Vec::from_slice(rt.alloc(), shape_order.by_shape()).expect(rt, "there is memory")
 }

@@ -16,7 +16,6 @@ use tigercanon::Fault;
 use tl_county::{Chart, CountyOver, DirectedChain, LinkedRecords, link_in_order};
 use tl_profile::{Admitted, ProfileFault};
 
-/// Admits the county of these linked records.
 fn admit_over<'a>(
     alloc: Global,
     county: CountyOver<'a>,
