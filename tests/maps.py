@@ -49,8 +49,8 @@ class Polygon:
 
 @dataclass
 class Landmark:
-    """The fields of a record of type 7, and those of more records under the same number. Its links to polygons have the county's FILE,
-    if there is none here."""
+    """The fields of a record of type 7, and those of more records under the same number. They are at its point, if none is among them.
+    Its links to polygons have the county's FILE, if there is none here."""
 
     fields: Values
     point: Point | None = None
@@ -93,6 +93,10 @@ class Hand:
         """A number for each of count things, less than the most."""
         return list(range(1, count + 1)) if self.chance is None else self.chance.sample(range(1, most), count)
 
+    def polyids(self, cenids: Sequence[str]) -> list[int]:
+        """A number for each polygon, given their CENIDs."""
+        return self.numbers(len(cenids), 10**10)
+
     def turns(self) -> bool:
         return self.chance is not None and self.chance.random() < 0.5
 
@@ -119,9 +123,10 @@ def written(county: County, seed: int | None = None) -> bytes:
 
 def lines(county: County, hand: Hand) -> Iterator[str]:
     nodes = county.nodes()
-    numbered: list[Sequence[object]] = [county.chains, county.names, county.landmarks, county.polygons, nodes]
-    tlids, feats, lands, polyids, at_nodes = map(hand.numbers, map(len, numbered), (10**10, 10**8, 10**10, 10**10, 10**10))
-    node_numbers: dict[int | None, Any] = {None: "", **dict(zip(nodes, at_nodes))}
+    numbered: list[Sequence[object]] = [county.chains, county.names, county.landmarks]
+    tlids, feats, lands = map(hand.numbers, map(len, numbered), (10**10, 10**8, 10**10))
+    polyids = hand.polyids([polygon.cenid for polygon in county.polygons])
+    node_numbers: dict[int | None, Any] = {None: "", **dict(zip(nodes, hand.numbers(len(nodes), 10**10)))}
 
     def key(polygon: int | None, outside: str | None = None) -> str:
         if polygon is None:
@@ -145,8 +150,8 @@ def lines(county: County, hand: Hand) -> Iterator[str]:
         yield f"52006{body[:5]}{feat:>8}{body[5:]}"
     for landmark, land in zip(county.landmarks, lands):
         for fields in (landmark.fields, *landmark.more):
-            body = content(LANDMARK, fields)[:-19]
-            yield f"72006{body[:5]}{land:>10}{body[5:]}{spelt(landmark.point)} "
+            body = content(LANDMARK, {"LALONG, LALAT": spelt(landmark.point), **fields})
+            yield f"72006{body[:5]}{land:>10}{body[5:]} "
         for polygon, file in zip(landmark.polygons, [*landmark.files, *[FILE] * len(landmark.polygons)]):
             yield f"82006{file:5}{key(polygon)}{land:>10} "
     for number, each in enumerate(county.polygons):

@@ -1,0 +1,104 @@
+"""tools/compare-with-reference finds nothing wrong with the program, and finds what is wrong with others. Its counties have what it is for."""
+
+from __future__ import annotations
+
+import random
+import re
+from collections import Counter
+from pathlib import Path
+from typing import Callable, Iterable
+
+import pytest
+from maps import Chain, County
+from random_counties import Maker, lines_of
+from testing import LENGTHS, ROOT, Answer, run
+
+SEED = 24
+"""That of a county that is refused. In the next one each flag hides something."""
+
+WRONG = {
+    "digits of hashes": '"$REAL" "$@" | if [ "$1" = fingerprint ]; then tr 0 1; else cat; fi',
+    "order of records": '"$REAL" "$@" | if [ "$1" = normalise ]; then sort -r; else cat; fi',
+    "reserved fields that stay": 'for it; do shift; [ "$it" = --no-reserved ] || set -- "$@" "$it"; done; exec "$REAL" "$@"',
+    "exit status of refusals": '"$REAL" "$@" || exit 1',
+    "places of refusals": '"$REAL" "$@" 2>told; status=$?; sed "s/ [0-9]*$/ 1/" told >&2; exit $status',
+}
+"""Wrong programs, as what a shell does with the real one."""
+
+
+def compare(program: str | Path, *words: object) -> Answer:
+    return run([ROOT / "tools/compare-with-reference", "--program", program, "--folder", "kept", "--jobs", 2, *words])
+
+
+def test_right(program: str) -> None:
+    done = compare(program, "--counties", 5)
+    assert (done.status, done.err) == (0, b"")
+    assert re.fullmatch(rb"5 counties, [^\n]*\n[0-9]{3} passed, 0 failed\n", done.out)
+    assert not Path("kept").exists()
+
+
+@pytest.mark.parametrize("name", WRONG)
+def test_wrong(name: str, program: str, monkeypatch: pytest.MonkeyPatch) -> None:
+    """The files of each county that shows it are kept, and the same seed makes them again."""
+    monkeypatch.setenv("REAL", program)
+    Path("wrong").write_text(f"#!/bin/bash\nset -o pipefail\n{WRONG[name]}\n")
+    Path("wrong").chmod(0o755)
+    done = compare("wrong", "--seed", SEED, "--counties", 2)
+    *told, last = done.out.decode().splitlines()
+    assert done.status == 1 and re.fullmatch("[0-9]+ passed, [1-9][0-9]* failed", last)
+    kept = {path.name: path for path in Path("kept").iterdir()}
+    assert {f"seed-{seed}" for seed in re.findall("(?m)^seed ([0-9]+), in kept/", "\n".join(told))} == {*kept}
+    folder = kept[min(kept)]
+    texts = {path.name: path.read_bytes() for path in folder.iterdir()}
+    assert texts.keys() >= {"calls", "county", "twin", "other", "county.RT1"}
+    compare("wrong", "--seed", folder.name[5:], "--counties", 1)
+    assert {path.name: path.read_bytes() for path in folder.iterdir()} == texts
+
+
+def repeats(things: Iterable[object]) -> int:
+    """How many of the things are equal to one of them."""
+    return max(Counter(map(repr, things)).values(), default=0)
+
+
+def is_own_reverse(chain: Chain) -> bool:
+    return chain.points == chain.points[::-1]
+
+
+HELD: dict[str, Callable[[County], object]] = {
+    "two chains": lambda it: len(it.chains) == 2,
+    "eighteen chains": lambda it: len(it.chains) == 18,
+    "three equal chains": lambda it: repeats(it.chains) > 2,
+    "three of one shape": lambda it: repeats(min(chain.points, chain.points[::-1]) for chain in it.chains) > 2,
+    "equal chains that are their own reverse": lambda it: repeats(each for each in it.chains if is_own_reverse(each)) > 1,
+    "a loop": lambda it: any(each.points[0] == each.points[-1] and not is_own_reverse(each) for each in it.chains),
+    "one node at both ends": lambda it: any(each.start == each.end is not None for each in it.chains),
+    "no node at an end": lambda it: any(each.start is None is not each.end for each in it.chains),
+    "one polygon on both sides": lambda it: any(each.left == each.right is not None for each in it.chains),
+    "a CENID without a polygon": lambda it: any(each.left is None and each.outside[0] for each in it.chains),
+    "seven names, not all different": lambda it: any(len(each.names) == 7 > len({*each.names}) for each in it.chains),
+    "three address ranges": lambda it: any(len(each.ranges) == 3 for each in it.chains),
+    "three records of type 2": lambda it: any(len(each.points) > 22 for each in it.chains),
+    "several FILEs": lambda it: len({each.topology.get("FILE") for each in it.chains}) > 1,
+    "equal names": lambda it: repeats(it.names) > 1,
+    "a name that isn't used": lambda it: {*range(len(it.names))} - {name for each in it.chains for name in each.names},
+    "polygons with and without a record": lambda it: len({each.has_record for each in it.polygons}) > 1,
+    "several CENIDs, one of them twice": lambda it: 1 < len({each.cenid for each in it.polygons}) < len(it.polygons),
+    "equal landmarks": lambda it: repeats(it.landmarks) > 1,
+    "landmarks of equal content": lambda it: repeats((each.fields, each.more) for each in it.landmarks) > repeats(it.landmarks),
+    "a landmark of several contents": lambda it: any(each.more for each in it.landmarks),
+    "repeated links": lambda it: any(repeats(zip(each.polygons, each.files)) > 1 for each in it.landmarks),
+    "a landmark without a link": lambda it: any(not each.polygons for each in it.landmarks),
+}
+"""What some of the counties must have."""
+
+
+def test_counties() -> None:
+    made = [Maker(random.Random(seed)).county() for seed in range(200)]
+    assert [name for name, holds in HELD.items() if not any(map(holds, made))] == []
+    assert all(2 <= len(county.chains) <= 18 for county in made)
+    for seed, county in enumerate(made[:20]):
+        chance, again = random.Random(seed), random.Random(seed)
+        assert Maker(chance).county() == Maker(again).county() == county
+        lines = lines_of(county, chance)
+        assert lines == lines_of(county, again)
+        assert all(len(line) == LENGTHS[line[0]] for line in lines)
