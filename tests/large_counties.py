@@ -233,11 +233,14 @@ def hostile(count: int) -> dict[str, County]:
         linked = [sorted((first + link) % (2 * TIED) for link in range(links)) for first in range(number)]
         return ties(count, sides, [], polygons, [maps.Landmark(landmark_fields("Park", at), polygons=on) for at, on in enumerate(linked)])
 
-    ranges = [{"FRADDL": f"{number:>11}", "FRIADDL": "1"} for number in range(1, EACH + 1)]
+    def ranges(*numbers: int) -> dict[str, Any]:
+        return {"ranges": [{"FRADDL": f"{number:>11}", "FRIADDL": "1"} for number in numbers]}
+
     return {
         "999 further names": further_names(TIED * EACH),
         "999 names in pairs": further_names(2),
-        "999 ranges": ties(count, [{"ranges": ranges} for _ in range(TIED)]),
+        "999 ranges": ties(count, [ranges(*range(1, EACH + 1)) for _ in range(TIED)]),
+        "999 ranges with other last ones": ties(count, [ranges(*range(1, EACH), EACH + place) for place in range(TIED)]),
         "1,000 landmarks": parks(1_000, 1),
         "300 landmarks of 14 links": parks(300, 2 * TIED),
         "1,000 landmarks of 14 links": parks(1_000, 2 * TIED),
