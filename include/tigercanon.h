@@ -87,7 +87,7 @@ enum tigercanon_status {
     TIGERCANON_MEMORY = 5     /* there wasn't enough memory */
 };
 
-/* The refusals, with their places. docs/guide.md describes each, with an example. */
+/* The refusals, with their places. docs/refusals.md describes each, with an example. */
 enum tigercanon_number {
     TIGERCANON_UNKNOWN_TYPE = 1,          /* part, line */
     TIGERCANON_LINE_TOO_LONG = 2,         /* part, line */

@@ -1,4 +1,4 @@
-"""The tables of the page, from where the rest of the project has them: the guide's refusals, the columns of docs/format.md and of the
+"""The tables of the page, from where the rest of the project has them: the refusals of docs/refusals.md, the columns of docs/format.md and of the
 tools' differences, the tools' hints and the form of their manifests."""
 
 from __future__ import annotations
@@ -28,7 +28,7 @@ EXAMPLES = {
 
 
 def refusals() -> dict[int, dict[str, Any]]:
-    """The refusals by their numbers: the name, the meanings of the places, and what the guide says."""
+    """The refusals by their numbers: the name, the meanings of the places, and what the page on refusals says."""
     found = {}
     text = explanations.page()
     sections = explanations.sections(text)

@@ -1,4 +1,4 @@
-// The guide's text about a refusal as elements: paragraphs, lists, indented blocks, and in them emphasis, code and links, whose targets
+// The text of docs/refusals.md about a refusal as elements: paragraphs, lists, indented blocks, and in them emphasis, code and links, whose targets
 // aren't here.
 import { h } from "./dom.js";
 

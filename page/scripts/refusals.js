@@ -1,4 +1,4 @@
-// Refusals: the program's line for a fault, and what its places mean. The table comes from the guide's headings.
+// Refusals: the program's line for a fault, and what its places mean. The table comes from the headings of docs/refusals.md.
 import { REFUSALS } from "./tables.js";
 
 export const refusalOf = (fault) => REFUSALS[fault.number];

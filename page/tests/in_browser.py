@@ -152,8 +152,8 @@ def try_refusals(page: Page) -> None:
         page.browser.text("figcaption"),
     )
     page.equal("a right value", "500".rjust(10), page.browser.evaluate("document.querySelector('.example').textContent"))
-    section = (ROOT / "docs/guide.md").read_text().partition("### `refused 4 BadNumber PART LINE COLUMN`")[2].strip()
-    page.holds("the guide's text", page.browser.text(".guide").startswith(section[:40]), page.browser.text(".guide"))
+    section = (ROOT / "docs/refusals.md").read_text().partition("### `refused 4 BadNumber PART LINE COLUMN`")[2].strip()
+    page.holds("the text of the page on refusals", page.browser.text(".guide").startswith(section[:40]), page.browser.text(".guide"))
     for path in sorted((EXAMPLES / "refused").glob("*.txt")):
         page.show([path])
         page.equal(path.name, page.printed("check", path), page.browser.text(".refusal .line code"))

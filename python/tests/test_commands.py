@@ -136,10 +136,10 @@ class TestProgram:
 
 
 def test_installing(room: Path) -> None:
-    """The package installs with Debian's hatchling, without a network, and has all of its files, the guide and its command."""
+    """The package installs with Debian's hatchling, without a network, and has all of its files, the page on refusals and its command."""
     pytest.importorskip("hatchling", reason="python3-hatchling isn't installed")
     shutil.copytree(PACKAGE, "python", ignore=shutil.ignore_patterns("tests", "__pycache__"))
-    put("docs/guide.md", (ROOT / "docs/guide.md").read_bytes())
+    put("docs/refusals.md", (ROOT / "docs/refusals.md").read_bytes())
     install = "-m pip install --no-build-isolation --no-index --no-deps --target site ./python"
     made = run([sys.executable, *install.split()])
     assert made.status == 0, made.err

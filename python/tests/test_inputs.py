@@ -13,7 +13,7 @@ from testing import ROOT, TYPES
 from tigercanon import commands
 from tigercanon.diff.page import ASSETS
 from tigercanon.errors import Failure
-from tigercanon.explanations import guide
+from tigercanon.explanations import refusals_page
 from tigercanon.inputs import Inputs
 from tigercanon.layout import file_name
 from tigercanon.manifests import Line, written
@@ -191,7 +191,7 @@ def test_standard_output(archive: Path, stream: str, command: str) -> None:
     """Standard output and standard error aren't appended to a file that is read. Nothing is reported if they are one."""
     for name in "mn":
         put(name, f"# tigercanon form 1\n{1:064}  in/TGR01001\n".encode())
-    file = str(guide()) if command == "explain 9" else STREAMS[command]
+    file = str(refusals_page()) if command == "explain 9" else STREAMS[command]
     os.symlink(os.path.abspath(file), "link")
     before, ended = files(archive), shell(f"tigercanon-tools {command} {stream}>>link")
     assert (ended.status, ended.out) == (2, "")

@@ -88,12 +88,12 @@ def test_examples_of_refusals() -> None:
         assert refusal.line == str(refusal) == f"refused {told} in set 2"
 
 
-def test_lines_of_the_guide() -> None:
-    """The lines that the guide shows with the refusals 1 to 6."""
-    guide = (ROOT / "docs/guide.md").read_text("utf-8").replace("\n###", "\n###\n###")
+def test_lines_of_the_page_on_refusals() -> None:
+    """The lines that the page on refusals shows with the refusals 1 to 6."""
+    page = (ROOT / "docs/refusals.md").read_text("utf-8").replace("\n###", "\n###\n###")
     heading = r"^### `refused (\d) (\w+) PART LINE(?: COLUMN)?`$(.*?)^###"
     found = {}
-    for number, name, text in re.findall(heading, guide, re.M | re.S):
+    for number, name, text in re.findall(heading, page, re.M | re.S):
         shown = re.search(r"^    (.*)$", text, re.M)
         assert shown
         with pytest.raises(tigercanon.Refusal) as raised:

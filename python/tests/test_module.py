@@ -27,7 +27,7 @@ from tigercanon.explanations import SECTION, page
 TEXT = b"1 first line\n2 second line: \xe9\n"
 
 REFUSALS = [found for found in SECTION.findall(page()) if found[0] not in ("8", "10")]
-"""Each refusal that a call can report: its number, its name and its places, as the guide has them."""
+"""Each refusal that a call can report: its number, its name and its places, as docs/refusals.md has them."""
 
 
 @pytest.fixture(scope="module", name="library")

@@ -33,7 +33,7 @@ DIFFERENT = 1  # the status of compare for two maps. Higher ones are refusals.
 
 
 class Refusal(Exception):
-    """The set is rejected. docs/guide.md describes each refusal and what to do about it.
+    """The set is rejected. docs/refusals.md describes each refusal and what to do about it.
 
     number  1 to 7 for a faulty line, 9 if memory ran out (OutOfMemory), 11 to 24 if the records don't fit together
     name    the refusal's name, for example "BadNumber"

@@ -1,4 +1,4 @@
-"""What a refusal means, an example line and what to do, from the user guide's own sections; and the command explain."""
+"""What a refusal means, an example line and what to do, from the page on refusals; and the command explain."""
 
 from __future__ import annotations
 
@@ -24,14 +24,14 @@ FIELDS = ("TLID", "FEAT", "LAND", "CENID", "POLYID")
 HERE = Path(__file__).resolve().parent
 
 
-def guide() -> Path:
-    """The user guide: an installed package has a copy of it, and a clone and a release have the page itself."""
+def refusals_page() -> Path:
+    """Returns the path of the page on refusals: an installed package has a copy of it, and a clone and a release have the page itself."""
     copy = HERE / "refusals.md"
-    return copy if copy.exists() else HERE.parent.parent / "docs/guide.md"
+    return copy if copy.exists() else HERE.parent.parent / "docs/refusals.md"
 
 
 def page() -> str:
-    return guide().read_text(encoding="utf-8")
+    return refusals_page().read_text(encoding="utf-8")
 
 
 def sections(text: str) -> dict[int, str]:
@@ -98,7 +98,7 @@ def explanation(refusal: str, name: str | None, program: str | None, resources: 
 
 def run(options: argparse.Namespace, console: Console, resources: Resources) -> int:
     """Explains a refusal, and shows its place if the last word is the name of a county; or the refusal that a county gets."""
-    resources.inputs([str(guide())])
+    resources.inputs([str(refusals_page())])
     *line, name = options.line
     county = found_there(name)
     resources.inputs(file.place for file in (county.places if county else ()))

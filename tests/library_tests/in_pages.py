@@ -11,27 +11,27 @@ from library_tests.support import WARNINGS, Tests, tools
 from testing import ROOT, Answer, run
 
 REFUSED = ROOT / "examples/broken.txt"
-GUIDE = (ROOT / "docs/guide.md").read_text(encoding="utf-8")
+REFUSALS_PAGE = (ROOT / "docs/refusals.md").read_text(encoding="utf-8")
 PAGE = (ROOT / "docs/c.md").read_text(encoding="utf-8")
 HEADER_CALLER = Path(__file__).resolve().parent / "header.c"
 PROTOTYPES = Path(__file__).resolve().parent / "prototypes.h"
-# What only the row of each status says in the guide's table of exit statuses.
+# What only the row of each status says in the table of exit statuses in docs/commands.md.
 STATUSES = {
     "DONE": r"^done",
     "DIFFERENT": r"\bdifferent maps",
     "REFUSED": r"\bset is (?:refused|rejected)",
     "MEMORY": r"\bmemory\b",
 }
-# The guide's refusals by number, name and places, without those that no call has: a device and standard output.
-REFUSALS = [row for row in re.findall(r"^### `refused (\d+) (\w+)([^`]*)`", GUIDE, re.M) if row[0] not in ("8", "10")]
+# The refusals by number, name and places, without those that no call has: a device and standard output.
+REFUSALS = [row for row in re.findall(r"^### `refused (\d+) (\w+)([^`]*)`", REFUSALS_PAGE, re.M) if row[0] not in ("8", "10")]
 # The name of a constant that isn't that of its refusal.
 NAMED_OTHERWISE = {"MEMORY": "OUT_OF_MEMORY"}
 MOST = 2**64 - 1
 
 
-def section(heading: str) -> str:
-    """The text below a heading of the guide."""
-    return GUIDE.partition(f"\n## {heading}\n")[2].partition("\n## ")[0]
+def exit_statuses() -> str:
+    """Returns the section of docs/commands.md about exit statuses."""
+    return (ROOT / "docs/commands.md").read_text(encoding="utf-8").partition("\n## Exit statuses\n")[2].partition("\n## ")[0]
 
 
 def blocks() -> list[str]:
@@ -75,7 +75,7 @@ def try_input(tests: Tests, place: Path) -> None:
 
 
 def faults() -> Iterator[tuple[str, str]]:
-    """Faults as number, set, record type, CENID and three numbers, and the line of each: each refusal of the guide, with its places, of
+    """Faults as number, set, record type, CENID and three numbers, and the line of each: each refusal of the page, with its places, of
     no set and of either one, with usual numbers and with the greatest."""
     yield "0 0 - - 0 0 0", ""
     types, cenids = itertools.cycle("PI4162578"), itertools.cycle(["3036303031", "2020202020", "41fffebcad"])
@@ -88,8 +88,8 @@ def faults() -> Iterator[tuple[str, str]]:
 
 
 def try_constants(tests: Tests, header: Path, shown: Answer) -> None:
-    """Each constant has the value that the guide has, and the header has no other."""
-    rows = re.findall(r"^\| (\d+) \| (.*) \|$", section("Exit statuses"), re.M)
+    """Each constant has the value that the pages have, and the header has no other."""
+    rows = re.findall(r"^\| (\d+) \| (.*) \|$", exit_statuses(), re.M)
     wanted = {name: ", ".join(status for status, text in rows if re.search(said, text, re.I)) for name, said in STATUSES.items()}
     for number, name, _ in REFUSALS:
         constant = re.sub(r"(?<!^)(?=[A-Z])", "_", name).upper()
@@ -116,7 +116,7 @@ def try_prototypes(tests: Tests) -> None:
 
 
 def try_header(tests: Tests) -> None:
-    """The header for C alone: its constants against the guide, the lines that it makes, and how it frees a text."""
+    """The header for C alone: its constants against the pages, the lines that it makes, and how it frees a text."""
     header = tests.library / "include/tigercanon.h"
     for compiler in tools("gcc", "clang"):
         made = tests.room / f"header-by-{compiler}"
@@ -135,7 +135,7 @@ def run_all(tests: Tests) -> None:
     readme = (ROOT / "README.md").read_text(encoding="utf-8")
     fingerprint = re.search(r"fingerprint --stem examples/autauga/TGR01001\n +([0-9a-f]{64})\n", readme)[1]
     # A folder like the root of the repository, with the library in the place that the page names.
-    place = tests.room / "guide"
+    place = tests.room / "page"
     (place / "out").mkdir(parents=True)
     (place / "out/library").symlink_to(tests.library)
     (place / "examples").symlink_to(ROOT / "examples")
