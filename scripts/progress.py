@@ -4,7 +4,7 @@ import re
 import time
 from typing import Iterable
 
-from crates import weight_of
+from dev.crates import weight_of
 
 SO_FAR = re.compile(r"so far: (\d+) of (\d+) functions")
 # A run reports its progress at least this often, in seconds.

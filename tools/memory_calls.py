@@ -9,7 +9,7 @@ tools/check-memory compares them with tools/memory-calls.txt."""
 import re
 from typing import Any, Iterator, NamedTuple
 
-import contracts
+from dev import contracts
 
 # The kit's calls that make or grow a collection.
 GROWING = set(

@@ -16,7 +16,7 @@ from pathlib import Path
 from typing import Any
 
 from browser import Browser
-from testing import ROOT, Tests, make_county, run
+from dev.testing import ROOT, Tests, make_county, run
 
 EXAMPLES = ROOT / "examples"
 SECONDS = 5.0  # for 100,000 chains, if nothing else runs

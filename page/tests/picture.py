@@ -10,8 +10,8 @@ import tempfile
 from pathlib import Path
 
 from browser import Browser
+from dev.testing import ROOT
 from PIL import Image
-from testing import ROOT
 
 TOWN = ROOT / "examples/two-maps"
 NUMBER = 14  # the difference that is opened

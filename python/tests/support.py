@@ -17,8 +17,8 @@ from pathlib import Path
 from typing import Any, Callable, Iterator, Mapping, NamedTuple, Sequence
 
 import pytest
-from testing import PROGRAM as BUILT
-from testing import ROOT, TYPES
+from dev.testing import PROGRAM as BUILT
+from dev.testing import ROOT, TYPES
 
 PACKAGE = ROOT / "python"
 FAKES = PACKAGE / "tests/fakes"

@@ -7,8 +7,8 @@ import sys
 from pathlib import Path
 
 import pytest
+from dev.testing import ROOT, run
 from support import built_program, environment
-from testing import ROOT, run
 
 import tigercanon
 from tigercanon import _library

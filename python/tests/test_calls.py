@@ -6,8 +6,8 @@ from pathlib import Path
 from typing import Callable
 
 import pytest
+from dev.testing import ROOT, await_that
 from support import Four, complete, digest, left_behind, listed, manifest, processes, put, zip_up
-from testing import ROOT, await_that
 
 import tigercanon
 from tigercanon.errors import Failure

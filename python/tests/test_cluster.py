@@ -13,11 +13,11 @@ from pathlib import Path
 from typing import Any, Iterator, NamedTuple
 
 import pytest
+from dev.maps import written
+from dev.testing import ROOT, TYPES, await_that, by_type
 from differences.changes import made_county
-from maps import written
 from support import FAKES, Process, begin, built_program, call, count_of_lines, die_with_the_test, end
 from support import kill_group, left_behind, listed, processes, put, zip_up
-from testing import ROOT, TYPES, await_that, by_type
 
 from tigercanon import engines
 from tigercanon.counties import Finder

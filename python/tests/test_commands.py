@@ -10,8 +10,8 @@ import sys
 from pathlib import Path
 
 import pytest
+from dev.testing import ROOT, run, script
 from support import HEAD, NAME, PACKAGE, TOOLS, call, complete, manifest, put
-from testing import ROOT, run, script
 
 from tigercanon.explanations import explained, page, sections
 from tigercanon.hints import hint

@@ -7,8 +7,8 @@ from itertools import product
 from pathlib import Path
 
 import pytest
+from dev.testing import ROOT, TYPES
 from support import NAME, Ended, call, complete, packed, put, shell
-from testing import ROOT, TYPES
 
 from tigercanon import commands
 from tigercanon.diff.page import ASSETS

@@ -13,8 +13,8 @@ from pathlib import Path
 from typing import Any, Iterator
 
 import pytest
+from dev.testing import ROOT, TYPES, Answer, make_county, run, script
 from support import environment, packed, put
-from testing import ROOT, TYPES, Answer, make_county, run, script
 
 import tigercanon
 from tigercanon import _library

@@ -17,8 +17,8 @@ from pathlib import Path
 from typing import Any, Callable, Iterator
 
 import pytest
+from dev.testing import ROOT, TYPES, Answer, run
 from support import FAKES, packed, put
-from testing import ROOT, TYPES, Answer, run
 
 import tigercanon
 from tigercanon import _library

@@ -5,8 +5,8 @@ import shutil
 from pathlib import Path
 
 import pytest
+from dev.testing import ROOT, await_that
 from support import HEAD, NAME, Four, begin, call, count_of_lines, end, left_behind, limit_files, put, zip_up
-from testing import ROOT, await_that
 
 
 def test_two_runs(four: Four) -> None:

@@ -9,9 +9,9 @@ from pathlib import Path
 from typing import Callable, Iterable
 
 import pytest
-from maps import Chain, County
-from random_counties import Maker, lines_of
-from testing import LENGTHS, ROOT, Answer, run
+from dev.maps import Chain, County
+from dev.random_counties import Maker, lines_of
+from dev.testing import LENGTHS, ROOT, Answer, run
 
 SEED = 24
 """That of a county that is refused. In the next one each flag hides something."""

@@ -4,7 +4,7 @@ import shutil
 from pathlib import Path
 
 import pytest
-from sessions import Session, sessions_of
+from dev.sessions import Session, sessions_of
 from support import PACKAGE, left_behind, shell
 
 SESSIONS = [session for file in sorted((PACKAGE / "tests/sessions").glob("*.txt")) for session in sessions_of(file)]

@@ -8,9 +8,9 @@ from contextlib import suppress
 from pathlib import Path
 
 import pytest
+from dev.testing import await_that
 from support import HEAD, NAME, Process, begin, call, complete, count_of_lines, end, left_behind, limit_files, listed, manifest
 from support import processes, put, zip_up
-from testing import await_that
 
 SIGNALS = [signal.SIGINT, signal.SIGTERM, signal.SIGHUP, signal.SIGQUIT, signal.SIGUSR1, signal.SIGXCPU]
 

@@ -6,8 +6,8 @@ import os
 import re
 from pathlib import Path
 
+from dev.testing import ROOT, Answer, make_county, run, script
 from library_tests.support import WARNINGS, Tests, tools
-from testing import ROOT, Answer, make_county, run, script
 
 CALLS = ["check", "compare", "fingerprint", "normalise", "respell"]
 AUTAUGA = ROOT / "examples/autauga/all.txt"

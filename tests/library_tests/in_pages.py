@@ -7,8 +7,8 @@ import re
 from pathlib import Path
 from typing import Iterator
 
+from dev.testing import ROOT, Answer, run
 from library_tests.support import WARNINGS, Tests, tools
-from testing import ROOT, Answer, run
 
 REFUSED = ROOT / "examples/broken.txt"
 REFUSALS_PAGE = (ROOT / "docs/refusals.md").read_text(encoding="utf-8")

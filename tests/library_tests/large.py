@@ -7,9 +7,9 @@ import os
 import sys
 from pathlib import Path
 
+from dev.measuring import TURNED, use_large_pages
+from dev.testing import make_county, run, script
 from library_tests.support import SUFFIXES, Tests
-from measuring import TURNED, use_large_pages
-from testing import make_county, run, script
 
 CHAINS = 100_000
 

@@ -8,8 +8,8 @@ import sys
 from pathlib import Path
 from typing import Iterable
 
-import testing
-from testing import ROOT, TYPES, Answer, run
+from dev import testing
+from dev.testing import ROOT, TYPES, Answer, run
 
 CALLER = Path(__file__).resolve().parent / "caller.c"
 SUFFIXES = [f".RT{kind}" for kind in TYPES]

@@ -16,7 +16,7 @@ from pathlib import Path
 from typing import Any
 
 import pytest
-from testing import ROOT
+from dev.testing import ROOT
 
 from .reports import EXAMPLE, LEAFLET, differing
 

@@ -8,9 +8,9 @@ from collections import Counter
 from pathlib import Path
 from typing import Iterator, NamedTuple, Sequence, TypeVar
 
-from maps import FILE, Chain, County, Landmark, Point, Polygon, written
+from dev.maps import FILE, Chain, County, Landmark, Point, Polygon, written
+from dev.testing import script
 from support import put
-from testing import script
 
 from tigercanon.diff.columns import CHAIN
 

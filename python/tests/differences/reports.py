@@ -6,9 +6,9 @@ from itertools import accumulate
 from pathlib import Path
 from typing import Any
 
-from maps import Point
+from dev.maps import Point
+from dev.testing import ROOT
 from support import Ended, built_program, call
-from testing import ROOT
 
 from .changes import SUBJECTS, Difference, Place
 

@@ -8,7 +8,7 @@ import random
 from collections import Counter
 from typing import Any, Callable, Hashable, Optional, TypeVar
 
-from maps import Chain, County, Landmark, Point, Polygon, Values, turned
+from dev.maps import Chain, County, Landmark, Point, Polygon, Values, turned
 
 from tigercanon.diff.columns import CHAIN, LANDMARK, NAME, RANGE, TOPOLOGY, Layout
 

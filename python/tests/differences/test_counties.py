@@ -9,9 +9,9 @@ from itertools import product
 from pathlib import Path
 
 import pytest
-from maps import FILE, Landmark, Point, written
+from dev.maps import FILE, Landmark, Point, written
+from dev.testing import run
 from support import packed, put
-from testing import run
 
 from tigercanon.diff.words import TIED
 

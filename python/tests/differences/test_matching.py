@@ -9,8 +9,8 @@ from html.parser import HTMLParser
 from typing import Any, Callable, Optional
 
 import pytest
-from maps import Chain, County, Landmark, Polygon, turned, written
-from testing import ROOT
+from dev.maps import Chain, County, Landmark, Polygon, turned, written
+from dev.testing import ROOT
 
 from tigercanon.diff import page
 from tigercanon.diff.columns import CHAIN, LANDMARK, LENGTHS, NAME, POLYGON, RANGE, TOPOLOGY

@@ -9,9 +9,9 @@ from pathlib import Path
 from typing import Iterator
 
 import pytest
-from maps import County
+from dev.maps import County
+from dev.testing import ROOT
 from support import TOOLS, built_program, environment
-from testing import ROOT
 
 from .browser import Browser, needs_browser, open_example
 from .changes import Changing, made_county, much_changed, split_maps

@@ -5,7 +5,7 @@ import pickle
 from typing import Iterator
 
 import pytest
-from maps import County, turned, written
+from dev.maps import County, turned, written
 
 import tigercanon
 from tigercanon import _library

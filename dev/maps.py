@@ -4,14 +4,10 @@ records in another order and packing. All that is one map."""
 from __future__ import annotations
 
 import random
-import sys
 from dataclasses import dataclass, field, replace
-from pathlib import Path
 from typing import Any, Iterator, Optional, Sequence
 
-sys.path.insert(0, str(Path(__file__).resolve().parent.parent / "python"))
-
-from tigercanon.diff.columns import CHAIN, LANDMARK, NAME, POLYGON, RANGE, TOPOLOGY, Layout  # noqa: E402
+from tigercanon.diff.columns import CHAIN, LANDMARK, NAME, POLYGON, RANGE, TOPOLOGY, Layout
 
 FILE = "01001"
 

@@ -9,7 +9,8 @@ import shutil
 from pathlib import Path
 from typing import Callable, Optional
 
-ROOT = Path(__file__).resolve().parent.parent
+from dev import ROOT as ROOT
+
 PARTS = ("src", "specs", "proofs")
 
 

@@ -7,7 +7,7 @@ they need: where an item begins and ends, which clauses it has, and which names 
 import re
 from collections import namedtuple
 
-from testing import ROOT
+from dev.testing import ROOT
 
 IMPORT = re.compile(r"\buse\s+Rattle\.([\w.]+?)(?:\.\{([^}]*)\}|\s+as\s+(\w+)|;|$)", re.M)
 # A name that is used, with the module before it. A name after a dot is a field.

@@ -14,7 +14,7 @@ import threading
 from pathlib import Path
 from typing import Iterable, Iterator, NamedTuple, Optional
 
-from crates import PARTS, Crates, Notes, words_for_rattle
+from dev.crates import PARTS, Crates, Notes, words_for_rattle
 
 # To be raised if results that earlier rules kept no longer count.
 RULES = "1"

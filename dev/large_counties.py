@@ -12,8 +12,8 @@ import random
 from pathlib import Path
 from typing import Any, Callable, Iterable, Iterator, NamedTuple, Optional, Sequence
 
-import maps
-from testing import LENGTHS
+from dev import maps
+from dev.testing import LENGTHS
 
 LINES_A_PIECE = 10_000
 FILE = b"01001"

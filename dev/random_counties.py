@@ -11,9 +11,9 @@ import re
 from collections import Counter, defaultdict
 from typing import Callable, NamedTuple, Optional, Sequence, TypeVar
 
-import maps
-from maps import Chain, County, Landmark, Point, Polygon, Values
-from testing import LENGTHS, ROOT, TYPES
+from dev import maps
+from dev.maps import Chain, County, Landmark, Point, Polygon, Values
+from dev.testing import LENGTHS, ROOT, TYPES
 from tigercanon.diff.columns import CHAIN, LANDMARK, NAME, RANGE, TOPOLOGY, Column, Layout
 
 T = TypeVar("T")

@@ -11,7 +11,8 @@ from pathlib import Path
 from types import ModuleType
 from typing import Any, Callable, NamedTuple, Sequence
 
-ROOT = Path(__file__).resolve().parent.parent
+from dev import ROOT as ROOT
+
 PROGRAM = ROOT / "crates/tigercanon_main/out/tigercanon_main"
 LENGTHS = {"1": 228, "2": 208, "4": 58, "5": 56, "6": 76, "7": 74, "8": 36, "I": 127, "P": 45}
 TYPES = "".join(LENGTHS)
@@ -123,11 +124,11 @@ def by_type(text: bytes) -> dict[str, bytes]:
 
 
 def files_of(root: Path) -> set[str]:
-    """The files of a repository; without git all that are there."""
+    """The files of a repository, without links; without git all that are there."""
     done = run(["git", "ls-files", "--cached", "--others", "--exclude-standard"], cwd=root)
     if done.status == 0:
-        return set(done.out.decode().splitlines())
-    return {str(path.relative_to(root)) for path in root.rglob("*") if path.is_file()}
+        return {name for name in done.out.decode().splitlines() if not (root / name).is_symlink()}
+    return {str(path.relative_to(root)) for path in root.rglob("*") if path.is_file() and not path.is_symlink()}
 
 
 def sources_line(root: Path) -> str:

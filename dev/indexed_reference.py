@@ -2,7 +2,7 @@
 
 from typing import Any
 
-from testing import script
+from dev.testing import script
 
 Record = dict[str, Any]
 MOST_INDICES = 64

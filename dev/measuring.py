@@ -7,7 +7,7 @@ import tempfile
 import time
 from typing import NamedTuple, Sequence
 
-from testing import ROOT, Answer
+from dev.testing import ROOT, Answer
 
 TURNED = ("--shuffle", "--renumber", "--turn")
 
