@@ -30,6 +30,11 @@ class Session(NamedTuple):
     steps: list[Step]
 
 
+def steps_of(text: str) -> list[Step]:
+    """Returns the commands of a text with their answers."""
+    return [Step(command, re.sub("(?m)^    ", "", answer).rstrip("\n")) for command, answer in STEP.findall(text)]
+
+
 def sessions_of(file: Path) -> Iterator[Session]:
     """The sessions of a file: the lines before the first "==" are one by the name of the file."""
     for block in re.split(r"(?m)^== ", f"{file.stem}\n{file.read_text('utf-8')}"):
@@ -37,6 +42,5 @@ def sessions_of(file: Path) -> Iterator[Session]:
         for row in rows or [""]:
             values: list[str] = row.split(" :: ")
             name, _, text = re.sub(r"\{(\d)\}", lambda found: (values + [""] * 9)[int(found[1])], whole).partition("\n")
-            steps = [Step(command, re.sub("(?m)^    ", "", answer).rstrip("\n")) for command, answer in STEP.findall(text)]
-            if steps:
+            if steps := steps_of(text):
                 yield Session(name, steps)
