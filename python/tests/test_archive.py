@@ -23,7 +23,7 @@ EXAMPLES = re.findall(
 @pytest.fixture(autouse=True)
 def archive(room: Path, program: str) -> Path:
     county = (ROOT / "examples/autauga/canonical.txt").read_text()
-    for edition in ("1990", "2006"):
+    for edition in ("2004", "2006"):
         os.mkdir(edition)
         Path(edition, "TGR01001.txt").write_text(county)
         Path(edition, "TGR01003.txt").write_text(county.replace("Washington", "Changed   ") if edition == "2006" else county)
@@ -45,12 +45,12 @@ def test_examples(number: str, code: str, printed: str) -> None:
 def test_failures() -> None:
     """What the command line reports is raised."""
     with pytest.raises(Failure, match="nothing: no such file, folder or county"):
-        list(tigercanon.differences("nothing", "1990/TGR01001"))
+        list(tigercanon.differences("nothing", "2004/TGR01001"))
     with pytest.raises(Failure, match="nothing: No such file or directory"):
         tigercanon.changes("nothing", "nothing")
     with pytest.raises(Failure, match="can't be run"):
-        list(tigercanon.manifest("1990", program="./nothing"))
-    assert list(tigercanon.differences("1990/TGR01001", "2006/TGR01001")) == []
+        list(tigercanon.manifest("2004", program="./nothing"))
+    assert list(tigercanon.differences("2004/TGR01001", "2006/TGR01001")) == []
     with pytest.raises(AttributeError):
         tigercanon.nothing
 
@@ -59,7 +59,7 @@ def test_a_table_for_gdal() -> None:
     """GDAL reads both forms of a table, with the chains as lines."""
     if not shutil.which("ogrinfo"):
         pytest.skip("gdal-bin isn't installed")
-    tools = [sys.executable, "-B", "-m", "tigercanon", "table", "1990/TGR01001.txt"]
+    tools = [sys.executable, "-B", "-m", "tigercanon", "table", "2004/TGR01001.txt"]
     for name, words in {"csv": "", "geojson": "--geojson"}.items():
         assert run([*tools, *words.split(), "-o", f"table.{name}"], env=environment(TIGERCANON=built_program())).status == 0
         told = run(["ogrinfo", "-q", "-al", f"table.{name}"]).out.decode()
