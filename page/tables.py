@@ -75,6 +75,14 @@ def record_types() -> dict[str, dict[str, Any]]:
     return made
 
 
+def required() -> dict[str, list[list[Any]]]:
+    """The fields that a record of each type must have: the first and the last column, and whether it is a coordinate."""
+    return {
+        kind: [[field.first, field.last, field.is_point] for field in its if field.is_required]
+        for kind, its in layout.NUMBERS.items()
+    }
+
+
 def contents() -> dict[str, list[dict[str, Any]]]:
     """The columns with the content of a map, which maps are compared by."""
     named = ("CHAIN", "NAME", "RANGE", "LANDMARK", "TOPOLOGY", "POLYGON")
@@ -102,6 +110,7 @@ def tables() -> dict[str, Any]:
         "RECORD_TYPES": record_types(),
         "CONTENTS": contents(),
         "LENGTHS": columns.LENGTHS,
+        "REQUIRED": required(),
         "HINTS": [[list(beginning), text] for beginning, text in hints.BEGINNINGS],
         "KINDS": words.KINDS,
         "ONE_MAP": words.ONE_MAP,

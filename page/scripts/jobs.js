@@ -1,4 +1,6 @@
-// Workers: each job has one of its own, so that its memory is given back when it ends.
+// Workers: each job has one of its own, so that its memory is given back when it ends. Jobs of many small counties share some.
+
+const MOST_SHARED = 20_000_000; // bytes that a worker reads before it is replaced
 
 let scriptAddress;
 let moduleReady;
@@ -73,5 +75,32 @@ export async function job(name, question, onstage, begun = () => {}) {
     return await assistant.ask(name, { ...question, module: await engineModule() });
   } finally {
     assistant.end();
+  }
+}
+
+// Workers for many jobs. Each does one after another.
+export class Crew {
+  constructor() {
+    this.idle = [];
+  }
+
+  // One job that reads so many bytes. `begun` is called with what can stop it.
+  async job(name, question, bytes, begun) {
+    const { assistant, read } = this.idle.pop() ?? { assistant: new Assistant(), read: 0 };
+    begun(assistant);
+    let isKept = false;
+    try {
+      const answer = await assistant.ask(name, { ...question, module: await engineModule() });
+      isKept = read + bytes < MOST_SHARED;
+      return answer;
+    } finally {
+      if (isKept) this.idle.push({ assistant, read: read + bytes });
+      else assistant.end();
+    }
+  }
+
+  end() {
+    for (const { assistant } of this.idle) assistant.end();
+    this.idle = [];
   }
 }

@@ -1,7 +1,7 @@
 // Manifests in the form of tigercanon-tools: a line with the fingerprint, two blanks and the name for each county, in the order of the
 // names, behind a first line with the form of the texts and the flags that leave fields out. The tools also write comments: the sizes
 // and times of files, and counties that were refused. They are read over here.
-import { keyOf } from "./names.js";
+import { byBytes, keyOf } from "./names.js";
 import { FLAGS, FORM, IS_PROVED, UNPROVED } from "./tables.js";
 import { Unreadable } from "./zips.js";
 
@@ -13,16 +13,10 @@ export const flagsOf = (masks) => FLAGS.filter((flag) => masks[flag.slice("--no-
 
 const heading = (flags) => [FORM, ...flags].join(" ");
 
-const inOrder = (one, other) => {
-  const [a, b] = [one, other].map((line) => new TextEncoder().encode(line));
-  const at = a.findIndex((byte, place) => byte !== b[place]);
-  return at < 0 ? a.length - b.length : a[at] - (b[at] ?? -1);
-};
-
 // A manifest of these counties, each with its fingerprint and its stem.
 export function manifestOf(counties, masks) {
   const lines = counties.map(({ fingerprint, stem }) => ({ stem, line: `${fingerprint}  ${stem}` }));
-  lines.sort((one, other) => inOrder(one.stem, other.stem) || inOrder(one.line, other.line));
+  lines.sort((one, other) => byBytes(one.stem, other.stem) || byBytes(one.line, other.line));
   const mark = IS_PROVED ? [] : [UNPROVED];
   return [heading([...mark, ...flagsOf(masks)]), ...lines.map(({ line }) => line)].map((line) => `${line}\n`).join("");
 }
@@ -53,18 +47,20 @@ function masksOf(line) {
   return flags && { sources: flags.includes(FLAGS[0]), reserved: flags.includes(FLAGS[1]) };
 }
 
-// How counties compare with a manifest: OK, FAILED, MISSING or NEW for each name. Names must be the same; if none is, counties are
-// matched by their names without folder, case and ending. A county without a fingerprint has failed.
+// How counties compare with a manifest: OK, FAILED, MISSING or NEW for each name, and whether one that failed has another map. Names must
+// be the same; if none is, counties are matched by their names without folder, case and ending. A county without a fingerprint has failed.
 export function verified(manifest, counties) {
-  const isSame = counties.some(({ stem }) => manifest.counties.some((line) => line.stem === stem));
-  const key = isSame ? (stem) => stem : keyOf;
+  const names = new Set(manifest.counties.map(({ stem }) => stem));
+  const isByName = counties.some(({ stem }) => names.has(stem));
+  const key = isByName ? (stem) => stem : keyOf;
   const there = new Map(counties.map((county) => [key(county.stem), county]));
   const known = new Set(manifest.counties.map(({ stem }) => key(stem)));
   const lines = manifest.counties.map(({ stem, fingerprint }) => {
     const county = there.get(key(stem));
-    const state = !county ? "MISSING" : county.fingerprint === fingerprint ? "OK" : "FAILED";
-    return { stem: county?.stem ?? stem, state };
+    if (!county) return { stem, state: "MISSING" };
+    if (county.fingerprint === fingerprint) return { stem: county.stem, state: "OK" };
+    return { stem: county.stem, state: "FAILED", wanted: fingerprint, isOtherMap: Boolean(county.fingerprint) };
   });
   const others = counties.filter(({ stem }) => !known.has(key(stem))).map(({ stem }) => ({ stem, state: "NEW" }));
-  return { isByName: isSame, lines: [...lines, ...others] };
+  return { isByName, lines: [...lines, ...others] };
 }

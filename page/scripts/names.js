@@ -1,6 +1,7 @@
 // The names of a county's files.
 
 const COUNTY_FILE = /^(.+)\.(?:RT([0-9A-Z])|ZIP)$/is;
+const MAC_FOLDER = "__MACOSX";
 
 // The stem of a path: the name of a county's file or zip without its ending.
 export const stemOf = (path) => COUNTY_FILE.exec(path)?.[1] ?? path;
@@ -13,11 +14,27 @@ export function kindOf(path) {
 
 export const baseOf = (path) => path.slice(path.lastIndexOf("/") + 1);
 
+// A path that is the same for names that differ only in case.
+export const foldedName = (path) => path.slice(0, path.length - baseOf(path).length) + baseOf(path).toUpperCase();
+
+// Whether a file is none of a county's, whatever its name: what a Mac leaves beside others, or what is in a hidden folder.
+export function isLeftOut(path) {
+  const folders = path.split("/").slice(0, -1);
+  return /^\._|^\.DS_Store$/.test(baseOf(path)) || folders.includes(MAC_FOLDER) || folders.slice(1).some((name) => name.startsWith("."));
+}
+
 // The name by which counties of two manifests are matched: without folder, case and ending.
-export const keyOf = (stem) => baseOf(stem).replace(/(?<=.)\.[^.]*$/, "").toUpperCase();
+export const keyOf = (stem) => baseOf(stem).replace(/\.gz$/i, "").replace(/(?<=.)\.[^.]*$/, "").toUpperCase();
 
 // The ending under which a skipped file is counted.
 export const endingOf = (path) => (/\.tar\.gz$/i.test(path) ? ".tar.gz" : (/[^./]+(\.[^./]*)$/.exec(path)?.[1] ?? "without an ending"));
+
+// The order of names in manifests: that of their bytes in UTF-8.
+export function byBytes(one, other) {
+  const [a, b] = [one, other].map((name) => new TextEncoder().encode(name));
+  const at = a.findIndex((byte, place) => byte !== b[place]);
+  return at < 0 ? a.length - b.length : a[at] - (b[at] ?? -1);
+}
 
 // The name of a county for files to save: without folders, without the ending of a text, and without letters that file systems refuse.
 export const plainName = (stem) => baseOf(stem).replace(/\.txt$/i, "").replace(/[^\w .()-]+/g, "_") || "county";

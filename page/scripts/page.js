@@ -10,7 +10,8 @@ import { EXAMPLES, IS_PROVED } from "./tables.js";
 import { TwoCounties } from "./two.js";
 
 const byId = (id) => document.getElementById(id);
-const state = { counties: [], manifests: [], skipped: new Map(), view: null, adds: false };
+const MASK_BOXES = ["no-sources", "no-reserved"];
+const state = { counties: [], manifests: [], skipped: new Map(), view: null, adds: false, taking: Promise.resolve(), round: 0 };
 const NEEDED = "This page needs a browser of 2023 or later: Chrome or Edge 103, Firefox 113, Safari 16.4.";
 
 const masksNow = () => ({ sources: byId("no-sources").checked, reserved: byId("no-reserved").checked });
@@ -20,9 +21,16 @@ function setMasks({ sources, reserved }) {
   byId("no-reserved").checked = reserved;
 }
 
+// The masks of a manifest can't be changed while counties are compared with it.
+function fixMasks(masks) {
+  setMasks(masks);
+  for (const id of MASK_BOXES) byId(id).disabled = true;
+}
+
 // Shows what fits the counties that there are.
 function show() {
   state.view?.dispose();
+  for (const id of MASK_BOXES) byId(id).disabled = false;
   const { counties, manifests } = state;
   const isStart = !counties.length && !manifests.length;
   document.body.classList.toggle("at-start", isStart);
@@ -39,7 +47,7 @@ function viewOf(counties, manifests) {
     return new OneCounty(counties[0], masksNow(), { addSecond: () => choose(true), addFirst: () => choose(false) });
   }
   if (counties.length === 2 && !manifests.length) return new TwoCounties(counties, masksNow());
-  return new ManyCounties(state, masksNow(), { open: (county) => open(county), addMore: () => choose(true), setMasks });
+  return new ManyCounties(state, masksNow(), { open: (county) => open(county), addMore: () => choose(true), fixMasks });
 }
 
 // Shows one county of many. The way back is the browser's own.
@@ -62,25 +70,33 @@ function choose(adds) {
   byId("files").click();
 }
 
-// Takes files that were dropped or chosen. A second county comes beside the first one, and more come to a table.
-async function take(promised, adds) {
-  try {
-    const files = await promised;
-    if (!files.length) return;
-    const { counties, manifests, skipped } = await sortedOut(files);
-    if (!counties.length && !manifests.length) return complain(nothingIn(files, skipped));
-    const keeps = adds || (state.counties.length === 1 && counties.length === 1 && !manifests.length) || state.view instanceof ManyCounties;
-    const names = new Set(counties.map(({ stem }) => stem));
-    // Two files of one name are two counties, so the later one gets another name, unless it goes into a table.
-    const kept = keeps ? state.counties : [];
-    if (kept.length === 1 && counties.length === 1 && names.has(kept[0].stem)) counties[0].stem = `${counties[0].stem} (2)`;
-    const first = kept.filter(({ stem }) => !counties.some((county) => county.stem === stem));
-    Object.assign(state, { counties: [...first, ...counties], manifests: [...(keeps ? state.manifests : []), ...manifests], skipped, before: undefined });
-    complain("");
-    show();
-  } catch (error) {
-    complain(error?.message ? `The files can't be read: ${error.message}` : "The files can't be read.");
-  }
+// Takes files that were dropped or chosen, in the order in which they were given, however long some take to be found. What was given
+// before a new start is dropped.
+function take(files, adds) {
+  const { round } = state;
+  const sorting = Promise.resolve(files).then(async (all) => ({ all, found: await sortedOut(all) }));
+  const before = state.taking;
+  state.taking = Promise.allSettled([sorting, before]).then(([{ value, reason }]) => {
+    if (round !== state.round) return;
+    if (reason) complain(reason.message ? `The files can't be read: ${reason.message}` : "The files can't be read.");
+    else if (value.found.counties.length || value.found.manifests.length) put(value.found, adds);
+    else if (value.all.length) complain(nothingIn(value.all, value.found.skipped));
+  });
+  return state.taking;
+}
+
+// Shows counties and manifests: a second county beside the first one, and more in a table. A manifest is compared with what is there.
+function put({ counties, manifests, skipped }, adds) {
+  const isSecond = state.counties.length === 1 && counties.length === 1 && !manifests.length;
+  const keeps = adds || isSecond || !counties.length || state.view instanceof ManyCounties;
+  const kept = keeps ? state.counties : [];
+  const names = new Set(counties.map(({ stem }) => stem));
+  // Two files of one name are two counties, so the later one gets another name, unless it goes into a table.
+  if (kept.length === 1 && counties.length === 1 && names.delete(kept[0].stem)) counties[0].stem = `${counties[0].stem} (2)`;
+  const first = kept.filter(({ stem }) => !names.has(stem));
+  Object.assign(state, { counties: [...first, ...counties], manifests: [...(keeps ? state.manifests : []), ...manifests], skipped, before: undefined });
+  complain("");
+  show();
 }
 
 function nothingIn(files, skipped) {
@@ -104,7 +120,7 @@ async function example(name) {
 }
 
 function startAgain() {
-  Object.assign(state, { counties: [], manifests: [], skipped: new Map(), before: undefined });
+  Object.assign(state, { counties: [], manifests: [], skipped: new Map(), before: undefined, round: state.round + 1 });
   complain("");
   show();
   byId("choose-files").focus();
@@ -137,7 +153,7 @@ function listen() {
     byId("folder").click();
   });
   byId("again").addEventListener("click", startAgain);
-  for (const id of ["no-sources", "no-reserved"]) byId(id).addEventListener("change", () => state.view && show());
+  for (const id of MASK_BOXES) byId(id).addEventListener("change", () => state.view && show());
   for (const button of document.querySelectorAll("[data-example]")) button.addEventListener("click", () => example(button.dataset.example));
 }
 

@@ -1,18 +1,27 @@
 // Reads the parts of a county: in the order of the nine files, or the one file with all records.
+import { isPacked, unzippedStream } from "./first_line.js";
 import { TYPES } from "./tables.js";
-import { checkSize, entriesOf, membersOf, Unreadable, unpacked } from "./zips.js";
+import { checkSize, LARGEST, membersOf, Unreadable, unpacked } from "./zips.js";
 
 // The parts with their names, and notes about files that are missing or empty. `report` is told how far reading has come.
 export async function partsOf(county, report) {
   if (county.trouble) throw new Unreadable(county.trouble);
-  if (county.whole) {
-    checkSize(county.whole.size, "the file has");
-    return { parts: [await readFile(county.whole, reading(report, county.whole.size))], names: [county.whole.name], notes: [...county.notes] };
-  }
+  if (county.whole) return wholeParts(county, report);
   const { files, names } = county.zip ? await unzipped(county.zip, report) : await singles(county.files, report);
+  if (files.has("")) return { parts: [files.get("")], names: [names.get("")], notes: [...notesOnWhole(files.get("")), ...county.notes] };
   const parts = [...TYPES].map((type) => files.get(type) ?? new Uint8Array(0));
   return { parts, names: [...TYPES].map((type) => names.get(type) ?? `.RT${type}`), notes: [...notesOn(files), ...county.notes] };
 }
+
+// A file with all records, which may be packed by gzip.
+async function wholeParts({ whole, notes }, report) {
+  checkSize(whole.size, "the file has");
+  const count = reading(report, whole.size);
+  const bytes = (await isPacked(whole)) ? await unpackedFile(whole, count) : await readFile(whole, count);
+  return { parts: [bytes], names: [whole.name], notes: [...notesOnWhole(bytes), ...notes] };
+}
+
+const notesOnWhole = (bytes) => (bytes.length ? [] : ["the file is empty"]);
 
 const reading = (report, total) => progress(report, "reading", total);
 
@@ -44,6 +53,24 @@ async function readFile(file, count) {
   return bytes;
 }
 
+// The bytes of a file that gzip packed. How many they are is known only at the end.
+async function unpackedFile(file, count) {
+  const [pieces, reader] = [[], unzippedStream(file).getReader()];
+  let size = 0;
+  for (;;) {
+    const { done, value } = await reader.read().catch(() => {
+      throw new Unreadable(`${file.name} can't be unpacked`);
+    });
+    if (done) break;
+    size += value.length;
+    if (size > LARGEST) reader.cancel();
+    checkSize(size, "the file unpacks to");
+    pieces.push(value);
+  }
+  count(file.size);
+  return new Uint8Array(await new Blob(pieces).arrayBuffer());
+}
+
 async function singles(given, report) {
   const kinds = [...TYPES].filter((type) => given[type]);
   const total = kinds.reduce((sum, type) => sum + given[type].size, 0);
@@ -59,7 +86,7 @@ async function singles(given, report) {
 
 async function unzipped(zip, report) {
   report({ stage: "reading", done: 0, total: zip.size });
-  const members = membersOf(await entriesOf(zip));
+  const members = await membersOf(zip);
   const count = progress(report, "unpacking", [...members.values()].reduce((sum, entry) => sum + entry.size, 0));
   const [files, names] = [new Map(), new Map()];
   for (const [type, entry] of members) {

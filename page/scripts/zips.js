@@ -1,24 +1,33 @@
 // Reads zips as TIGER/Line files are distributed. What is unpacked is bounded: never more than a zip's directory announces, and no
 // county of more than LARGEST bytes.
-import { kindOf, stemOf } from "./names.js";
+import { firstLine, isRecord } from "./first_line.js";
+import { isLeftOut, kindOf, stemOf } from "./names.js";
 import { counted } from "./numbers.js";
 import { TYPES } from "./tables.js";
 
 export const LARGEST = 1_000_000_000;
 
 const END_MARK = 0x06054b50;
+const END_64_MARK = 0x06064b50;
+const LOCATOR_MARK = 0x07064b50;
 const ENTRY_MARK = 0x02014b50;
+const FILE_MARK = 0x04034b50;
 const LONGEST_END = 65557;
 const END_BYTES = 22;
+const LOCATOR_BYTES = 20;
+const END_64_BYTES = 56;
 const ENTRY_BYTES = 46;
 const STORED = 0;
 const DEFLATED = 8;
 const LOCKED = 1;
 const UTF_8 = 0x800;
 const BEYOND_32_BITS = 0xffffffff;
+const LARGE_NUMBERS = 1; // the extra field with numbers that 32 bits don't hold
 
 // What can't be read. The message says why, as a user can be told.
 export class Unreadable extends Error {}
+
+const noDirectory = () => new Unreadable("the zip is broken: its directory can't be read");
 
 async function wordsOf(blob, from, to) {
   return new DataView(await blob.slice(from, to).arrayBuffer());
@@ -34,46 +43,72 @@ export async function entriesOf(blob) {
     const start = new Uint8Array(await blob.slice(0, 2).arrayBuffer());
     throw new Unreadable(start[0] === 0x50 && start[1] === 0x4b ? "the zip is cut off" : "it isn't a zip");
   }
-  const count = tail.getUint16(end + 10, true);
-  const [size, at] = [tail.getUint32(end + 12, true), tail.getUint32(end + 16, true)];
-  if (at === BEYOND_32_BITS || count === 0xffff) throw new Unreadable("the zip is too large for this page: unpack it first");
+  const { count, size, at, behind } = (await largeEnd(blob, from + end)) ?? {
+    count: tail.getUint16(end + 10, true), size: tail.getUint32(end + 12, true), at: tail.getUint32(end + 16, true), behind: from + end,
+  };
   // What stands before a zip, such as a program that unpacks it, moves every place in it.
-  const moved = from + end - size - at;
-  if (moved < 0) throw new Unreadable("the zip is broken: its directory can't be read");
-  const directory = await wordsOf(blob, at + moved, at + moved + size);
-  return readDirectory(directory, count, moved);
+  const moved = behind - size - at;
+  if (moved < 0) throw noDirectory();
+  return readDirectory(await wordsOf(blob, at + moved, at + moved + size), count, moved);
 }
 
+// The end of a zip whose numbers may be larger than 32 bits hold, if it has one before its end.
+async function largeEnd(blob, end) {
+  const locator = await wordsOf(blob, Math.max(0, end - LOCATOR_BYTES), end);
+  if (locator.byteLength < LOCATOR_BYTES || locator.getUint32(0, true) !== LOCATOR_MARK) return undefined;
+  const place = end - LOCATOR_BYTES - END_64_BYTES;
+  const words = await wordsOf(blob, Math.max(0, place), place + END_64_BYTES);
+  if (words.byteLength < END_64_BYTES || words.getUint32(0, true) !== END_64_MARK) throw noDirectory();
+  const [count, size, at] = [32, 40, 48].map((field) => Number(words.getBigUint64(field, true)));
+  return { count, size, at, behind: place };
+}
+
+// The directory takes all its bytes: a zip whose end counts other entries than it has contradicts itself.
 function readDirectory(directory, count, moved) {
   const entries = [];
   let at = 0;
-  for (let number = 0; number < count; number += 1) {
-    if (at + ENTRY_BYTES > directory.byteLength || directory.getUint32(at, true) !== ENTRY_MARK) {
-      throw new Unreadable("the zip is broken: its directory can't be read");
-    }
-    const short = (place) => directory.getUint16(at + place, true);
-    const long = (place) => directory.getUint32(at + place, true);
-    const name = new Uint8Array(directory.buffer, at + ENTRY_BYTES, Math.min(short(28), directory.byteLength - at - ENTRY_BYTES));
-    const text = new TextDecoder(short(8) & UTF_8 ? "utf-8" : "windows-1252").decode(name);
-    const entry = { name: text, flags: short(8), method: short(10), crc: long(16), packed: long(20), size: long(24), at: long(42) + moved };
-    if ([entry.packed, entry.size].includes(BEYOND_32_BITS)) throw new Unreadable("the zip is too large for this page: unpack it first");
-    entries.push(entry);
-    at += ENTRY_BYTES + short(28) + short(30) + short(32);
+  while (at < directory.byteLength) {
+    if (at + ENTRY_BYTES > directory.byteLength || directory.getUint32(at, true) !== ENTRY_MARK) throw noDirectory();
+    const { entry, bytes } = readEntry(directory, at);
+    entries.push({ ...entry, at: entry.at + moved });
+    at += bytes;
   }
+  if (entries.length !== count) throw new Unreadable(`the zip is broken: its directory has ${counted(entries.length)} files, and its end counts ${counted(count)}`);
   return entries;
 }
 
-// The files of the one county in a zip by their types, in either case of their names.
-export function membersOf(entries) {
-  const counties = new Map();
-  for (const entry of entries) {
-    const kind = kindOf(entry.name);
-    if (kind === "" || !TYPES.includes(kind)) continue;
-    const stem = stemOf(entry.name).toUpperCase();
-    if (!counties.has(stem)) counties.set(stem, new Map());
-    const files = counties.get(stem);
-    files.set(kind, [...(files.get(kind) ?? []), entry]);
+function readEntry(directory, at) {
+  const short = (place) => directory.getUint16(at + place, true);
+  const long = (place) => directory.getUint32(at + place, true);
+  const bytes = ENTRY_BYTES + short(28) + short(30) + short(32);
+  if (at + bytes > directory.byteLength) throw noDirectory();
+  const name = new Uint8Array(directory.buffer, at + ENTRY_BYTES, short(28));
+  const extra = new DataView(directory.buffer, at + ENTRY_BYTES + short(28), short(30));
+  const [size, packed, place] = largeNumbers([long(24), long(20), long(42)], extra);
+  const text = new TextDecoder(short(8) & UTF_8 ? "utf-8" : "windows-1252").decode(name);
+  return { entry: { name: text, flags: short(8), method: short(10), crc: long(16), packed, size, at: place }, bytes };
+}
+
+// Numbers of an entry. Those that 32 bits don't hold stand in an extra field, in this order.
+function largeNumbers(numbers, extra) {
+  for (let at = 0; at + 4 <= extra.byteLength; at += 4 + extra.getUint16(at + 2, true)) {
+    if (extra.getUint16(at, true) !== LARGE_NUMBERS) continue;
+    let place = at + 4;
+    return numbers.map((number) => {
+      if (number !== BEYOND_32_BITS) return number;
+      if (place + 8 > extra.byteLength) throw noDirectory();
+      place += 8;
+      return Number(extra.getBigUint64(place - 8, true));
+    });
   }
+  return numbers;
+}
+
+// The files of the one county in a zip by their types, in either case of their names; or the one file with all records, by no type.
+export async function membersOf(blob) {
+  const entries = (await entriesOf(blob)).filter(({ name }) => !isLeftOut(name));
+  const counties = countiesAmong(entries);
+  if (counties.size === 0) for (const entry of entries) if (await isWholeMember(blob, entry)) counties.set(entry.name, new Map([["", [entry]]]));
   if (counties.size === 0) throw new Unreadable("the zip has no county in it");
   if (counties.size > 1) {
     const names = [...counties.keys()].sort().slice(0, 3).join(", ");
@@ -89,26 +124,51 @@ export function membersOf(entries) {
   return members;
 }
 
+// The entries of a county's files by their types, of each county by its stem without case.
+function countiesAmong(entries) {
+  const counties = new Map();
+  for (const entry of entries) {
+    const kind = kindOf(entry.name);
+    if (kind === "" || !TYPES.includes(kind)) continue;
+    const stem = stemOf(entry.name).toUpperCase();
+    if (!counties.has(stem)) counties.set(stem, new Map());
+    const files = counties.get(stem);
+    files.set(kind, [...(files.get(kind) ?? []), entry]);
+  }
+  return counties;
+}
+
+async function isWholeMember(blob, entry) {
+  if (entry.name.endsWith("/") || kindOf(entry.name) || entry.flags & LOCKED) return false;
+  const stream = await unpackedStream(blob, entry).catch(() => undefined);
+  return Boolean(stream) && isRecord(await firstLine(stream).catch(() => ""));
+}
+
 export function checkSize(size, what) {
   if (size > LARGEST) throw new Unreadable(`${what} ${counted(size)} bytes, and this page takes at most ${counted(LARGEST)}: use the program`);
 }
 
-// The bytes of a file in a zip.
-export async function unpacked(blob, entry, progress) {
-  const broken = new Unreadable(`the zip is broken at ${entry.name}`);
+const brokenAt = (entry) => new Unreadable(`the zip is broken at ${entry.name}`);
+
+// A stream of the bytes of a file in a zip.
+async function unpackedStream(blob, entry) {
   const head = await wordsOf(blob, entry.at, entry.at + 30);
-  if (head.byteLength < 30 || head.getUint32(0, true) !== 0x04034b50) throw broken;
+  if (head.byteLength < 30 || head.getUint32(0, true) !== FILE_MARK) throw brokenAt(entry);
   const from = entry.at + 30 + head.getUint16(26, true) + head.getUint16(28, true);
   const packed = blob.slice(from, from + entry.packed);
-  if (packed.size !== entry.packed) throw broken;
+  if (packed.size !== entry.packed) throw brokenAt(entry);
   if (![STORED, DEFLATED].includes(entry.method)) {
     throw new Unreadable(`the zip can't be unpacked: ${entry.name} is compressed by an unknown method`);
   }
-  const stream = packed.stream();
-  const pieces = entry.method === STORED ? stream : stream.pipeThrough(new DecompressionStream("deflate-raw"));
+  return entry.method === STORED ? packed.stream() : packed.stream().pipeThrough(new DecompressionStream("deflate-raw"));
+}
+
+// The bytes of a file in a zip.
+export async function unpacked(blob, entry, progress) {
+  const stream = await unpackedStream(blob, entry);
   const bytes = new Uint8Array(entry.size);
-  const length = await filled(bytes, pieces.getReader(), broken, progress);
-  if (length !== entry.size || checksum(bytes) !== entry.crc) throw broken;
+  const length = await filled(bytes, stream.getReader(), brokenAt(entry), progress);
+  if (length !== entry.size || checksum(bytes) !== entry.crc) throw brokenAt(entry);
   return bytes;
 }
 

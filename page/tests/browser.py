@@ -3,6 +3,7 @@
 from __future__ import annotations
 
 import json
+import os
 import shutil
 import time
 from contextlib import suppress
@@ -15,7 +16,7 @@ with suppress(ImportError):
     from selenium.webdriver.chrome.service import Service
     from selenium.webdriver.common.by import By
 
-PATIENCE = 120.0
+PATIENCE = float(os.environ.get("PAGE_PATIENCE", "120"))  # seconds
 WORDS = "headless=new no-sandbox disable-gpu disable-dev-shm-usage hide-scrollbars".split()
 OWN = ("file:", "blob:", "data:")
 
@@ -73,6 +74,12 @@ class Browser:
         self.driver.execute_script("document.getElementById(arguments[0]).hidden = false", to)
         self.driver.find_element(By.ID, to).send_keys("\n".join(map(str, files)))
         self.driver.execute_script("document.getElementById(arguments[0]).hidden = true", to)
+
+    def drop(self, files: Sequence[Path]) -> None:
+        """Drops files and folders on the page, as the user's file manager would."""
+        data = {"items": [], "files": [str(file) for file in files], "dragOperationsMask": 1}
+        for step in ("dragEnter", "dragOver", "drop"):
+            self.command("Input.dispatchDragEvent", type=step, x=400, y=300, data=data)
 
     def text(self, selector: str) -> str:
         """The text of an element, or nothing."""

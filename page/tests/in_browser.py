@@ -2,16 +2,13 @@
 
 from __future__ import annotations
 
-import gzip
 import http.server
 import json
 import os
 import re
-import struct
 import sys
 import threading
 import time
-import zipfile
 from pathlib import Path
 from typing import Any
 
@@ -69,72 +66,6 @@ def try_masks(page: Page) -> None:
             f"the fingerprint with {flags}", wanted, page.browser.evaluate("document.getElementById('fingerprint')?.textContent")
         )
         page.holds(f"the page names {flags}", all(f"--{flag}" in page.browser.text(".fingerprint") for flag in flags))
-
-
-def zipped(path: Path, files: dict[str, bytes]) -> Path:
-    with zipfile.ZipFile(path, "w", zipfile.ZIP_DEFLATED) as archive:
-        for name, text in files.items():
-            archive.writestr(name, text)
-    return path
-
-
-def autauga(name: str = "autauga") -> dict[str, bytes]:
-    return {path.name: path.read_bytes() for path in sorted((EXAMPLES / name).glob("TGR01001.RT*"))}
-
-
-def try_zips(page: Page) -> None:
-    wanted = page.printed("fingerprint", EXAMPLES / "autauga/all.txt")
-    small = {name.lower(): text for name, text in autauga().items()}
-    for files in (autauga(), small, {f"in/{name}": text for name, text in autauga().items()}):
-        page.show([zipped(page.room / "TGR01001.ZIP", files)])
-        page.equal(
-            f"the fingerprint of a zip with {[*files][0]}",
-            wanted,
-            page.browser.evaluate("document.getElementById('fingerprint')?.textContent"),
-        )
-
-
-def broken_zips(page: Page) -> dict[Path, str]:
-    """Zips that can't be read, and what the page says about each."""
-    whole = zipped(page.room / "whole.zip", autauga()).read_bytes()
-    at = whole.index(b"PK\1\2")
-    entry = whole.index(b"TGR01001.RT1", at) - 46
-
-    def file(name: str, text: bytes) -> Path:
-        (page.room / name).write_bytes(text)
-        return page.room / name
-
-    def changed(place: int, format: str, value: int) -> bytes:
-        length = struct.calcsize(format)
-        return whole[: entry + place] + struct.pack(format, value) + whole[entry + place + length :]
-
-    return {
-        file("cut.zip", whole[:-500]): "The zip is cut off.",
-        file("text.zip", b"nothing"): "It isn't a zip.",
-        file("sum.zip", changed(16, "<I", 1)): "The zip is broken at TGR01001.RT1.",
-        file("small.zip", changed(24, "<I", 20)): "The zip is broken at TGR01001.RT1.",
-        file("large.zip", changed(24, "<I", 4_000_000_000)): "The zip unpacks to 4,000,002,",
-        file("method.zip", changed(10, "<H", 99)): "The zip can't be unpacked: TGR01001.RT1 is compressed by an unknown method.",
-        file("locked.zip", changed(8, "<H", 1)): "The zip is locked with a password.",
-        file("directory.zip", whole[:at] + b"XXXX" + whole[at + 4 :]): "The zip is broken: its directory can't be read.",
-        zipped(page.room / "none.zip", {"a.txt": b""}): "The zip has no county in it.",
-        zipped(page.room / "two.zip", {"A.RT1": b"", "B.RT1": b""}): "The zip has 2 counties in it: A, B.",
-        zipped(page.room / "twice.zip", {"A.RT1": b"", "a.rt1": b""}): "The zip has 2 files .RT1.",
-    }
-
-
-def try_broken_files(page: Page) -> None:
-    for path, sentence in broken_zips(page).items():
-        page.show([path])
-        page.holds(path.name, page.browser.text(".refusal .line").startswith(sentence), page.browser.text("main"))
-    packed = page.room / "packed.txt"
-    packed.write_bytes(gzip.compress(b"1"))
-    page.show([packed])
-    page.holds("a hint", "compressed by gzip" in page.browser.text(".refusal"), page.browser.text(".refusal"))
-    empty = page.room / "empty.txt"
-    empty.write_bytes(b"")
-    page.show([empty])
-    page.holds("an empty file", "no chains" in page.browser.text(".chart"), page.browser.text("main"))
 
 
 def try_refusals(page: Page) -> None:
@@ -203,53 +134,6 @@ def saved_as(page: Page, files: list[Path], flags: list[str]) -> None:
         for side in ("first", "second"):
             each.get(side, {}).pop("name", None)
     page.equal(f"GeoJSON {flags}", json.dumps(wanted), json.dumps(found))
-
-
-def archive(page: Page) -> Path:
-    """A folder of counties: zips and single files, accepted and refused ones, and other files."""
-    folder = page.room / "tiger"
-    folder.mkdir()
-    zipped(folder / "TGR01001.ZIP", autauga())
-    zipped(folder / "TGR01002.zip", autauga("autauga-renumbered"))
-    for number in (3, 4, 5):
-        make_county("--stem", "--seed", number, 200, folder / f"TGR0100{number}")
-    (folder / "TGR01005.RT7").unlink()
-    (folder / "TGR01006.RT1").write_bytes((EXAMPLES / "broken.txt").read_bytes())
-    (folder / "readme.pdf").write_bytes(b"")
-    return folder
-
-
-def unmarked(lines: list[bytes]) -> list[bytes]:
-    """The lines of a manifest without the mark of an unproved program."""
-    return [line.replace(b" unproved", b"") if line.startswith(b"# ") else line for line in lines]
-
-
-def try_many(page: Page) -> None:
-    folder = archive(page)
-    page.show([folder], TABLE, to="folder")
-    page.browser.click(".many .actions .main")
-    saved = page.browser.downloaded("counties.manifest")
-    run([TOOLS, "fingerprint", "--program", page.program, "-o", "manifest", "tiger"], cwd=page.room)
-    lines_of_tools = [line for line in (page.room / "manifest").read_bytes().splitlines() if not re.match(rb"# [0-9?]", line)]
-    page.equal("the manifest of the page and of the tools", unmarked(lines_of_tools), unmarked(saved.splitlines()))
-    text = page.browser.text(".summary")
-    page.holds("skipped files are counted", "1 .pdf" in text and "2 refused" in text, text)
-    page.holds(
-        "counties of one map", "tiger/TGR01001, tiger/TGR01002" in page.browser.text(".many .note"), page.browser.text(".many")
-    )
-    lines = saved.decode().splitlines(keepends=True)
-    lines[2] = "0" * 64 + lines[2][64:]
-    changed = page.room / "changed"
-    comments = "# 12 2026-11-29T22:20:40.7Z, 3 ?  tiger/TGR01001\n# 5 2026-11-29T22:20:40Z  refused 4 BadNumber 1 4 6  tiger/TGR01006\n"
-    changed.write_text("".join(lines[:-1]) + f"{comments}{'1' * 64}  tiger/TGR01009\n")
-    page.browser.give([changed])
-    page.holds("a verdict", page.browser.wait_for("document.querySelector('.verified')"), page.browser.text("main"))
-    verdict = page.browser.text(".verified")
-    page.holds("what was compared", all(word in verdict for word in ("1 FAILED", "1 MISSING", "3 NEW")), verdict)
-    page.browser.click("tbody tr button")
-    page.holds("a county of the table", page.browser.wait_for(RESULT), page.browser.text("main"))
-    page.browser.driver.back()
-    page.holds("back to the table", page.browser.wait_for(TABLE), page.browser.text("main"))
 
 
 def try_large(page: Page) -> None:
@@ -334,13 +218,10 @@ def try_names(page: Page) -> None:
 CASES = (
     try_one,
     try_masks,
-    try_zips,
-    try_broken_files,
     try_refusals,
     try_same,
     try_different,
     try_names,
-    try_many,
     try_large,
     try_network,
 )

@@ -5,7 +5,7 @@ import { crc32, deflateRawSync } from "node:zlib";
 import { resolve } from "node:path";
 
 const folder = resolve(process.argv[2]);
-const { entriesOf, membersOf, unpacked, LARGEST, Unreadable } = await import(`${folder}/scripts/zips.js`);
+const { membersOf, unpacked, LARGEST, Unreadable } = await import(`${folder}/scripts/zips.js`);
 const MIB = 1 << 20;
 
 function told(isSo, what) {
@@ -57,7 +57,7 @@ function zipOf(files) {
 async function outcome(zip) {
   let taken = 0;
   try {
-    const [[, member]] = membersOf(await entriesOf(zip));
+    const [[, member]] = await membersOf(zip);
     const bytes = await unpacked(zip, member, (more) => (taken += more));
     return { bytes, taken };
   } catch (error) {
@@ -83,4 +83,4 @@ const half = LARGEST / 2;
 const many = await outcome(zipOf([[name, Buffer.from("1"), { size: half }], ["TGR01001.RT2", Buffer.from("2"), { size: half + 1 }]]));
 told(/^the zip unpacks to 1.000.000.001 bytes, and this page takes at most 1.000.000.000: use the program$/.test(many.sentence), `too many bytes: ${many.sentence}`);
 const most = zipOf([[name, Buffer.from("1"), { size: half }], ["TGR01001.RT2", Buffer.from("2"), { size: half }]]);
-told(membersOf(await entriesOf(most)).size === 2, "as many bytes as may be");
+told((await membersOf(most)).size === 2, "as many bytes as may be");
