@@ -42,14 +42,28 @@ export class Stages {
 
 export const badge = (kind, text) => h("span", { class: `badge ${kind}` }, text);
 
-export function notesOf(notes) {
+const isOfMissing = (note) => note.startsWith("no .RT");
+
+// Notes on an accepted county, which may be named.
+export function notesOf(notes, name = "") {
   if (!notes.length) return null;
-  const isMissing = notes.some((note) => note.startsWith("no .RT"));
   const why = "If a missing file belongs to the county, this is another map, with another fingerprint.";
-  return h("div", { class: "note" }, notes.map((note) => h("p", {}, noteText(note))), isMissing && h("p", {}, why));
+  const texts = [...notes.map(noteText), notes.some(isOfMissing) && why].filter(Boolean);
+  return h("div", { class: "note" }, texts.map((text, place) => h("p", {}, name && !place && h("strong", {}, `${name}: `), text)));
 }
 
-const noteText = (note) => (note.startsWith("no .RT") ? `There is ${note}.` : `${note[0].toUpperCase()}${note.slice(1).replace(/\.?$/, ".")}`);
+// Refusals for which a record isn't there: the chain, the record of type I, the name, the landmark, the polygon, the polygon's side.
+const MISSED_BY = [12, 14, 17, 19, 20, 23];
+
+// Notes on a refused county. A missing file is the likely cause, if what is refused is that records aren't there.
+function causesOf(notes, number) {
+  const missing = MISSED_BY.includes(number) ? notes.filter(isOfMissing) : [];
+  const cause = missing.map((note) => h("p", {}, h("strong", {}, "The likely cause: "), `there is ${note}. Add what belongs to the county, and try again.`));
+  const others = notes.filter((note) => !missing.includes(note)).map((note) => h("p", {}, noteText(note)));
+  return notes.length ? h("div", { class: "note" }, cause, others) : null;
+}
+
+const noteText = (note) => (isOfMissing(note) ? `There is ${note}.` : `${note[0].toUpperCase()}${note.slice(1).replace(/\.?$/, ".")}`);
 
 export function fingerprintOf(fingerprint, masks) {
   const flags = flagsOf(masks);
@@ -63,8 +77,9 @@ export function fingerprintOf(fingerprint, masks) {
 }
 
 // A refusal: the program's line, the line of the file with its field marked, what it means, and how a right value looks.
-export function refusalShown({ line, number, lines, right, hint }) {
+export function refusalShown({ line, number, lines, right, hint, notes }) {
   return h("div", { class: "refusal" }, [
+    causesOf(notes, number),
     h("p", { class: "line" }, h("code", {}, line), copyButton(line, "refusal")),
     lines.map(shownLine),
     right && h("p", { class: "right" }, h("strong", {}, "A right value: "), right.example && [h("code", { class: "example" }, right.example), ", "], right.means, "."),

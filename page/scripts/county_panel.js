@@ -2,7 +2,7 @@
 import { badge, fingerprintOf, notesOf, refusalShown, Stages, troubleOf } from "./card.js";
 import { announce, h, replace } from "./dom.js";
 import { job } from "./jobs.js";
-import { baseOf } from "./names.js";
+import { baseOf, shownName } from "./names.js";
 
 const STEPS = ["reading", "unpacking", "judging", "fingerprint", "map"];
 
@@ -12,7 +12,8 @@ export class CountyPanel {
     Object.assign(this, { county, masks, done, ordinal: "" });
     this.head = h("div", { class: "head" });
     this.body = h("div", { class: "body" });
-    this.node = h("section", { class: "card", "aria-label": county.stem }, this.head, this.body);
+    this.name = shownName(county.stem);
+    this.node = h("section", { class: "card", "aria-label": this.name }, this.head, this.body);
   }
 
   async judge() {
@@ -20,7 +21,7 @@ export class CountyPanel {
     const stages = new Stages(steps, () => this.assistant?.end());
     replace(this.head, this.title(badge("busy", "Working")));
     replace(this.body, stages.node);
-    announce(`${this.county.stem}: judging`);
+    announce(`${this.name}: judging`);
     const question = { county: this.county, masks: this.masks };
     try {
       this.result = await job("judge", question, (stage) => stages.at(stage), (assistant) => {
@@ -39,7 +40,7 @@ export class CountyPanel {
   }
 
   title(state) {
-    const name = h("h2", {}, this.ordinal && h("span", { class: `ordinal ${this.ordinal}` }, this.ordinal), baseOf(this.county.stem));
+    const name = h("h2", {}, this.ordinal && h("span", { class: `ordinal ${this.ordinal}` }, this.ordinal), h("bdi", {}, baseOf(this.name)));
     return h("div", { class: "title" }, name, state);
   }
 
@@ -52,19 +53,19 @@ export class CountyPanel {
   showTrouble() {
     replace(this.head, this.title(badge("refused", "Not judged")));
     replace(this.body, troubleOf(this.trouble));
-    announce(`${this.county.stem}: ${this.trouble}`);
+    announce(`${this.name}: ${this.trouble}`);
   }
 
   showAccepted() {
     replace(this.head, this.title(badge("accepted", "Accepted")));
     replace(this.body, fingerprintOf(this.result.fingerprint, this.masks), notesOf(this.result.notes));
-    announce(`${this.county.stem}: accepted. Fingerprint ${this.result.fingerprint.slice(0, 8)}`);
+    announce(`${this.name}: accepted. Fingerprint ${this.result.fingerprint.slice(0, 8)}`);
   }
 
   showRefused() {
     replace(this.head, this.title(badge("refused", "Refused")));
-    replace(this.body, refusalShown(this.result), notesOf(this.result.notes));
-    announce(`${this.county.stem}: ${this.result.line}`);
+    replace(this.body, refusalShown(this.result));
+    announce(`${this.name}: ${this.result.line}`);
   }
 
   dispose() {

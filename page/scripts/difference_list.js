@@ -1,46 +1,25 @@
-// The list of differences, with the table of their counts above it. It is asked of the worker in pieces.
+// The list of differences, which is asked of the worker in pieces.
 import { counted } from "./numbers.js";
-import { announce, h, replace } from "./dom.js";
-import { KIND_CLASSES, KIND_SIGNS } from "./looks.js";
+import { h, replace } from "./dom.js";
+import { kindText } from "./difference_card.js";
+import { KIND_CLASSES, KIND_SIGNS } from "./kinds.js";
 
 const PATIENCE = 200; // milliseconds after the last letter of a filter
+const MOST_PRINTED = 2000;
 
 export class DifferenceList {
-  constructor(found, assistant, { onhide, onchoose }) {
-    Object.assign(this, { found, assistant, onhide, onchoose, hidden: new Set(), titles: new Map(), items: new Map() });
-    this.filter = h("input", { type: "search", id: "filter", autocomplete: "off", spellcheck: false, placeholder: "name, field or value", oninput: () => this.refreshSoon() });
-    this.status = h("p", { class: "quiet", role: "status" });
-    this.list = h("ol", { class: "differences" });
-    this.more = h("button", { type: "button", hidden: true, onclick: () => this.load() }, "Show more");
+  // onchoose is called with an entry, its item of the list, and whether it was chosen by the keyboard.
+  constructor({ total, assistant, hidden, onchoose }) {
+    Object.assign(this, { total, assistant, hidden, onchoose, items: new Map(), from: 0, asked: 0 });
+    this.filter = h("input", { type: "search", id: "filter", autocomplete: "off", spellcheck: false, placeholder: "name, TLID, field or value", oninput: () => this.refreshSoon() });
+    this.status = h("p", { class: "quiet listed", role: "status" });
+    this.printed = h("p", { class: "printed" });
+    this.list = h("ol", { class: "differences", "aria-label": "Differences", onkeydown: (event) => this.key(event) });
+    this.more = h("button", { type: "button", class: "more", hidden: true, onclick: () => this.loadMore() });
     this.node = h("div", { class: "list" }, [
-      this.counts(),
-      h("h3", {}, "Differences"),
-      h("p", { class: "filter" }, h("label", { for: "filter" }, "Only those with"), this.filter),
-      this.status, this.list, this.more,
+      h("p", { class: "filter" }, h("label", { for: "filter" }, "Only those with"), this.filter, this.status),
+      this.printed, this.list, this.more,
     ]);
-    this.refresh();
-  }
-
-  // How many of each subject are of each kind. A box before each kind hides it.
-  counts() {
-    const { kinds, subjects, counts, ties } = this.found;
-    const head = h("tr", {}, h("td", {}), subjects.map((subject) => h("th", { scope: "col" }, subject === "feature name" ? "names" : `${subject}s`)));
-    const rows = kinds.map((kind, place) => {
-      const box = h("input", { type: "checkbox", checked: true, id: `kind-${place}`, onchange: () => this.toggle(place) });
-      const sign = h("span", { class: `sign ${KIND_CLASSES[place]}`, "aria-hidden": "true" }, KIND_SIGNS[place]);
-      const cells = subjects.map((subject) => {
-        const isNone = subject === "feature name" && place === 2;
-        return h("td", { class: counts[subject][place] === "0" || isNone ? "zero" : "" }, isNone ? "–" : counts[subject][place]);
-      });
-      return h("tr", {}, h("th", { scope: "row" }, h("label", { for: `kind-${place}` }, box, sign, kind)), cells);
-    });
-    const tied = ties ? h("p", { class: "quiet" }, `Joined differently: ${counted(ties)}.`) : null;
-    return h("div", {}, h("table", { class: "kinds" }, h("thead", {}, head), h("tbody", {}, rows)), tied);
-  }
-
-  toggle(place) {
-    if (!this.hidden.delete(place)) this.hidden.add(place);
-    this.onhide(this.hidden);
     this.refresh();
   }
 
@@ -49,100 +28,112 @@ export class DifferenceList {
     this.timer = setTimeout(() => this.refresh(), PATIENCE);
   }
 
-  refresh() {
-    this.from = 0;
-    this.items.clear();
-    return this.load();
+  // Lists what isn't hidden, from the beginning.
+  refresh(hidden = this.hidden) {
+    this.hidden = hidden;
+    return this.load({ from: 0 });
   }
 
-  async load() {
-    const hidden = [...this.hidden].map((place) => this.found.kinds[place]);
-    const question = { text: this.filter.value, hidden, from: this.from };
-    const { count, piece } = await this.assistant.ask("list", question);
-    if (this.from === 0) replace(this.list);
+  ask({ from, most }) {
+    return this.assistant.ask("list", { text: this.filter.value, hidden: this.hidden, from, most });
+  }
+
+  async load({ from, most }) {
+    this.asked += 1;
+    const { asked } = this;
+    const { count, piece } = await this.ask({ from, most });
+    if (asked !== this.asked) return [];
+    if (from === 0) {
+      this.items.clear();
+      replace(this.list);
+    }
     const items = piece.map((entry) => this.item(entry));
     this.list.append(...items);
-    if (this.from > 0) items[0]?.querySelector("button").focus();
-    this.from += piece.length;
-    this.more.hidden = this.from >= count;
-    this.status.textContent = count === this.found.total ? `${counted(count)} in all.` : `${counted(count)} of ${counted(this.found.total)}.`;
+    this.from = from + piece.length;
+    this.count = count;
+    if (from === 0 && items.length) this.reach(items[0]);
+    this.showCounts();
+    return items;
+  }
+
+  async loadMore() {
+    const [first] = await this.load({ from: this.from });
+    first?.firstElementChild.focus();
+  }
+
+  // Lists as much as is printed.
+  async loadForPrinting() {
+    if (this.from < Math.min(this.count, MOST_PRINTED)) await this.load({ from: this.from, most: MOST_PRINTED - this.from });
+  }
+
+  showCounts() {
+    const left = this.count - this.from;
+    this.more.hidden = left === 0;
+    this.more.textContent = `Show more of ${counted(left)}`;
+    this.status.textContent = this.count === this.total ? `${counted(this.count)} in all` : `${counted(this.count)} of ${counted(this.total)}`;
+    const listed = this.count === this.total ? `all ${counted(this.count)} differences` : `the ${counted(this.count)} of ${counted(this.total)} differences that were listed`;
+    const which = left ? `the first ${counted(this.from)} of ${listed}` : listed;
+    this.printed.textContent = `Printed: ${which}, and of each at most three fields. The saved GeoJSON has all differences and all fields.`;
   }
 
   item(entry) {
-    this.titles.set(entry.number, entry.title);
-    const place = this.found.kinds.indexOf(entry.kind);
-    const about = entry.fields.length ? [h("b", {}, entry.fields.join(", ")), ` · ${entry.about}`] : entry.about;
-    const button = h("button", { type: "button", "aria-expanded": "false", onclick: () => this.open(item, entry) }, [
-      h("span", { class: `sign ${KIND_CLASSES[place]}`, "aria-hidden": "true" }, KIND_SIGNS[place]),
-      h("span", {}, [
-        h("span", { class: "name" }, entry.title),
-        h("span", { class: "unseen" }, `, ${entry.kind}`),
-        h("span", { class: "quiet" }, ` ${entry.what}`),
-        h("span", { class: "rest" }, about),
+    const { kind, title, number } = entry;
+    const button = h("button", { type: "button", tabIndex: -1, onclick: (event) => this.onchoose(entry, item, event.detail === 0) }, [
+      h("span", { class: `sign ${KIND_CLASSES[kind]}`, "aria-hidden": "true" }, KIND_SIGNS[kind]),
+      h("span", { class: "told" }, [
+        h("span", { class: "name" }, title),
+        h("span", { class: "quiet" }, ` ${kindText(entry)}`),
+        h("span", { class: "numbers quiet" }, entry.numbers),
+        linesOf(entry).map((line) => h("span", { class: entry.changes.length ? "rest" : "rest about" }, line)),
       ]),
     ]);
     const item = h("li", {}, button);
-    this.items.set(entry.number, { item, entry });
+    this.items.set(number, item);
     return item;
   }
 
-  titleOf(number) {
-    return this.titles.get(number) ?? "";
-  }
-
-  // Opens an entry, with its fields, and shows it on the map; or closes it.
-  async open(item, entry, isFromMap = false) {
-    const isOpen = item.querySelector("button").getAttribute("aria-expanded") === "true";
-    this.close();
-    if (isOpen && !isFromMap) return;
-    const button = item.querySelector("button");
-    button.setAttribute("aria-expanded", "true");
-    this.opened = item;
-    if (!isFromMap) this.onchoose(entry);
-    const answer = await this.assistant.ask("rows", { number: entry.number });
-    if (this.opened !== item) return;
-    item.append(answer.rows ? this.fields(answer.rows) : groupsOf(answer.groups));
-  }
-
-  close() {
-    this.opened?.querySelector("button").setAttribute("aria-expanded", "false");
-    this.opened?.querySelector(".inside")?.remove();
-    this.opened = undefined;
-  }
-
-  // Shows the entry that was chosen on the map, and loads the list up to it.
-  async show(number) {
-    if (!this.items.has(number) && (this.filter.value || this.hidden.size)) {
-      this.filter.value = "";
-      await this.refresh();
+  // Shows the numbers of what is listed, which came after the list.
+  async showNumbers() {
+    const { piece } = await this.ask({ from: 0, most: this.from });
+    for (const { number, numbers } of piece) {
+      const place = this.items.get(number)?.querySelector(".numbers");
+      if (place) place.textContent = numbers;
     }
-    while (!this.items.has(number) && !this.more.hidden) await this.load();
-    const { item, entry } = this.items.get(number) ?? {};
+  }
+
+  // Makes an item the one that the tabulator key comes to.
+  reach(item) {
+    for (const button of this.list.querySelectorAll('li > button[tabindex="0"]')) button.tabIndex = -1;
+    item.firstElementChild.tabIndex = 0;
+  }
+
+  key(event) {
+    const item = event.target.closest(".differences > li");
+    if (!item || event.target !== item.firstElementChild) return;
+    const next = { ArrowDown: item.nextElementSibling, ArrowUp: item.previousElementSibling, Home: this.list.firstElementChild, End: this.list.lastElementChild }[event.key];
+    if (!next) return;
+    event.preventDefault();
+    this.reach(next);
+    next.firstElementChild.focus();
+  }
+
+  // Marks the item of an entry as the present one, and shows it in the list if it is there.
+  mark(number) {
+    this.list.querySelector("[aria-current]")?.removeAttribute("aria-current");
+    const item = this.items.get(number);
     if (!item) return;
-    await this.open(item, entry, true);
-    item.scrollIntoView({ block: "nearest" });
-    announce(`${entry.title}, ${entry.kind}`);
-  }
-
-  fields(rows) {
-    const isOfBoth = rows.some(({ first, second }) => first !== null && second !== null);
-    const head = isOfBoth && h("thead", {}, h("tr", {}, ["field", "in the first", "in the second"].map((text) => h("th", { scope: "col" }, text))));
-    const differing = rows.filter((row) => row.differs);
-    const others = rows.filter((row) => !row.differs);
-    const table = (shown, withHead) => h("table", { class: "fields" }, withHead && head, h("tbody", {}, shown.map((row) => rowOf(row, isOfBoth))));
-    if (!isOfBoth || !differing.length) return h("div", { class: "inside" }, table(rows, true));
-    const more = others.length && h("details", {}, h("summary", {}, `${others.length} fields are the same`), table(others, false));
-    return h("div", { class: "inside" }, table(differing, true), more);
+    item.firstElementChild.setAttribute("aria-current", "true");
+    this.reach(item);
+    const [top, bottom] = [item.offsetTop, item.offsetTop + item.offsetHeight];
+    const { scrollTop, clientHeight } = this.list;
+    if (top < scrollTop) this.list.scrollTop = top;
+    else if (bottom > scrollTop + clientHeight) this.list.scrollTop = bottom - clientHeight;
   }
 }
 
-function rowOf({ label, holds, first, second, differs }, isOfBoth) {
-  const name = h("th", { scope: "row" }, label, h("small", {}, holds));
-  if (!isOfBoth) return h("tr", {}, name, h("td", {}, first ?? second));
-  if (!differs && first === second) return h("tr", {}, name, h("td", { colSpan: 2 }, first));
-  return h("tr", { class: differs ? "differs" : "" }, name, h("td", { class: "first" }, first), h("td", { class: "second" }, second));
-}
-
-function groupsOf(groups) {
-  return h("div", { class: "inside" }, h("ul", {}, groups.map((group) => h("li", {}, group.join("; ")))));
+// What the list shows below a title: the fields that changed, with both values, or else where the thing is.
+function linesOf({ changes, more, about }) {
+  const lines = changes.map(({ label, first, second }) => [h("b", {}, label), ` ${first} → ${second}`]);
+  if (more > 0) lines.push([`and ${more} more field${more === 1 ? "" : "s"}`]);
+  return lines.length ? lines : [[about]];
 }

@@ -8,7 +8,7 @@ import { BLANK, KINDS, ONE_MAP, TIED } from "./tables.js";
 
 // Each thing has a title, what follows the title, its points, the field with its number, and its fields in both maps. Of what one map
 // has alone, the other one is undefined.
-const MAKERS = {
+export const MAKERS = {
   chain(found, one, other) {
     const points = eachPoint((one ?? other).points);
     const about = `${points.length} points, from ${degrees(points[0])} to ${degrees(points[points.length - 1])}`;
@@ -62,4 +62,4 @@ export function verdictOf(found, areOneMap) {
 }
 
 // How many things of each subject are of each kind.
-export const countsOf = (found) => Object.fromEntries(SUBJECTS.map((what) => [what, found.parts[what].counts.map(counted)]));
+export const countsOf = (found) => Object.fromEntries(SUBJECTS.map((what) => [what, found.parts[what].counts]));

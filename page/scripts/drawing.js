@@ -3,6 +3,11 @@
 const SLICE = 10; // milliseconds at a time
 const CHAINS_AT_ONCE = 500;
 const FINEST = 0.6; // pixels between two points that are drawn
+const CASING = 3; // pixels by which the casing of a line is wider
+const MOST_CASED = 5000; // with more chains than this a kind is drawn as thin lines
+const THINNEST = 1.5;
+const SPECK = 12; // pixels below which a chain's form can't be seen
+const THIN_CELL = 3; // pixels in which one chain of those that are thinned out is drawn
 
 // The bounds of each chain, and of all.
 export function boundsOf({ starts, places }) {
@@ -38,12 +43,35 @@ function trace(context, view, { starts, places }, chain) {
   }
 }
 
-function set(context, { color, width, dash }) {
+function set(context, { color, width, dash = [] }) {
   context.strokeStyle = color;
   context.lineWidth = width;
-  context.setLineDash(dash ?? []);
+  context.setLineDash(dash);
   context.lineJoin = "round";
-  context.lineCap = dash ? "butt" : "round";
+  context.lineCap = dash.length ? "butt" : "round";
+}
+
+// The lines that make up a style, one upon the other: its casing, the line, and what makes it hollow.
+export function strokesOf({ color, width, dash, hollow, isCased }, paper, count) {
+  if (!isCased) return [{ color, width, dash }];
+  if (count > MOST_CASED) return [{ color, width: Math.min(width, THINNEST) }];
+  const strokes = [{ color: paper, width: width + CASING, dash }, { color, width, dash }];
+  return hollow ? [...strokes, { color: paper, width: hollow }] : strokes;
+}
+
+// Small squares of the canvas, each of which is taken once.
+export class Squares {
+  constructor(size) {
+    this.size = size;
+    this.taken = new Set();
+  }
+
+  take(x, y) {
+    const key = Math.floor(x / this.size) * 65_536 + Math.floor(y / this.size);
+    if (this.taken.has(key)) return false;
+    this.taken.add(key);
+    return true;
+  }
 }
 
 // The chains of each style in the order in which styles are drawn.
@@ -54,30 +82,60 @@ export function byStyle(classes, order) {
 }
 
 // Draws the groups on a context, a slice at a time. `isStale` ends it early, and `drawn` is called after each slice with whether all is
-// done.
-export async function draw(context, view, layer, groups, styleOf, isStale, drawn) {
-  let until = performance.now() + SLICE;
+// done. A slice without an end draws everything at once.
+export async function draw(context, view, layer, groups, style, isStale, drawn, slice = SLICE) {
+  let until = performance.now() + slice;
   for (const [kind, chains] of groups) {
-    const style = styleOf(kind);
-    if (!style) continue;
+    const strokes = strokesOf(style.chains[kind], style.paper, chains.length);
+    const squares = style.chains[kind].isThin ? new Squares(THIN_CELL) : null;
     for (let from = 0; from < chains.length; from += CHAINS_AT_ONCE) {
-      set(context, style);
-      context.beginPath();
-      for (const chain of chains.slice(from, from + CHAINS_AT_ONCE)) if (isInView(view, layer.bounds, chain)) trace(context, view, layer, chain);
-      context.stroke();
+      const shown = chains.slice(from, from + CHAINS_AT_ONCE).filter((chain) => isDrawn(view, layer.bounds, chain, squares));
+      strokeChains(context, view, layer, shown, strokes);
       if (performance.now() < until) continue;
       drawn(false);
       await new Promise((resume) => requestAnimationFrame(resume));
       if (isStale()) return;
-      until = performance.now() + SLICE;
+      until = performance.now() + slice;
     }
   }
   drawn(true);
 }
 
-function isInView(view, bounds, chain) {
+function strokeChains(context, view, layer, chains, strokes) {
+  context.beginPath();
+  for (const chain of chains) trace(context, view, layer, chain);
+  for (const stroke of strokes) {
+    set(context, stroke);
+    context.stroke();
+  }
+}
+
+// A chain's box on the canvas: its left, upper, right and lower edge.
+function boxOf(view, bounds, chain) {
   const at = 4 * chain;
-  return view.x(bounds[at]) < view.width && view.x(bounds[at + 2]) > 0 && view.y(bounds[at + 3]) < view.height && view.y(bounds[at + 1]) > 0;
+  return [view.x(bounds[at]), view.y(bounds[at + 3]), view.x(bounds[at + 2]), view.y(bounds[at + 1])];
+}
+
+// Whether a chain is in view; and, if it is smaller than a square, whether it is the first one there.
+function isDrawn(view, bounds, chain, squares) {
+  const [left, upper, right, lower] = boxOf(view, bounds, chain);
+  if (left >= view.width || right <= 0 || upper >= view.height || lower <= 0) return false;
+  if (!squares || right - left > squares.size || lower - upper > squares.size) return true;
+  return squares.take((left + right) / 2, (upper + lower) / 2);
+}
+
+// The chains whose kind has a sign and that are so small that only the sign can be seen: each with its kind and its middle.
+export function specksOf(view, layer, groups, style) {
+  const found = [];
+  for (const [kind, chains] of groups) {
+    if (!style.chains[kind].sign || chains.length > MOST_CASED) continue;
+    for (const chain of chains) {
+      const [left, upper, right, lower] = boxOf(view, layer.bounds, chain);
+      if (right - left >= SPECK || lower - upper >= SPECK) continue;
+      found.push({ kind, place: view.placeAt((left + right) / 2, (upper + lower) / 2) });
+    }
+  }
+  return found;
 }
 
 export function drawOne(context, view, layer, chain, style) {

@@ -26,13 +26,13 @@ const RECORDS = {
 
 const latin1 = (bytes) => String.fromCharCode(...bytes.subarray(0, LONGEST_SHOWN));
 
-// Each line of a part, without its line ending: its number and its bytes.
-function* linesOf(part) {
+// Each line of a part: its number, its bytes, and its line ending.
+export function* linesOf(part) {
   for (let [at, number] = [0, 1]; at < part.length; number += 1) {
     const found = part.indexOf(LF, at);
     const next = found < 0 ? part.length : found;
-    const end = next > at && part[next - 1] === CR ? next - 1 : next;
-    yield { number, bytes: part.subarray(at, end) };
+    const hasReturn = next > at && part[next - 1] === CR;
+    yield { number, bytes: part.subarray(at, hasReturn ? next - 1 : next), ending: `${hasReturn ? "CR " : ""}${found < 0 ? "" : "LF"}`.trim() };
     at = next + 1;
   }
 }

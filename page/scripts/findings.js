@@ -1,110 +1,154 @@
 // What was found about two maps, for the page: a summary, the shapes of the map, and a list that is asked for in pieces.
-import { countsOf, nameOf, SUBJECTS, things, verdictOf } from "./differences.js";
+import { countsOf, MAKERS, nameOf, SUBJECTS, things, verdictOf } from "./differences.js";
 import { chainTitle, landmarkTitle, landmarkPoints } from "./fields.js";
+import { ALIKE, CHANGED, keyOfKind } from "./kinds.js";
 import { counted } from "./numbers.js";
-import { eachPoint, position } from "./points.js";
+import { eachPoint, NO_POINT, POINT_WIDTH, position } from "./points.js";
 import { Shapes } from "./shapes.js";
 import { KINDS } from "./tables.js";
 import { tieLine, tiedPlace, tiePoints } from "./ties.js";
 
 const PIECE = 200;
+const MOST_CHANGES = 3; // fields that the list shows of what changed
 
 export class Findings {
-  constructor(comparison, counties, areOneMap) {
-    Object.assign(this, { comparison, counties, areOneMap });
+  constructor(comparison, counties) {
+    Object.assign(this, { comparison, counties, own: [new Map(), new Map()], words: [] });
     this.things = [...things(comparison)];
     this.ties = comparison.ties;
     this.entries = [...this.things.map(entryOf), ...this.ties.map(entryOfTie)].map((entry, number) => ({ ...entry, number }));
   }
 
   summary() {
-    const { comparison, areOneMap } = this;
+    const { comparison } = this;
     return {
-      areOneMap,
-      verdict: verdictOf(comparison, areOneMap),
+      areOneMap: false,
+      verdict: verdictOf(comparison, false),
       counts: countsOf(comparison),
       ties: this.ties.length,
       subjects: SUBJECTS,
       kinds: KINDS,
       total: this.entries.length,
+      wanted: this.wanted(),
       shapes: this.shapes(),
     };
   }
 
+  // The keys of what has a number and differs, in both maps.
+  wanted() {
+    const numbered = this.things.filter((thing) => thing.numberField);
+    return ["one", "other"].map((side) => numbered.map((thing) => thing[side]?.key).filter(Boolean));
+  }
+
   // All chains, those that differ last so that they are drawn on top, each with the number of its entry behind it, and the points of
-  // whatever else differs. The class of a chain is the place of its kind.
+  // whatever else differs, and of landmarks. The class of a chain is its kind.
   shapes() {
     const alike = this.comparison.chains.alike.map(([one]) => one);
     const different = this.entries.filter((entry) => entry.what === "chain");
-    const points = [...alike.map((chain) => chain.points.length), ...different.map((entry) => entry.points.length * 19)];
-    const shapes = new Shapes(alike.length + different.length, points.reduce((sum, length) => sum + length / 19, 0));
-    for (const chain of alike) addLine(shapes, eachPoint(chain.points), KINDS.length - 1);
-    for (const entry of different) addLine(shapes, entry.points, KINDS.indexOf(entry.kind));
-    const single = this.entries.filter((entry) => entry.what !== "chain").flatMap((entry) => entry.points.map((point) => ({ entry, point })));
+    const points = alike.reduce((sum, chain) => sum + chain.points.length / POINT_WIDTH, 0);
+    const shapes = new Shapes(alike.length + different.length, different.reduce((sum, entry) => sum + entry.points.length, points));
+    for (const chain of alike) addLine(shapes, chain.points, ALIKE);
+    for (const entry of different) addLine(shapes, entry.points.join(""), entry.kind);
     return {
       chains: shapes.sent(),
       firstEntry: alike.length,
       entries: Uint32Array.from(different.map((entry) => entry.number)),
       titles: alike.map(chainTitle),
-      points: single.map(({ entry, point }) => ({ entry: entry.number, place: position(point), kind: KINDS.indexOf(entry.kind) })),
-      landmarks: this.comparison.landmarks.alike.flatMap(([one]) => {
-        const title = landmarkTitle(one);
-        return landmarkPoints(one, this.counties[0]).map((point) => ({ title, place: position(point) }));
-      }),
+      points: [...this.alikeLandmarks(), ...this.differingPoints()],
     };
   }
 
-  // The entries with this text in their names, fields or values, from a place on.
-  list({ text, hidden, from }) {
-    const wanted = text.trim().toLowerCase();
-    const found = [];
-    this.entries.forEach((entry, number) => {
-      if (!hidden.includes(entry.kind) && (!wanted || this.wordsOf(number).includes(wanted))) found.push(number);
-    });
-    const piece = found.slice(from, from + PIECE).map((number) => this.shown(number));
-    return { count: found.length, piece };
+  differingPoints() {
+    const single = this.entries.filter((entry) => entry.what !== "chain");
+    return single.flatMap(({ points, kind, what, number }) => points.map((point) => ({ place: position(point), kind, subject: what, entry: number })));
   }
 
-  // What the list shows of an entry.
+  alikeLandmarks() {
+    return this.comparison.landmarks.alike.flatMap(([one]) => {
+      const title = landmarkTitle(one);
+      return landmarkPoints(one, this.counties[0]).map((point) => ({ title, place: position(point), kind: ALIKE, subject: "landmark" }));
+    });
+  }
+
+  // The points inside of polygons that are alike.
+  alikePolygons() {
+    const inside = this.comparison.polygons.alike.map(([one]) => one).filter(({ point }) => point !== NO_POINT);
+    return inside.map((one) => ({ title: nameOf(entryOf({ what: "polygon", ...MAKERS.polygon(this.comparison, one) })), place: position(one.point), kind: ALIKE, subject: "polygon" }));
+  }
+
+  // Takes the numbers that things have in the files of both sets, by their keys.
+  takeNumbers(own) {
+    this.own = own;
+    this.words = [];
+  }
+
+  // The numbers of an entry in both files, if they are known: `TLID 7 and 9`.
+  numbersOf(number) {
+    const { numberField, one, other } = this.things[number] ?? {};
+    const known = [one, other].map((each, side) => each && this.own[side].get(each.key)).filter((each) => each !== undefined);
+    return known.length && numberField ? `${numberField} ${[...new Set(known)].join(" and ")}` : "";
+  }
+
+  // The entries with all these words in their names, numbers, fields or values, from a place on.
+  list({ text, hidden, from, most = PIECE }) {
+    const wanted = text.toLowerCase().split(/\s+/).filter(Boolean);
+    const isFound = ({ what, kind, number }) => !hidden.includes(keyOfKind(what, kind)) && wanted.every((word) => this.wordsOf(number).includes(word));
+    const found = this.entries.filter(isFound);
+    return { count: found.length, piece: found.slice(from, from + most).map(({ number }) => this.shown(number)) };
+  }
+
+  // What the list shows of an entry: of what changed, the fields that differ.
   shown(number) {
     const { what, kind, title, about, points } = this.entries[number];
-    const rows = kind === KINDS[2] && this.things[number] ? this.things[number].rows().filter((row) => row.differs) : [];
-    const places = points.length ? [position(points[0]), position(points[points.length - 1])] : [];
-    return { number, what, kind, title, about, places, fields: rows.map((row) => row.name.label) };
+    const changes = this.rowsOfEntry(number).filter((row) => kind === CHANGED && row.differs);
+    const values = changes.slice(0, MOST_CHANGES).map(({ name, first, second }) => ({ label: name.label, first, second }));
+    return { number, what, kind, title, about, numbers: this.numbersOf(number), places: points.map(position), changes: values, more: changes.length - values.length };
   }
 
-  // The fields of an entry in both maps.
-  rowsOf(number) {
-    if (!this.things[number]) return { groups: this.ties[number - this.things.length].groups.map((group) => group.map(tiedPlace)) };
-    const shown = ({ name, first, second, differs }) => ({ label: name.label, holds: name.holds, first, second, differs });
-    return { rows: this.things[number].rows().map(shown) };
+  rowsOfEntry(number) {
+    return this.things[number]?.rows() ?? [];
   }
 
-  // All words of an entry, in small letters, by which it is found.
+  // An entry with its fields in both maps, or with the places of what is joined differently.
+  details(number) {
+    const entry = this.shown(number);
+    const tie = this.ties[number - this.things.length];
+    return tie ? { ...entry, rows: [], groups: tie.groups.map((group) => group.map(tiedPlace)) } : { ...entry, rows: this.rowsOfEntry(number).map(shownRow) };
+  }
+
+  // A chain that is alike, with its fields.
+  detailsOfAlike(chain) {
+    const { title, about, rows } = MAKERS.chain(this.comparison, ...this.comparison.chains.alike[chain]);
+    return { what: "chain", kind: ALIKE, title, about, numbers: "", rows: rows().map(shownRow) };
+  }
+
+  // All words of an entry, in small letters, by which it is found. Of what changed these are the fields that differ.
   wordsOf(number) {
-    this.words ??= [];
     this.words[number] ??= this.allWords(number).join("\n").toLowerCase();
     return this.words[number];
   }
 
   allWords(number) {
     const { what, kind, title, about } = this.entries[number];
-    const rows = this.things[number]?.rows() ?? [];
-    return [what, kind, title, about, ...rows.flatMap((row) => [row.name.label, row.first ?? "", row.second ?? ""])];
+    const rows = this.rowsOfEntry(number).filter((row) => kind !== CHANGED || row.differs);
+    const places = this.ties[number - this.things.length]?.groups.flat().map(tiedPlace) ?? [];
+    return [what, KINDS[kind], title, about, this.numbersOf(number), ...places, ...rows.flatMap((row) => [row.name.label, row.first ?? "", row.second ?? ""])];
   }
 }
 
-const entryOf = (thing) => ({ what: thing.what, kind: thing.kind, title: nameOf(thing), about: thing.about, points: thing.points });
+const shownRow = ({ name, first, second, differs }) => ({ label: name.label, holds: name.holds, first, second, differs });
+
+const entryOf = (thing) => ({ what: thing.what, kind: KINDS.indexOf(thing.kind), title: nameOf(thing), about: thing.about, points: thing.points });
 
 const entryOfTie = (tie) => ({
   what: "tie",
-  kind: KINDS[2],
+  kind: CHANGED,
   title: tieLine(tie),
   about: `at ${counted(tiePoints(tie).length)} places`,
   points: tiePoints(tie),
 });
 
 function addLine(shapes, points, kind) {
-  for (const point of points) shapes.add(...position(point));
+  for (const point of eachPoint(points)) shapes.add(...position(point));
   shapes.endChain(kind);
 }

@@ -11,6 +11,9 @@ const COMMENT = /^# [0-9?]+ [^ \n]+(?:, [0-9?]+ [^ \n]+)* {2}[^\n]+$/;
 // The flags of two masks, as command lines have them.
 export const flagsOf = (masks) => FLAGS.filter((flag) => masks[flag.slice("--no-".length)]);
 
+// What two masks leave out, in words.
+export const leftOut = (masks) => [masks.sources && "sources", masks.reserved && "reserved fields"].filter(Boolean).join(" and ");
+
 const heading = (flags) => [FORM, ...flags].join(" ");
 
 // A manifest of these counties, each with its fingerprint and its stem.

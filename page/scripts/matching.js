@@ -220,16 +220,20 @@ export const rowsOfLandmark = (comparison, one, other) => landmarkRows(compariso
 export const rowsOfPolygon = (one, other) => rows(one && polygonFields(one), other && polygonFields(other));
 export const rowsOfChain = (comparison, one, other) => rows(one && comparison.first.chain(one), other && comparison.second.chain(other));
 
-// The numbers in these records of the things in their canonical text, which was made with these masks, by the keys of the things.
+// The keys in these records of the things in their canonical text, which was made with these masks, by the keys of the things there.
 // Chains are matched by their points, so that they need no mask.
-export function ownNumbers(records, canonical, masks) {
+export function ownKeys(records, canonical, masks) {
   const chains = records.chains.map((chain) => (comesAfterItsReverse(chain.points) ? turned(chain) : chain));
   const unsourced = (landmark) => ({ ...landmark, bodies: landmark.bodies.map((body) => LANDMARK.blanked(body, "SOURCE")) });
   const landmarks = masks.sources ? records.landmarks.map(unsourced) : records.landmarks;
   const found = compareCounties(new County(chains, records.names, records.polygons, landmarks), canonical);
-  const numbers = new Map();
+  const keys = new Map();
   for (const part of [found.chains, found.landmarks, found.polygons]) {
-    for (const [one, other] of [...part.alike, ...part.changed]) numbers.set(other.key, numberOf(one.key));
+    for (const [one, other] of [...part.alike, ...part.changed]) keys.set(other.key, one.key);
   }
-  return numbers;
+  return keys;
+}
+
+export function ownNumbers(records, canonical, masks) {
+  return new Map([...ownKeys(records, canonical, masks)].map(([key, own]) => [key, numberOf(own)]));
 }

@@ -12,6 +12,9 @@ export function kindOf(path) {
   return ending ? (ending[2] ?? "ZIP").toUpperCase() : "";
 }
 
+// A name without the marks that turn its line round.
+export const shownName = (path) => path.replace(/[\u061c\u200e\u200f\u202a-\u202e\u2066-\u2069]/g, "");
+
 export const baseOf = (path) => path.slice(path.lastIndexOf("/") + 1);
 
 // A path that is the same for names that differ only in case.

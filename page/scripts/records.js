@@ -4,7 +4,7 @@ import { CHAIN, LANDMARK, NAME, POLYGON, RANGE, TOPOLOGY } from "./contents.js";
 import { NO_POINT } from "./points.js";
 import { LENGTHS } from "./tables.js";
 
-const UNUSED_PLACES = /(\+000000000\+00000000)+$/;
+export const UNUSED_PLACES = /(\+000000000\+00000000)+$/;
 
 export class NotCanonical extends Error {}
 

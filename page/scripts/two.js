@@ -1,24 +1,35 @@
-// Two counties: whether they are one map, and where they differ, on a map and as a list.
-import { badge, Stages, troubleOf } from "./card.js";
+// Two counties: whether they are one map; where they differ, or how their files differ although they are one map.
+import { badge, notesOf, Stages, troubleOf } from "./card.js";
 import { CountyPanel } from "./county_panel.js";
-import { announce, h, replace, save } from "./dom.js";
-import { DifferenceList } from "./difference_list.js";
-import { Assistant, engineModule } from "./jobs.js";
-import { differencesLook, KIND_CLASSES } from "./looks.js";
-import { MapView } from "./map.js";
-import { plainName } from "./names.js";
-import { moved } from "./one.js";
+import { Differing } from "./differing.js";
+import { announce, copyButton, h, replace } from "./dom.js";
+import { Assistant } from "./jobs.js";
+import { KIND_CLASSES } from "./kinds.js";
+import { flagsOf, leftOut } from "./manifests.js";
+import { baseOf, shownName } from "./names.js";
+import { counted } from "./numbers.js";
+import { OneMap } from "./one_map.js";
+
+const COUNTED = { chain: "chain", landmark: "landmark", polygon: "polygon", "feature name": "name" };
 
 export class TwoCounties {
   constructor(counties, masks) {
     Object.assign(this, { counties, masks });
     this.panels = counties.map((county) => new CountyPanel(county, masks, () => this.finishOne()));
+    this.verdict = h("div", { class: "verdict" });
+    this.sets = h("div", { class: "sets-box" });
+    this.pair = h("div", { class: "pair" });
+    this.rest = h("div", { class: "rest-box" });
+    this.node = h("div", { class: "two" }, h("div", { class: "top" }, this.verdict, this.sets), this.pair, this.rest);
+    this.order();
+  }
+
+  // Names the panels by their order.
+  order() {
     this.panels.forEach((panel, place) => {
       panel.ordinal = KIND_CLASSES[place];
     });
-    this.verdict = h("div", { class: "verdict", role: "status" });
-    this.rest = h("div", { class: "compared" });
-    this.node = h("div", { class: "two" }, this.verdict, h("div", { class: "pair" }, this.panels.map((panel) => panel.node)), this.rest);
+    replace(this.pair, this.panels.map((panel) => panel.node));
   }
 
   start() {
@@ -28,101 +39,87 @@ export class TwoCounties {
   finishOne() {
     if (!this.panels.every((panel) => panel.result || panel.trouble)) return;
     if (this.panels.every((panel) => panel.isAccepted)) this.compare();
-    else replace(this.verdict, h("p", { class: "none" }, "They can't be compared: not both are accepted."));
+    else this.tell("They can't be compared: not both are accepted.");
+  }
+
+  tell(sentence) {
+    replace(this.verdict, h("p", { class: "none" }, sentence));
+    announce(sentence);
   }
 
   async compare() {
     const stages = new Stages(["comparing", "matching", "map"], () => this.assistant.end());
     replace(this.verdict, stages.node);
-    this.assistant = new Assistant((stage) => (this.saving ?? stages).at(stage));
+    this.assistant = new Assistant((stage) => (this.shown?.onstage ?? ((each) => stages.at(each)))(stage));
     try {
       const texts = this.panels.map((panel) => panel.result.text);
       this.found = await this.assistant.ask("compareTexts", { texts });
     } catch (error) {
-      replace(this.verdict, troubleOf(error.message));
+      if (!this.isGone) replace(this.verdict, troubleOf(error.message));
       return;
     }
     if (!this.isGone) this.show();
   }
 
   show() {
-    const { areOneMap, verdict } = this.found;
-    const text = areOneMap ? "Same map" : "Different maps";
-    const why = areOneMap ? "Both canonical texts are equal, byte for byte." : verdict || "The canonical texts differ.";
+    const { areOneMap } = this.found;
+    const without = leftOut(this.masks);
+    const text = `${areOneMap ? "Same map" : "Different maps"}${without ? `, leaving out ${without}` : ""}`;
+    const why = areOneMap ? "Both canonical texts are equal, byte for byte." : sentenceOf(this.found);
     replace(this.verdict, h("h2", {}, badge(areOneMap ? "accepted" : "differ", text)), h("p", {}, why));
     announce(`${text}. ${why}`);
-    if (!areOneMap) this.showDifferences();
+    this.pair.hidden = true;
+    replace(this.sets, this.setsTable(), this.panels.map((panel) => notesOf(panel.result.notes, shownName(panel.county.stem))));
+    this.shown = areOneMap ? new OneMap(this.panels, this.masks) : new Differing(this.found, this.assistant, this.panels, this.masks);
+    replace(this.rest, this.shown.node);
+    document.body.classList.add("one-screen");
   }
 
-  showDifferences() {
-    const { shapes } = this.found;
-    const { shift } = shapes.chains;
-    const points = [
-      ...shapes.landmarks.map(({ place, title }) => ({ place: moved(place, shift), title, kind: 3 })),
-      ...shapes.points.map(({ place, kind, entry }) => ({ place: moved(place, shift), kind, entry })),
-    ];
-    const entryOf = (found) => (found.point >= 0 ? points[found.point].entry : shapes.entries[found.chain - shapes.firstEntry]);
-    const titleOf = (found) => (found.point >= 0 ? points[found.point].title : shapes.titles[found.chain]) ?? this.list.titleOf(entryOf(found));
-    this.list = new DifferenceList(this.found, this.assistant, {
-      onhide: (kinds) => this.map.hide(kinds),
-      onchoose: (entry) => this.showOnMap(entry, points),
-    });
-    const onpick = (found) => found && entryOf(found) !== undefined && this.list.show(entryOf(found));
-    this.map = new MapView({ chains: shapes.chains, points, look: differencesLook, onpick, titleOf, label: "Map of both counties" });
-    replace(this.rest, [
-      h("div", { class: "chart" }, this.map.frame),
-      h("div", { class: "side" }, this.list.node, this.saveBox()),
-    ]);
+  // Both sets with their fingerprints, and what was compared.
+  setsTable() {
+    const rows = this.panels.map(({ county, result }, place) => h("tr", {}, [
+      h("th", { scope: "row", class: KIND_CLASSES[place] }, KIND_CLASSES[place]),
+      h("td", { class: "name" }, h("bdi", { title: shownName(county.stem) }, shownName(baseOf(county.stem)))),
+      h("td", {}, h("code", { class: "fingerprint" }, result.fingerprint)),
+      h("td", {}, copyButton(result.fingerprint, `${KIND_CLASSES[place]} fingerprint`)),
+    ]));
+    const without = leftOut(this.masks);
+    const what = without ? `all fields but ${without} (${flagsOf(this.masks).join(" ")})` : "all fields";
+    const exchange = h("button", { type: "button", class: "quiet", onclick: () => this.exchange() }, "⇄ Exchange first and second");
+    return h("table", { class: "sets" }, h("tbody", {}, rows, h("tr", {}, h("th", { scope: "row" }, "compared"), h("td", {}, what), h("td", { colSpan: 2 }, exchange))));
   }
 
-  showOnMap(entry, points) {
-    const { shapes } = this.found;
-    const chain = shapes.entries.indexOf(entry.number);
-    const point = points.findIndex((each) => each.entry === entry.number);
-    if (!entry.places.length) return;
-    const begin = shapes.chains.starts;
-    const at = chain + shapes.firstEntry;
-    const places = chain < 0 ? entry.places : [...shapes.chains.places.subarray(2 * begin[at], 2 * begin[at + 1])].reduce(paired, []);
-    this.map.showPlaces(places);
-    this.map.choose(chain >= 0 ? { chain: at } : point >= 0 ? { point } : null);
+  // Compares them the other way round.
+  exchange() {
+    this.end();
+    this.counties.reverse();
+    this.panels.reverse();
+    this.order();
+    replace(this.rest);
+    this.compare();
   }
 
-  saveBox() {
-    this.withAlike = h("input", { type: "checkbox", id: "with-alike" });
-    this.saveState = h("div", {});
-    const button = h("button", { type: "button", class: "main", onclick: () => this.save(button) }, "Save as GeoJSON");
-    const label = h("label", { for: "with-alike" }, this.withAlike, "with what is the same in both maps");
-    return h("div", { class: "actions" }, button, label, this.saveState);
-  }
-
-  async save(button) {
-    button.disabled = true;
-    this.saving = new Stages(["reading again", "writing"]);
-    replace(this.saveState, this.saving.node);
-    try {
-      const sets = this.panels.map(({ county, result }) => ({ name: county.stem, fingerprint: result.fingerprint }));
-      const { text } = await this.assistant.ask("saveDifferences", {
-        module: await engineModule(), counties: this.counties, sets, masks: this.masks, withAlike: this.withAlike.checked,
-      });
-      save(`${this.counties.map(({ stem }) => plainName(stem)).join("-")}.geojson`, text);
-      replace(this.saveState);
-      announce("GeoJSON saved");
-    } catch (error) {
-      replace(this.saveState, troubleOf(error.message));
-    }
-    button.disabled = false;
-    this.saving = undefined;
+  end() {
+    this.assistant?.end();
+    this.shown?.dispose();
+    this.shown = undefined;
+    document.body.classList.remove("one-screen");
   }
 
   dispose() {
     this.isGone = true;
     for (const panel of this.panels) panel.dispose();
-    this.assistant?.end();
-    this.map?.dispose();
+    this.end();
   }
 }
 
-function paired(found, value, at, all) {
-  if (at % 2 === 0) found.push([value, all[at + 1]]);
-  return found;
+// How many things of each subject differ, in a sentence.
+export function sentenceOf({ verdict, counts, subjects, ties }) {
+  const numbers = subjects.map((subject) => [COUNTED[subject], counts[subject].slice(0, 3).reduce((sum, count) => sum + count, 0)]);
+  const parts = numbers.filter(([, count]) => count > 0).map(([name, count]) => `${counted(count)} ${name}${count === 1 ? "" : "s"}`);
+  const joined = ties ? `${counted(ties)} joined differently` : "";
+  if (!parts.length) return `${verdict || "The canonical texts differ."}${joined ? ` ${joined[0].toUpperCase()}${joined.slice(1)}.` : ""}`;
+  const last = parts.pop();
+  const isOne = !parts.length && last.startsWith("1 ");
+  return `${parts.length ? `${parts.join(", ")} and ${last}` : last} differ${isOne ? "s" : ""}${joined ? `, ${joined}` : ""}.`;
 }

@@ -1,6 +1,8 @@
 // The part of a map that is shown: which points of the map are where on the canvas. Positions on the map are in millionths of a degree.
 
 const EARTH = 111_320 / 1_000_000; // metres for a millionth of a degree of latitude
+const FOOT = 0.3048;
+const MILE = 5280 * FOOT;
 const MARGIN = 24;
 const LARGEST_SCALE = 2; // pixels for a millionth of a degree
 
@@ -66,15 +68,25 @@ export class View {
     return EARTH / this.scale;
   }
 
-  // A round length in metres, and how many pixels it takes.
-  ruler(most) {
+  // Round lengths in metres and in feet, and how many pixels each takes.
+  rulers(most) {
     const metres = most * this.metresToPixel();
-    const power = 10 ** Math.floor(Math.log10(metres));
-    const length = [5, 2, 1].map((step) => step * power).find((each) => each <= metres);
-    return { text: length >= 1000 ? `${length / 1000} km` : `${length} m`, pixels: (length / EARTH) * this.scale };
+    const pixels = (length) => (length / EARTH) * this.scale;
+    const [metric, feet, miles] = [metres, metres / FOOT, metres / MILE].map(roundLength);
+    const isInMiles = miles >= 1;
+    return [
+      { text: metric >= 1000 ? `${metric / 1000} km` : `${metric} m`, pixels: pixels(metric) },
+      { text: isInMiles ? `${miles} mi` : `${feet} ft`, pixels: pixels(isInMiles ? miles * MILE : feet * FOOT) },
+    ];
   }
 
   copy() {
     return { longitude: this.longitude, latitude: this.latitude, scale: this.scale };
   }
+}
+
+// The greatest of 1, 2, 5, 10, 20 and so on that isn't more than a length.
+function roundLength(length) {
+  const power = 10 ** Math.floor(Math.log10(length));
+  return [5, 2, 1].map((step) => step * power).find((each) => each <= length) ?? power;
 }

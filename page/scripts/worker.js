@@ -1,5 +1,6 @@
 // The work of the page, in a worker of its own. It is asked by one message and answers with any number of { stage } and one { answer }
 // or { trouble }. After the differences of two maps were found it goes on to answer questions about them.
+import { fileDifferences } from "./file_differences.js";
 import { flagsOf } from "./manifests.js";
 import { compareCounties, ownNumbers } from "./matching.js";
 import { geojson } from "./geojson.js";
@@ -58,25 +59,51 @@ function areEqual(one, other) {
 async function compareTexts({ texts }) {
   report({ stage: "comparing" });
   const [first, second] = await Promise.all(texts.map(async (text) => new Uint8Array(await text.arrayBuffer())));
-  const areOneMap = areEqual(first, second);
+  if (areEqual(first, second)) return { areOneMap: true };
   const counties = [first, second].map(readCounty);
   report({ stage: "matching" });
-  findings = new Findings(compareCounties(...counties), counties, areOneMap);
+  findings = new Findings(compareCounties(...counties), counties);
   report({ stage: "map" });
   return findings.summary();
+}
+
+// A county's files, respelled: with the numbers, the order and the directions that they have.
+async function respelled(module, county) {
+  const { parts } = await partsOf(county, () => report({ stage: "reading again" }));
+  const { text } = respell(module, parts);
+  if (!text) throw new Unreadable(`${county.stem} can't be read again as it was`);
+  return { parts, text };
+}
+
+const canonicalCounty = async (text) => readCounty(new Uint8Array(await text.arrayBuffer()));
+
+// The numbers of things in the files of both sets, by the keys that are wanted.
+async function numbersOf({ module, counties, texts, masks, wanted }) {
+  const found = [];
+  for (const [side, county] of counties.entries()) {
+    const { text } = await respelled(module, county);
+    const numbers = ownNumbers(readCounty(text), await canonicalCounty(texts[side]), masks);
+    found.push(new Map(wanted[side].map((key) => [key, numbers.get(key)])));
+  }
+  return found;
+}
+
+// How two files of one map differ.
+async function compareFiles({ module, counties, text, masks }) {
+  const files = [];
+  for (const county of counties) files.push(await respelled(module, county));
+  return fileDifferences(files, await canonicalCounty(text), masks);
 }
 
 // The differences as GeoJSON, with the numbers in the users' files.
 async function saveDifferences({ module, counties, sets, masks, withAlike }) {
   const own = [];
   for (const [place, county] of counties.entries()) {
-    const { parts } = await partsOf(county, () => report({ stage: "reading again" }));
-    const { text } = respell(module, parts);
-    if (!text) throw new Unreadable(`${county.stem} can't be read again as it was`);
+    const { text } = await respelled(module, county);
     own.push(ownNumbers(readCounty(text), findings.counties[place], masks));
   }
   report({ stage: "writing" });
-  const pieces = geojson(findings.comparison, sets, findings.areOneMap, flagsOf(masks).join(" "), own, withAlike);
+  const pieces = geojson(findings.comparison, sets, false, flagsOf(masks).join(" "), own, withAlike);
   return { text: new Blob([...pieces], { type: "application/geo+json" }) };
 }
 
@@ -85,8 +112,13 @@ export const JOBS = {
   judgeOfMany,
   compareTexts,
   saveDifferences,
+  numbersOf,
+  compareFiles,
   list: (question) => findings.list(question),
-  rows: ({ number }) => findings.rowsOf(number),
+  details: ({ number }) => findings.details(number),
+  detailsOfAlike: ({ chain }) => findings.detailsOfAlike(chain),
+  alikePolygons: () => findings.alikePolygons(),
+  takeNumbers: ({ numbers }) => findings.takeNumbers(numbers),
 };
 
 // What went wrong, as a sentence.
