@@ -65,13 +65,14 @@ function causesOf(notes, number) {
 
 const noteText = (note) => (isOfMissing(note) ? `There is ${note}.` : `${note[0].toUpperCase()}${note.slice(1).replace(/\.?$/, ".")}`);
 
-export function fingerprintOf(fingerprint, masks) {
+// The fingerprint, under an identifier if it is the only one on the page.
+export function fingerprintOf(fingerprint, masks, id) {
   const flags = flagsOf(masks);
   const halves = [fingerprint.slice(0, 32), fingerprint.slice(32)];
   const form = FORM.replace("# ", "");
   return h("div", { class: "fingerprint" }, [
     h("div", { class: "row" }, h("h3", {}, "Fingerprint"), copyButton(fingerprint, "fingerprint")),
-    h("p", { class: "digits", id: "fingerprint" }, halves.map((half) => h("span", {}, half))),
+    h("p", { class: "digits", id }, halves.map((half) => h("span", {}, half))),
     h("p", { class: "quiet" }, `The SHA-256 hash of the canonical text, ${form}${flags.length ? `, with ${flags.join(" ")}` : ""}.`),
   ]);
 }

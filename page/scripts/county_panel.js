@@ -58,7 +58,7 @@ export class CountyPanel {
 
   showAccepted() {
     replace(this.head, this.title(badge("accepted", "Accepted")));
-    replace(this.body, fingerprintOf(this.result.fingerprint, this.masks), notesOf(this.result.notes));
+    replace(this.body, fingerprintOf(this.result.fingerprint, this.masks, this.ordinal ? undefined : "fingerprint"), notesOf(this.result.notes));
     announce(`${this.name}: accepted. Fingerprint ${this.result.fingerprint.slice(0, 8)}`);
   }
 

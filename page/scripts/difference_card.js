@@ -1,7 +1,7 @@
 // What a card shows of a thing of two maps: its kind, its title, and its fields in both maps. Those that differ come first.
 import { h } from "./dom.js";
 import { fieldTable } from "./field_table.js";
-import { CHANGED, FIRST, KIND_CLASSES, KIND_SIGNS } from "./kinds.js";
+import { CHANGED, KIND_CLASSES, KIND_SIGNS } from "./kinds.js";
 import { KINDS } from "./tables.js";
 
 // The kind in words: `chain changed`, or `joined differently`.
@@ -18,13 +18,14 @@ export function differenceCard(entry) {
   ];
 }
 
+const COLUMNS = ["in the first", "in the second"];
+
 function tablesOf({ kind, rows }) {
   if (!rows.length) return [];
-  if (kind !== CHANGED) return [fieldTable(rows.map((row) => ({ ...row, first: row.first ?? row.second, second: null })), [kind === FIRST ? "in the first" : "in the second"])];
-  const heads = ["in the first", "in the second"];
+  if (kind !== CHANGED) return [fieldTable(rows.map((row) => ({ ...row, first: row.first ?? row.second, second: null })), [COLUMNS[kind] ?? "in both"])];
   const differing = rows.filter((row) => row.differs);
   const others = rows.filter((row) => !row.differs);
   const count = others.length === 1 ? "1 field is" : `${others.length} fields are`;
-  const more = others.length ? h("details", {}, h("summary", {}, `${count} the same`), fieldTable(others, heads)) : "";
-  return [fieldTable(differing, heads), more];
+  const more = others.length ? h("details", {}, h("summary", {}, `${count} the same`), fieldTable(others, COLUMNS)) : "";
+  return [fieldTable(differing, COLUMNS), more];
 }

@@ -68,7 +68,7 @@ export class TwoCounties {
     const why = areOneMap ? "Both canonical texts are equal, byte for byte." : sentenceOf(this.found);
     replace(this.verdict, h("h2", {}, badge(areOneMap ? "accepted" : "differ", text)), h("p", {}, why));
     announce(`${text}. ${why}`);
-    this.pair.hidden = true;
+    replace(this.pair);
     replace(this.sets, this.setsTable(), this.panels.map((panel) => notesOf(panel.result.notes, shownName(panel.county.stem))));
     this.shown = areOneMap ? new OneMap(this.panels, this.masks) : new Differing(this.found, this.assistant, this.panels, this.masks);
     replace(this.rest, this.shown.node);

@@ -115,8 +115,8 @@ def try_different(page: Page) -> None:
     ]
     page.equal("the counts", wanted, [text.replace("–", "-") for text in page.browser.texts(".kinds td:not(:first-child)") if text])
     page.holds("a map", page.browser.wait_for("document.querySelector('.map')?.dataset.drawn"))
-    page.browser.click(".differences li:nth-child(9) button")
-    page.holds("the fields of a chain", page.browser.wait_for("document.querySelector('.differences .inside tr')"))
+    page.browser.click(".differences li:nth-child(9) > button")
+    page.holds("the fields of a chain", page.browser.wait_for("document.querySelector('.place-card tr')"))
     saved_as(page, files, [])
     page.browser.click("#with-alike")
     saved_as(page, files, ["--all"])

@@ -15,7 +15,7 @@ from PIL import Image
 
 TOWN = ROOT / "examples/two-maps"
 NUMBER = 14  # the difference that is opened
-WIDTH, HEIGHT, COLOURS = 1280, 860, 96
+WIDTH, HEIGHT, COLOURS = 1280, 800, 96
 
 
 def main(page: Path) -> None:
@@ -27,14 +27,9 @@ def main(page: Path) -> None:
             browser.driver.execute_script("document.getElementById('unproved').hidden = true")
             browser.give([TOWN / "first.txt", TOWN / "second.txt"])
             browser.wait_for("document.querySelector('.differences li')")
-            browser.click(f".differences li:nth-child({NUMBER}) button")
-            browser.wait_for("document.querySelector('.differences .inside tr')")
-            browser.driver.execute_script(
-                "const map = document.querySelector('.tools'); for (const at of [1, 1]) map.children[at].click()"
-            )
-            browser.driver.execute_script(
-                "const list = document.querySelector('.differences'); list.scrollTop = document.querySelector('.inside').parentElement.offsetTop - list.offsetTop - 70; scrollTo(0, 0)"
-            )
+            browser.wait_for("document.querySelector('.compared').dataset.numbered")
+            browser.click(f".differences li:nth-child({NUMBER}) > button")
+            browser.wait_for("document.querySelector('.place-card tr')")
             browser.wait_for("document.querySelector('.map').dataset.drawn")
             browser.picture(Path(room, "page.png"))
         finally:

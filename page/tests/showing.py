@@ -1,0 +1,499 @@
+"""How the page shows one county, two and what is refused: on a laptop's screen, on a phone, on paper, by keyboard, and to screen readers.
+
+    page/tests/showing.py PAGE [NAME..]
+
+The cases are a part of tests/test-page. Alone they are tried on PAGE, all of them or those with these names.
+"""
+
+from __future__ import annotations
+
+import re
+import sys
+import tempfile
+import time
+from pathlib import Path
+from typing import Any, Callable
+
+from browser import Browser
+from dev.testing import ROOT, run
+from in_browser import EXAMPLES, RESULT, TOOLS, VERDICT, Page
+
+TOWN = [EXAMPLES / "two-maps/first.txt", EXAMPLES / "two-maps/second.txt"]
+LISTED = "document.querySelector('.differences li')"
+DRAWN = "document.querySelector('.map')?.dataset.drawn"
+NUMBERED = "document.querySelector('.compared')?.dataset.numbered"
+CLOSED = "document.querySelector('.place-card').hidden"
+CARD = "document.querySelector('.place-card:not([hidden]) h3')"
+LAPTOP, PHONE = (1280, 800), (390, 844)
+LEAST_CONTRAST = 3.0
+
+
+def resize(page: Page, size: tuple[int, int], **more: Any) -> None:
+    page.browser.command(
+        "Emulation.setDeviceMetricsOverride", width=size[0], height=size[1], deviceScaleFactor=1, mobile=False, **more
+    )
+
+
+def show_town(page: Page, size: tuple[int, int] = LAPTOP) -> None:
+    resize(page, size)
+    page.show(TOWN, LISTED)
+    page.browser.wait_for(DRAWN)
+
+
+def report(page: Page, *flags: str) -> str:
+    """What the tools print about both maps of the town."""
+    return run([TOOLS, "diff", "--program", page.program, *flags, *TOWN]).out.decode()
+
+
+def press(page: Page, key: str) -> None:
+    code = {"Enter": 13, "Escape": 27, "End": 35, "Home": 36, "ArrowUp": 38, "ArrowDown": 40, "Tab": 9}[key]
+    text = {"text": "\r"} if key == "Enter" else {}
+    for kind in ("keyDown", "keyUp"):
+        page.browser.command("Input.dispatchKeyEvent", type=kind, key=key, code=key, windowsVirtualKeyCode=code, **text)
+
+
+def try_height(page: Page) -> None:
+    """The document ends with its footer."""
+    for size in (LAPTOP, (1400, 900), (900, 700), PHONE):
+        show_town(page, size)
+        footer = "Math.round(document.querySelector('footer').getBoundingClientRect().bottom + scrollY)"
+        found = page.browser.evaluate(f"[document.documentElement.scrollHeight, {footer}]")
+        page.equal(f"the document's height at {size}, and its footer's end", found[1], found[0])
+
+
+def try_one_screen(page: Page) -> None:
+    """On a laptop everything is on one screen, and the names, the fingerprints and what was compared take three lines."""
+    show_town(page)
+    parts = ".map, .kinds, .filter input, .differences, .side .actions button, .sets, .verdict, footer"
+    inside = "(each) => { const { left, top, right, bottom } = each.getBoundingClientRect(); return left >= 0 && top >= 0 && right <= 1280 && bottom <= 800; }"
+    page.equal("what isn't on the screen", [], page.browser.evaluate(f"[...document.querySelectorAll('{parts}')].filter((each) => !({inside})(each)).map((each) => each.className || each.tagName)"))
+    fingerprints = [page.printed("fingerprint", file) for file in TOWN]
+    lines = [text.split() for text in page.browser.texts(".sets tr")]
+    page.equal("the first line", ["FIRST", "first.txt", fingerprints[0], "Copy"], lines[0])
+    page.equal("the second line", ["SECOND", "second.txt", fingerprints[1], "Copy"], lines[1])
+    page.equal("the third line", ["COMPARED", "all", "fields"], lines[2][:3])
+    page.equal("lines", 3, len(lines))
+    page.equal("the verdict", "19 chains, 3 landmarks, 2 polygons and 1 name differ.", page.browser.text(".verdict p"))
+
+
+def try_masks(page: Page) -> None:
+    """The verdict and the third line name what is left out."""
+    show_town(page)
+    page.browser.click("#no-sources")
+    page.browser.wait_for(f"document.querySelector('.verdict h2')?.textContent.includes('leaving')")
+    page.equal("the verdict without sources", "Different maps, leaving out sources", page.browser.text(".verdict h2"))
+    page.holds("the third line", "all fields but sources (--no-sources)" in page.browser.text(".sets"), page.browser.text(".sets"))
+    page.browser.click("#no-sources")
+    page.browser.wait_for(LISTED)
+
+
+def listed_numbers(page: Page) -> list[list[str]]:
+    return [re.findall(r"\d+", text) for text in page.browser.texts(".differences .numbers")]
+
+
+def try_numbers(page: Page) -> None:
+    """The list has the numbers of both files, which the tools print, in the same order."""
+    show_town(page)
+    page.holds("the files' numbers", page.browser.wait_for(NUMBERED), page.browser.text(".list"))
+    lines = [line for line in report(page).splitlines() if re.match(r"  \S", line)]
+    wanted = [re.search(r"(?:TLID|LAND|POLYID) (\d+)(?: and (\d+))?$", line) for line in lines]
+    page.equal("numbers", [[each for each in found.groups() if each] if found else [] for found in wanted], listed_numbers(page))
+
+
+def try_values(page: Page) -> None:
+    """The list shows the old and the new value of what changed."""
+    show_town(page)
+    texts = page.browser.texts(".differences li")
+    maple = next(text for text in texts if text.startswith("≠\nMaple Ave"))
+    page.holds("a changed field", "ZIPR 36067 → 36068" in maple, maple)
+    harrison = next(text for text in texts if text.startswith("≠\nHarrison St"))
+    page.holds("three of seven fields", "FRADDL of range 1 (none) → 9001" in harrison and "and 4 more fields" in harrison, harrison)
+
+
+def search(page: Page, text: str) -> list[str]:
+    """The names of what the list has with these words."""
+    page.browser.driver.execute_script(
+        "const [text] = arguments, box = document.getElementById('filter'); document.querySelector('.listed').textContent = ''; box.value = text; box.dispatchEvent(new Event('input'))", text
+    )
+    page.browser.wait_for("document.querySelector('.listed').textContent")
+    return page.browser.texts(".differences .name")
+
+
+def try_search(page: Page) -> None:
+    """Things are found by several words and by their TLIDs."""
+    show_town(page)
+    page.browser.wait_for(NUMBERED)
+    page.equal("two words", ["Hickory Ave (A41)"], search(page, "998 Hickory"))
+    page.equal("words in any order", ["Hickory Ave (A41)"], search(page, "hickory  TOADDR 900"))
+    page.equal("a TLID of the second file", ["Hickory Ave (A41)"], search(page, "TLID 1977"))
+    page.equal("a value", ["Maple Ave (A41)"], search(page, "ZIPR 36068"))
+    page.equal("nothing", [], search(page, "hickory maple"))
+    page.equal("all", 25, len(search(page, "")))
+
+
+COLOURED = """
+const [name] = arguments;
+const canvas = document.querySelector('.map canvas');
+const probe = Object.assign(document.createElement('canvas'), { width: canvas.width, height: canvas.height }).getContext('2d', { willReadFrequently: true });
+probe.fillStyle = getComputedStyle(document.documentElement).getPropertyValue('--' + name).trim();
+probe.fillRect(0, 0, 1, 1);
+const [red, green, blue] = probe.getImageData(0, 0, 1, 1).data;
+probe.clearRect(0, 0, 1, 1);
+probe.drawImage(canvas, 0, 0);
+const { data } = probe.getImageData(0, 0, canvas.width, canvas.height);
+let count = 0;
+for (let at = 0; at < data.length; at += 4) count += data[at] === red && data[at + 1] === green && data[at + 2] === blue && data[at + 3] === 255;
+return count;
+"""
+
+
+def coloured(page: Page, name: str) -> int:
+    """How many pixels of the map have a colour of the page's style."""
+    page.browser.wait_for(DRAWN)
+    return int(page.browser.driver.execute_script(COLOURED, name))
+
+
+def switch(page: Page, label: str) -> None:
+    page.browser.driver.execute_script(
+        "document.querySelector(`.kinds input[aria-label^='${arguments[0]}']`).click()", label
+    )
+    page.browser.wait_for(DRAWN)
+
+
+def try_kinds(page: Page) -> None:
+    """Each kind has its form in the key, and each subject of it a switch for the map and the list."""
+    show_town(page)
+    forms = page.browser.evaluate("[...document.querySelectorAll('.kinds .swatch')].map((each) => [each.querySelector('line').getAttribute('stroke-dasharray') !== '', each.querySelectorAll('line').length, each.textContent])")
+    page.equal("dash, edges and sign of each kind", [[True, 1, "−"], [False, 1, "+"], [False, 2, "≠"], [False, 1, ""]], forms)
+    page.equal("switches", 11, len(page.browser.texts(".kinds input")))
+    for label, colour, left in (("chains only in the first", "first", 21), ("chains only in the second", "second", 17), ("chains changed", "changed", 6)):
+        before = coloured(page, colour)
+        switch(page, label)
+        page.browser.wait_for(f"document.querySelectorAll('.differences li').length === {left}")
+        page.equal(f"the list without {label}", left, len(page.browser.texts(".differences li")))
+        page.holds(f"the map without {label}", coloured(page, colour) < before / 2, coloured(page, colour))
+    for label, left in (("landmarks changed", 5), ("polygons changed", 3), ("names only in the second", 2)):
+        switch(page, label)
+        page.holds(f"the list without {label}", page.browser.wait_for(f"document.querySelectorAll('.differences li').length === {left}"))
+    page.equal("nothing changed is on the map", 0, coloured(page, "changed"))
+    before = coloured(page, "alike")
+    switch(page, "polygons alike")
+    page.holds("polygons that are alike", page.browser.wait(lambda: coloured(page, "alike") > before), before)
+
+
+def try_card(page: Page) -> None:
+    """A card opens on the map, at the place of what was chosen, with both values. It closes by the Escape key."""
+    show_town(page)
+    page.browser.wait_for(NUMBERED)
+    page.browser.click(".differences li:nth-child(14) > button")
+    page.holds("a card", page.browser.wait_for(CARD), page.browser.text(".chart"))
+    text = page.browser.text(".place-card")
+    page.holds("the card's words", all(word in text for word in ("≠ chain changed", "Hickory Ave (A41)", "900", "998", "TLID 178 and 1977", "28 fields are the same")), text)
+    box, chart = page.browser.evaluate("['.place-card', '.chart'].map((each) => { const { left, top, right, bottom } = document.querySelector(each).getBoundingClientRect(); return [left, top, right, bottom]; })")
+    page.holds("the card is on the map", box[0] >= chart[0] and box[1] >= chart[1] and box[2] <= chart[2] and box[3] <= chart[3], [box, chart])
+    page.equal("the item of the list", "true", page.browser.evaluate("document.querySelector('.differences li:nth-child(14) > button').getAttribute('aria-current')"))
+    page.holds("the chosen chain is marked", coloured(page, "chosen") > 50, coloured(page, "chosen"))
+    page.browser.click(".place-card .close")
+    page.equal("a closed card", True, page.browser.evaluate(CLOSED))
+    page.equal("nothing is marked", 0, coloured(page, "chosen"))
+
+
+def click_map(page: Page, x: float, y: float) -> None:
+    left, top = page.browser.evaluate("(({ left, top }) => [left, top])(document.querySelector('.map').getBoundingClientRect())")
+    for kind in ("mousePressed", "mouseReleased"):
+        page.browser.command("Input.dispatchMouseEvent", type=kind, x=left + x, y=top + y, button="left", clickCount=1)
+
+
+def try_click(page: Page) -> None:
+    """A click on the map opens a card there: of what differs, and of a chain that is alike."""
+    show_town(page)
+    page.browser.click(".differences li:nth-child(14) > button")
+    page.browser.wait_for(CARD)
+    x, y = page.browser.evaluate("(({ left, bottom, width }) => { const map = document.querySelector('.map').getBoundingClientRect(); return [left + width / 2 - map.left, bottom - map.top]; })(document.querySelector('.place-card').getBoundingClientRect())")
+    page.browser.click(".place-card .close")
+    click_map(page, x - 4, y + 50)  # the chain begins below the card
+    page.browser.wait_for("document.querySelector('.place-card .kind.changed')")
+    page.holds("a card at a click", "900" in page.browser.text(".place-card"), page.browser.text(".place-card"))
+    resize(page, LAPTOP)
+    page.show(TOWN[:1])
+    page.browser.wait_for(DRAWN)
+    page.browser.driver.execute_script("document.querySelector('.map').focus()")
+    press(page, "Enter")
+    page.holds("a card of one county", page.browser.wait_for(CARD), page.browser.text("main"))
+    page.holds("its fields", "CFCC" in page.browser.text(".place-card"), page.browser.text(".place-card"))
+
+
+def try_rulers(page: Page) -> None:
+    """The map's scale is in metres and in feet."""
+    show_town(page)
+    found = page.browser.evaluate("[...document.querySelectorAll('.rulers div')].map((each) => [each.textContent, each.offsetWidth])")
+    units = {"m": 1.0, "km": 1000.0, "ft": 0.3048, "mi": 1609.344}
+    metres = [float(text.split()[0]) * units[text.split()[1]] / pixels for text, pixels in found]
+    page.equal("units", ["m", "ft"], [text.split()[1] for text, _ in found])
+    page.holds("metres to a pixel", abs(metres[0] / metres[1] - 1) < 0.03, found)
+    # 0.016 degrees of latitude are 1,781 m, and the town is 0.0155 degrees high.
+    page.holds("the town's height", 2.5 < metres[0] < 4.5, metres)
+
+
+def try_keyboard(page: Page) -> None:
+    """The list is one stop of the tabulator key, arrow keys go along it, and chains can be reached on the map."""
+    show_town(page)
+    page.equal("stops in the list", 1, page.browser.evaluate("document.querySelectorAll('.differences [tabindex=\"0\"], .differences button:not([tabindex])').length"))
+    focused = "[...document.querySelectorAll('.differences li')].indexOf(document.activeElement.parentElement)"
+    page.browser.driver.execute_script("document.querySelector('.differences button[tabindex=\"0\"]').focus()")
+    found = []
+    for key in ("ArrowDown", "ArrowDown", "ArrowUp", "End", "ArrowDown", "Home", "ArrowUp"):
+        press(page, key)
+        found.append(page.browser.evaluate(focused))
+    page.equal("the items that keys go to", [1, 2, 1, 24, 24, 0, 0], found)
+    press(page, "Enter")
+    page.holds("a card by the keyboard", page.browser.wait_for("document.activeElement.closest('.place-card')"), page.browser.text(".chart"))
+    press(page, "Escape")
+    page.equal("back in the list", [0, True], page.browser.evaluate(f"[{focused}, {CLOSED}]"))
+    page.browser.driver.execute_script("document.querySelector('.map').focus()")
+    press(page, "Enter")
+    page.holds("a chain of the map", page.browser.wait_for("document.activeElement.closest('.place-card')"), page.browser.text(".chart"))
+    press(page, "Escape")
+    page.equal("a closed card", True, page.browser.evaluate(CLOSED))
+
+
+def try_exchange(page: Page) -> None:
+    """First and second can be exchanged."""
+    show_town(page)
+    counts = page.browser.texts(".kinds td:not(:first-child)")
+    page.browser.driver.execute_script("[...document.querySelectorAll('.sets button')].find((each) => each.innerText.includes('Exchange')).click()")
+    page.browser.wait_for("document.querySelector('.sets .name')?.innerText === 'second.txt'")
+    page.browser.wait_for(LISTED)
+    page.equal("the names", ["second.txt", "first.txt"], page.browser.texts(".sets .name"))
+    page.equal("a changed value", True, "ZIPR 36068 → 36067" in page.browser.text(".differences"))
+    found = page.browser.texts(".kinds td:not(:first-child)")
+    page.equal("the counts", counts[4:8] + counts[:4], found[:8])
+
+
+def try_one_map(page: Page) -> None:
+    """Two files of one map: the map is shown, and how the files differ."""
+    other = page.room / "renumbered.txt"
+    other.write_bytes((EXAMPLES / "autauga-renumbered/all.txt").read_bytes())
+    resize(page, LAPTOP)
+    page.show([EXAMPLES / "autauga/all.txt", other], VERDICT)
+    page.holds("a map", page.browser.wait_for(DRAWN), page.browser.text("main"))
+    page.browser.wait_for("document.querySelectorAll('.ways dd').length > 3")
+    ways = dict(zip(page.browser.texts(".ways dt"), page.browser.texts(".ways dd")))
+    # examples/README.md has the counts.
+    page.equal("numbers", "other numbers for 7 of 7 chains (TLID), 2 of 2 names (FEAT), 3 of 3 landmarks (LAND), 3 of 3 polygons (POLYID)", ways.get("Numbers"))
+    page.equal("direction", "4 of 7 chains run the other way", ways.get("Direction"))
+    page.holds("order", ways.get("Order", "").startswith("another order of chains"), ways)
+    page.holds("spelling", ways.get("Spelling", "").startswith("lines end in LF in the first and in LF and CR LF in the second"), ways)
+
+
+PRINTED = "dispatchEvent(new Event('beforeprint'))"
+VISIBLE_BUTTONS = "[...document.querySelectorAll('button')].filter((each) => each.offsetParent && !each.closest('.differences, .counties')).map((each) => each.innerText)"
+
+
+def luminance(colour: str) -> float:
+    """The relative luminance of a colour as a browser gives it: rgb(..) or #rrggbb."""
+    numbers = [int(part, 16) for part in re.findall("[0-9a-f]{2}", colour[1:])] if colour.startswith("#") else [int(part) for part in re.findall(r"\d+", colour)[:3]]
+    red, green, blue = [each / 255 / 12.92 if each <= 10 else ((each / 255 + 0.055) / 1.055) ** 2.4 for each in numbers]
+    return 0.2126 * red + 0.7152 * green + 0.0722 * blue
+
+
+def contrast(one: str, other: str) -> float:
+    lighter, darker = sorted((luminance(one), luminance(other)), reverse=True)
+    return (lighter + 0.05) / (darker + 0.05)
+
+
+def media(page: Page, medium: str = "", scheme: str = "light") -> None:
+    features = [{"name": "prefers-color-scheme", "value": scheme}]
+    page.browser.command("Emulation.setEmulatedMedia", media=medium, features=features)
+
+
+def on_paper(page: Page, name: str) -> None:
+    """What holds of everything that is printed, from a dark screen."""
+    page.browser.driver.execute_script(PRINTED)
+    media(page, "print", "dark")
+    resize(page, (718, 1000))
+    page.equal(f"buttons of {name} on paper", [], page.browser.evaluate(VISIBLE_BUTTONS))
+    ink, paper = page.browser.evaluate("[getComputedStyle(document.body).color, getComputedStyle(document.body).backgroundColor]")
+    page.holds(f"dark ink for {name} on white paper", contrast(ink, paper) > 10 and luminance(paper) == 1, [ink, paper])
+    top, bottom = page.browser.evaluate("[document.querySelector('footer').getBoundingClientRect().top, document.querySelector('#results').getBoundingClientRect().bottom]")
+    page.holds(f"{name} ends above the footer", bottom <= top, [bottom, top])
+    # Grey lines and marks would be light on paper if they were drawn for a dark screen.
+    page.holds(f"the map of {name} in colours for paper", coloured(page, "map-road" if name == "one county" else "alike") > 100)
+
+
+def off_paper(page: Page) -> None:
+    media(page)
+    page.browser.driver.execute_script("dispatchEvent(new Event('afterprint'))")
+    page.equal("back on the screen", False, page.browser.evaluate("document.documentElement.classList.contains('printing')"))
+
+
+def try_printing(page: Page) -> None:
+    media(page, "", "dark")
+    show_town(page)
+    on_paper(page, "two counties")
+    page.equal("what is printed", "Printed: all 25 differences, and of each at most three fields. The saved GeoJSON has all differences and all fields.", page.browser.text(".printed"))
+    off_paper(page)
+    search(page, "hickory")
+    media(page, "print")
+    page.holds("what is printed of a part", page.browser.text(".printed").startswith("Printed: the 2 of 25 differences that were listed,"), page.browser.text(".printed"))
+    media(page, "", "dark")
+    resize(page, LAPTOP)
+    page.show(TOWN[:1])
+    page.browser.wait_for(DRAWN)
+    on_paper(page, "one county")
+    bottom = page.browser.evaluate("document.querySelector('.chart').getBoundingClientRect().bottom + scrollY")
+    page.holds("one county and its map on one sheet", bottom < 950, bottom)
+    off_paper(page)
+    media(page)
+
+
+Places = list[tuple[float, float]]
+
+
+def drag(page: Page, begin: Places, at: Callable[[int], Places]) -> None:
+    """Puts fingers at places, and moves them in eight steps."""
+
+    def touch(kind: str, places: Places) -> None:
+        points = [{"x": x, "y": y, "id": number} for number, (x, y) in enumerate(places)]
+        page.browser.command("Input.dispatchTouchEvent", type=kind, touchPoints=points)
+
+    touch("touchStart", begin)
+    for step in range(1, 9):
+        touch("touchMove", at(step))
+        time.sleep(0.02)
+    touch("touchEnd", [])
+
+
+def try_phone(page: Page) -> None:
+    """Nothing is wider than the window, and a finger scrolls past the map, which two fingers zoom."""
+    other = page.room / "same.txt"
+    other.write_bytes((EXAMPLES / "autauga-renumbered/all.txt").read_bytes())
+    autauga = EXAMPLES / "autauga/all.txt"
+    for files, until in ((TOWN[:1], RESULT), ([EXAMPLES / "broken.txt"], RESULT), ([autauga, other], DRAWN), ([autauga, other, TOWN[0], EXAMPLES / "broken.txt"], "document.querySelector('.many .actions button')"), (TOWN, LISTED)):
+        resize(page, PHONE)
+        page.show(files, until)
+        page.equal(f"the width with {len(files)} files", 390, page.browser.evaluate("Math.max(document.documentElement.scrollWidth, innerWidth)"))
+    page.browser.command("Emulation.setTouchEmulationEnabled", enabled=True)
+    page.browser.driver.execute_script("document.querySelector('.map').scrollIntoView({ block: 'center' })")
+    before = page.browser.evaluate("scrollY")
+    drag(page, [(190, 480)], lambda step: [(190, 480 - 12 * step)])
+    page.holds("a finger scrolls past the map", page.browser.wait_for(f"scrollY > {before + 50}"), [before, page.browser.evaluate("scrollY")])
+    page.equal("a hint", "Two fingers move the map", page.browser.text(".tip"))
+    page.browser.driver.execute_script("document.querySelector('.map').scrollIntoView({ block: 'center' })")
+    rulers = page.browser.texts(".rulers div")
+    drag(page, [(150, 420), (230, 420)], lambda step: [(150 - 8 * step, 420), (230 + 8 * step, 420)])
+    page.holds("two fingers zoom it", page.browser.texts(".rulers div") != rulers, rulers)
+    page.browser.command("Emulation.setTouchEmulationEnabled", enabled=False)
+    page.browser.click(".differences li:nth-child(14) > button")
+    page.holds("the fields below an item of the list", page.browser.wait_for("document.querySelector('.differences .inside tr')"), page.browser.text(".list"))
+
+
+def try_likely_cause(page: Page) -> None:
+    """A missing file comes first, if what is refused is that records aren't there."""
+    stem = EXAMPLES / "autauga/TGR01001"
+    resize(page, LAPTOP)
+    for kinds, name, missing in (("1245678P", "14 LinkMissing", ".RTI"), ("124678IP", "17 NameUnknown", ".RT5"), ("124568IP", "19 LandUnknown", ".RT7")):
+        page.show([stem.with_suffix(f".RT{kind}") for kind in kinds])
+        first = page.browser.text(".refusal > :first-child")
+        page.holds(f"the refusal without {missing}", name in page.browser.text(".refusal .line"), page.browser.text(".refusal"))
+        page.equal(f"the likely cause without {missing}", f"The likely cause: there is no {missing}. Add what belongs to the county, and try again.", first)
+
+
+def try_contrast(page: Page) -> None:
+    """Borders of what can be used, and what is drawn on maps, stand out from what is behind them."""
+    names = ["edge", "first", "second", "changed", "alike", "chosen", "map-highway", "map-main", "map-road", "map-rail", "map-water", "map-boundary", "map-other", "map-landmark"]
+    for scheme in ("light", "dark"):
+        media(page, "", scheme)
+        styles = page.browser.evaluate("arguments[0].map((name) => getComputedStyle(document.documentElement).getPropertyValue('--' + name).trim())", [*names, "paper", "raised", "ground"])
+        behind = styles[len(names) :]
+        for name, colour in zip(names, styles):
+            least = min(contrast(colour, each) for each in (behind if name == "edge" else behind[:1]))
+            page.holds(f"the contrast of {name}, {scheme}", least >= LEAST_CONTRAST, f"{least:.2f}")
+    media(page)
+    show_town(page)
+    edge = page.browser.evaluate("['.filter input', '.side .actions button:not(.main)', '.chart', '.differences'].map((each) => getComputedStyle(document.querySelector(each)).borderTopColor)")
+    page.equal("borders", [], [colour for colour in edge if contrast(colour, "#f4f6f8") < LEAST_CONTRAST])
+
+
+IDENTIFIERS = "[...document.querySelectorAll('[id]')].map(({ id }) => id).filter((id, at, all) => all.indexOf(id) !== at)"
+LIVE = """
+window.said = [];
+const live = '[aria-live], [role=status], [role=alert]';
+new MutationObserver((changes) => {
+  for (const { target } of changes) {
+    const region = (target.nodeType === 3 ? target.parentElement : target)?.closest(live);
+    if (region?.isConnected && region.textContent) window.said.push(region.textContent);
+  }
+}).observe(document.body, { childList: true, subtree: true, characterData: true });
+"""
+
+
+def try_readers(page: Page) -> None:
+    """No identifier is there twice, and a verdict is announced once."""
+    resize(page, LAPTOP)
+    other = page.room / "again.txt"
+    other.write_bytes((EXAMPLES / "autauga-renumbered/all.txt").read_bytes())
+    for files, verdict in ((TOWN, "Different maps"), ([EXAMPLES / "autauga/all.txt", other], "Same map")):
+        page.browser.start_again()
+        page.browser.driver.execute_script(LIVE)
+        page.browser.give(files)
+        page.browser.wait_for(VERDICT)
+        page.browser.wait_for(f"window.said.some((text) => text.includes('{verdict}'))")
+        page.browser.wait_for(DRAWN)
+        said = page.browser.evaluate("window.said")
+        page.equal(f"announcements of {verdict}", 1, len([text for text in dict.fromkeys(said) if verdict in text]))
+        page.equal("live regions with the verdict", 1, page.browser.evaluate(f"[...document.querySelectorAll('[aria-live], [role=status], [role=alert]')].filter((each) => each.textContent.includes('{verdict}')).length"))
+        page.equal("identifiers that are there twice", [], page.browser.evaluate(IDENTIFIERS))
+
+
+def try_marked_name(page: Page) -> None:
+    """A mark in a name that turns its line round isn't shown."""
+    for mark in ("\u200f", "\u202e"):
+        file = page.room / f"cou{mark}nty.txt"
+        file.write_bytes((EXAMPLES / "autauga/all.txt").read_bytes())
+        page.show([file])
+        page.equal(f"a name with {mark!a}", "county.txt", page.browser.evaluate("document.querySelector('.card h2').textContent"))
+
+
+CASES = (
+    try_height,
+    try_one_screen,
+    try_masks,
+    try_numbers,
+    try_values,
+    try_search,
+    try_kinds,
+    try_card,
+    try_click,
+    try_rulers,
+    try_keyboard,
+    try_exchange,
+    try_one_map,
+    try_printing,
+    try_phone,
+    try_likely_cause,
+    try_contrast,
+    try_readers,
+    try_marked_name,
+)
+
+
+def main(html: str, *names: str) -> int:
+    """Tries the cases alone, as they are wanted when the page is changed."""
+    with tempfile.TemporaryDirectory() as room:
+        tests = Page("page, ", ROOT / "prebuilt/tigercanon", Path(room))
+        tests.browser = Browser(Path(room), *LAPTOP)
+        try:
+            tests.browser.open(Path(html).resolve())
+            for case in CASES:
+                if not names or case.__name__.removeprefix("try_") in names:
+                    case(tests)
+            tests.browser.collect()
+            tests.equal("requests and the browser's log", ([], []), (tests.browser.requests, tests.browser.log))
+        finally:
+            tests.browser.close()
+    return tests.close()
+
+
+if __name__ == "__main__":
+    sys.exit(main(*sys.argv[1:]))
