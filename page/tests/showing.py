@@ -1,21 +1,13 @@
-"""How the page shows one county, two and what is refused: on a laptop's screen, on a phone, on paper, by keyboard, and to screen readers.
-
-    page/tests/showing.py PAGE [NAME..]
-
-The cases are a part of tests/test-page. Alone they are tried on PAGE, all of them or those with these names.
-"""
+"""How the page shows one county, two and what is refused: on a laptop's screen, on a phone, on paper, by keyboard, and to screen readers."""
 
 from __future__ import annotations
 
 import re
-import sys
-import tempfile
 import time
 from pathlib import Path
 from typing import Any, Callable
 
-from browser import Browser
-from dev.testing import ROOT, run
+from dev.testing import run
 from in_browser import EXAMPLES, RESULT, TOOLS, VERDICT, Page
 
 TOWN = [EXAMPLES / "two-maps/first.txt", EXAMPLES / "two-maps/second.txt"]
@@ -476,24 +468,3 @@ CASES = (
     try_readers,
     try_marked_name,
 )
-
-
-def main(html: str, *names: str) -> int:
-    """Tries the cases alone, as they are wanted when the page is changed."""
-    with tempfile.TemporaryDirectory() as room:
-        tests = Page("page, ", ROOT / "prebuilt/tigercanon", Path(room))
-        tests.browser = Browser(Path(room), *LAPTOP)
-        try:
-            tests.browser.open(Path(html).resolve())
-            for case in CASES:
-                if not names or case.__name__.removeprefix("try_") in names:
-                    case(tests)
-            tests.browser.collect()
-            tests.equal("requests and the browser's log", ([], []), (tests.browser.requests, tests.browser.log))
-        finally:
-            tests.browser.close()
-    return tests.close()
-
-
-if __name__ == "__main__":
-    sys.exit(main(*sys.argv[1:]))
