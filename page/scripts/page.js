@@ -21,8 +21,9 @@ function setMasks({ sources, reserved }) {
   byId("no-reserved").checked = reserved;
 }
 
-// The masks of a manifest can't be changed while counties are compared with it.
+// The masks of a manifest can't be changed while counties are compared with it. At a new start the user's own come back.
 function fixMasks(masks) {
+  state.ownMasks ??= masksNow();
   setMasks(masks);
   for (const id of MASK_BOXES) byId(id).disabled = true;
 }
@@ -121,6 +122,8 @@ async function example(name) {
 
 function startAgain() {
   Object.assign(state, { counties: [], manifests: [], skipped: new Map(), before: undefined, round: state.round + 1 });
+  if (state.ownMasks) setMasks(state.ownMasks);
+  state.ownMasks = undefined;
   complain("");
   show();
   byId("choose-files").focus();

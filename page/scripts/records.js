@@ -4,6 +4,8 @@ import { CHAIN, LANDMARK, NAME, POLYGON, RANGE, TOPOLOGY } from "./contents.js";
 import { NO_POINT } from "./points.js";
 import { LENGTHS } from "./tables.js";
 
+const LINE_FEED = 10;
+const DECODED_AT_ONCE = 1 << 24;
 export const UNUSED_PLACES = /(\+000000000\+00000000)+$/;
 
 export class NotCanonical extends Error {}
@@ -48,15 +50,23 @@ export class County {
   }
 }
 
+// The lines of a text. It is decoded in pieces of so many bytes, since browsers make no string of more than some 500 million letters.
+export function* linesIn(bytes, piece = DECODED_AT_ONCE) {
+  for (let from = 0; from < bytes.length; ) {
+    const end = bytes.lastIndexOf(LINE_FEED, from + piece - 1) + 1;
+    if (end <= from) throw new NotCanonical("its lines are too long, or the last one has no line ending");
+    yield* new TextDecoder("windows-1252").decode(bytes.subarray(from, end - 1)).split("\n");
+    from = end;
+  }
+}
+
 // The county of a canonical text, or of respelled records.
-export function readCounty(bytes) {
-  const lines = new TextDecoder("windows-1252").decode(bytes).split("\n");
-  if (lines.pop() !== "") throw new NotCanonical("the last line has no line ending");
+export function readCounty(bytes, piece = DECODED_AT_ONCE) {
   const records = Object.fromEntries(Object.keys(LENGTHS).map((type) => [type, []]));
-  lines.forEach((line, number) => {
-    if (LENGTHS[line[0]] !== line.length) throw new NotCanonical(`line ${number + 1} isn't a record`);
+  for (const line of linesIn(bytes, piece)) {
+    if (LENGTHS[line[0]] !== line.length) throw new NotCanonical(`it has a line that isn't a record: ${line.slice(0, 20)}`);
     records[line[0]].push(line);
-  });
+  }
   const names = new Map(records["5"].map((line) => [line.slice(10, 18), { body: NAME.of(line), uses: 0 }]));
   const polygons = new Map(records.P.map((line) => [line.slice(10, 25), new Polygon(line.slice(10, 25), POLYGON.of(line))]));
   const landmarks = readLandmarks(records);

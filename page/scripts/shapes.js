@@ -3,6 +3,7 @@
 import { classOf } from "./classes.js";
 import { CHAIN, LANDMARK } from "./contents.js";
 import { chainTitle, landmarkTitle } from "./fields.js";
+import { linesIn } from "./records.js";
 import { RECORD_TYPES } from "./tables.js";
 
 const TURN = 360_000_000;
@@ -91,27 +92,26 @@ export function shapesOf(text) {
   return { chains: shapes.sent(), titles: titlesOf(text, records["1"]), landmarks: landmarksOf(text, records["7"]), counts };
 }
 
-const linesOfType = (text, { from, count, step }) => new TextDecoder("windows-1252").decode(text.subarray(from, from + count * step));
+const linesOfType = (text, { from, count, step }) => linesIn(text.subarray(from, from + count * step));
 
 // The titles of chains: each title once, and the number of each chain's.
 function titlesOf(text, records) {
-  const lines = linesOfType(text, records);
   const numbers = new Map();
   const ofChains = new Uint32Array(records.count);
-  for (let chain = 0; chain < records.count; chain += 1) {
-    const title = chainTitle({ body: CHAIN.of(lines.slice(chain * records.step, (chain + 1) * records.step - 1)) });
+  let chain = 0;
+  for (const line of linesOfType(text, records)) {
+    const title = chainTitle({ body: CHAIN.of(line) });
     if (!numbers.has(title)) numbers.set(title, numbers.size);
     ofChains[chain] = numbers.get(title);
+    chain += 1;
   }
   return { all: [...numbers.keys()], ofChains };
 }
 
 // The landmarks that are points.
 function landmarksOf(text, records) {
-  const lines = linesOfType(text, records);
   const found = [];
-  for (let at = 0; at < lines.length; at += records.step) {
-    const line = lines.slice(at, at + records.step - 1);
+  for (const line of linesOfType(text, records)) {
     if (line[54] === " ") continue;
     const place = [Number(line.slice(54, 64)), Number(line.slice(64, 73))];
     found.push({ place, title: landmarkTitle({ bodies: [LANDMARK.of(line)] }) });

@@ -62,14 +62,15 @@ export class TwoCounties {
   }
 
   show() {
-    const { areOneMap } = this.found;
+    const { areOneMap, tooLarge } = this.found;
     const without = leftOut(this.masks);
     const text = `${areOneMap ? "Same map" : "Different maps"}${without ? `, leaving out ${without}` : ""}`;
-    const why = areOneMap ? "Both canonical texts are equal, byte for byte." : sentenceOf(this.found);
+    const why = areOneMap ? "Both canonical texts are equal, byte for byte." : (tooLarge ?? sentenceOf(this.found));
     replace(this.verdict, h("h2", {}, badge(areOneMap ? "accepted" : "differ", text)), h("p", {}, why));
     announce(`${text}. ${why}`);
     replace(this.pair);
     replace(this.sets, this.setsTable(), this.panels.map((panel) => notesOf(panel.result.notes, shownName(panel.county.stem))));
+    if (tooLarge) return;
     this.shown = areOneMap ? new OneMap(this.panels, this.masks) : new Differing(this.found, this.assistant, this.panels, this.masks);
     replace(this.rest, this.shown.node);
     document.body.classList.add("one-screen");

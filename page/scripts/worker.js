@@ -7,12 +7,14 @@ import { geojson } from "./geojson.js";
 import { Findings } from "./findings.js";
 import { fingerprint, hexadecimal, NO_MEMORY, normalise, respell } from "./engine.js";
 import { readCounty } from "./records.js";
+import { counted } from "./numbers.js";
 import { lineOf } from "./refusals.js";
 import { partsOf } from "./sets.js";
 import { shownOf } from "./faulty.js";
 import { shapesOf } from "./shapes.js";
 import { Unreadable } from "./zips.js";
 
+const MOST_LISTED = 400_000_000; // bytes of both canonical texts: the list needs about seven times as much memory
 const FULL = "There wasn't enough memory for this in the browser. Close other pages and try again, or use the program.";
 
 const report = (stage) => postMessage({ stage });
@@ -49,18 +51,23 @@ async function judgeOfMany({ module, county, masks }) {
 
 let findings;
 
+const tooLarge = (size, most) =>
+  `They are too large for a list of the differences here: ${counted(size)} bytes, and the list takes at most ${counted(most)}. tigercanon-tools diff lists them.`;
+
 function areEqual(one, other) {
   if (one.length !== other.length) return false;
   for (let at = 0; at < one.length; at += 1) if (one[at] !== other[at]) return false;
   return true;
 }
 
-// Compares two canonical texts byte by byte, and finds what differs.
-async function compareTexts({ texts }) {
+// Compares two canonical texts byte by byte, and finds what differs, if they aren't too large for that.
+async function compareTexts({ texts, most = MOST_LISTED }) {
   report({ stage: "comparing" });
   const [first, second] = await Promise.all(texts.map(async (text) => new Uint8Array(await text.arrayBuffer())));
   if (areEqual(first, second)) return { areOneMap: true };
-  const counties = [first, second].map(readCounty);
+  const size = first.length + second.length;
+  if (size > most) return { areOneMap: false, tooLarge: tooLarge(size, most) };
+  const counties = [first, second].map((text) => readCounty(text));
   report({ stage: "matching" });
   findings = new Findings(compareCounties(...counties), counties);
   report({ stage: "map" });

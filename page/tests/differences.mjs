@@ -19,7 +19,7 @@ const files = names.map((name) => [new Uint8Array(readFileSync(name))]);
 const texts = files.map((parts) => engine.normalise(module, parts, masks).text);
 const hash = async (text) => engine.hexadecimal(new Uint8Array(await webcrypto.subtle.digest("SHA-256", text)));
 const sets = await Promise.all(names.map(async (name, place) => ({ name, fingerprint: await hash(texts[place]) })));
-const counties = texts.map(readCounty);
+const counties = texts.map((text) => readCounty(text));
 const found = compareCounties(...counties);
 const own = files.map((parts, place) => ownNumbers(readCounty(engine.respell(module, parts).text), counties[place], masks));
 const areOneMap = sets[0].fingerprint === sets[1].fingerprint;

@@ -31,7 +31,7 @@ def autauga(name: str = "autauga") -> dict[str, bytes]:
 
 
 def fingerprints(page: Page) -> list[str]:
-    return list(page.browser.evaluate("Array.from(document.querySelectorAll('.fingerprint .digits'), (digits) => digits.textContent)"))
+    return list(page.browser.evaluate("Array.from(document.querySelectorAll('.fingerprint .digits, code.fingerprint'), (digits) => digits.textContent)"))
 
 
 def fingerprint(page: Page) -> str:
@@ -167,7 +167,10 @@ def try_many(page: Page) -> None:
     run([TOOLS, "fingerprint", "--program", page.program, "--no-sources", "-o", masked, "tiger"], cwd=page.room)
     page.browser.give([masked])
     compared(page, masked, folder, "a manifest with a flag")
-    page.equal("the box of its flag", [True, True], page.browser.evaluate("['checked', 'disabled'].map((is) => document.getElementById('no-sources')[is])"))
+    is_fixed = [True, True]
+    page.equal("the box of its flag", is_fixed, page.browser.evaluate("['checked', 'disabled'].map((is) => document.getElementById('no-sources')[is])"))
+    page.browser.start_again()
+    page.equal("the box at a new start", False, page.browser.evaluate("document.getElementById('no-sources').checked"))
 
 
 def compared(page: Page, manifest: Path, folder: Path, name: str) -> None:

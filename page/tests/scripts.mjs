@@ -1,0 +1,11 @@
+// The page's scripts for tests in Node, from the folder that TIGERCANON_PAGE names, which page/assemble fills; by default out/page.
+import { readFileSync } from "node:fs";
+import { dirname, resolve } from "node:path";
+import { fileURLToPath } from "node:url";
+
+export const root = resolve(dirname(fileURLToPath(import.meta.url)), "../..");
+export const folder = resolve(process.env.TIGERCANON_PAGE ?? `${root}/out/page`);
+
+export const take = (name) => import(`${folder}/scripts/${name}.js`);
+export const engineBytes = () => new Uint8Array(readFileSync(`${folder}/engine.wasm`));
+export const example = (name) => new Uint8Array(readFileSync(`${root}/examples/${name}`));
