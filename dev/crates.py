@@ -1,7 +1,6 @@
-"""The crates of the repository as crates.txt has them, and what the libraries that scripts/prove left were proved from."""
+"""The crates of the repository as crates.txt has them, and what the libraries that are proved here were proved from."""
 
 import contextlib
-import functools
 import hashlib
 import os
 import re
@@ -22,25 +21,9 @@ def is_program(crate: str) -> bool:
     return (folder_of(crate) / "src" / "main.rt").exists()
 
 
-@functools.lru_cache(maxsize=None)
-def sources_of(crate: str) -> list[os.stat_result]:
-    """What the system reports of each of a crate's sources, and of their folders."""
-    parts = (folder_of(crate) / part for part in PARTS)
-    return [file.stat() for part in parts if part.is_dir() for file in (part, *part.rglob("*")) if file.exists()]
-
-
 def size_of(crate: str) -> int:
-    """The bytes of a crate's sources."""
-    return sum(file.st_size for file in sources_of(crate))
-
-
-@functools.lru_cache(maxsize=None)
-def weight_of(crate: str) -> int:
-    """How long the proof of a crate takes, in units of about one and a half processor seconds of a slow core: for reading the libraries
-    below it, for each function, and for each early return, since the prover follows each way through a function to its end. Lemmas take
-    little time."""
-    code = [re.sub(r"//.*", "", file.read_text(encoding="utf-8", errors="replace")) for file in (folder_of(crate) / "src").rglob("*.rt")]
-    return 20 + sum(len(re.findall(r"\bfn \w+", it)) + 3 * len(re.findall(r"\?[;,).\n]", it)) for it in code)
+    """Returns the bytes of a crate's sources."""
+    return sum(path.stat().st_size for part in PARTS for path in (folder_of(crate) / part).rglob("*"))
 
 
 def kit_of_rt() -> Optional[Path]:
@@ -79,10 +62,6 @@ class Crates:
             left = set().union(*map(self.named.get, left)) - found
         return found
 
-    def makes_library(self, crate: str) -> bool:
-        """Whether other crates can depend on this one."""
-        return crate not in self.statics and not is_program(crate)
-
     def wrong_with(self, crate: str) -> str:
         """Says why this crate can't be proved, if that is known without rt."""
         if crate not in self.rows:
@@ -93,15 +72,6 @@ class Crates:
             if not (folder_of(it) / "src").is_dir():
                 return f"there is no folder crates/{it}/src"
         return ""
-
-    def by_urgency(self, crates: set[str]) -> list[str]:
-        """These crates, those first that the longest chain of others waits for, by the weights of their proofs."""
-
-        @functools.lru_cache(maxsize=None)
-        def chain(crate: str) -> int:
-            return weight_of(crate) + max((chain(it) for it in crates if crate in self.named[it]), default=0)
-
-        return sorted(crates, key=lambda it: (-chain(it), it))
 
 
 def words_for_rattle(crates: Crates, kit: Path, crate: str, library: Callable[[str], Path], jobs: int) -> list[str]:
@@ -117,54 +87,45 @@ def words_for_rattle(crates: Crates, kit: Path, crate: str, library: Callable[[s
     return words + (["--crate-type", "staticlib"] if crate in crates.statics else [])
 
 
+def words_to_build(crates: Crates, kit: Path, crate: str, to: Path, toolchain: Path, *words: str) -> list[str]:
+    """Returns the command that proves and compiles a program or a static library, over the libraries that are proved here. Further words
+    are options for rattle."""
+    whole = [str(kit / "bin/rattle"), "build", *words]
+    whole += words_for_rattle(crates, kit, crate, library_of, int(os.environ.get("RT_JOBS") or 1))
+    return [*whole, "--toolchain", str(toolchain), "-o", str(to)]
+
+
+def library_of(crate: str) -> Path:
+    """Returns the place of a library: in the folder in which rt looks for its own. Without rt's stamp rt doesn't take it."""
+    return folder_of(crate) / "out" / "rlib" / f"{crate}.rlib"
+
+
 class Notes:
-    """What each library that scripts/prove built, without proofs, was proved from."""
+    """What each library that is proved here was proved from. The note lies beside the library, and goes when rt makes it again."""
 
     def __init__(self, crates: Crates, kit: Path, root: Path = ROOT) -> None:
         self.crates, self.kit, self.root = crates, kit, root
 
     def proved_from(self, crate: str) -> str:
-        """One word that changes with the kit, and with each source of a crate and of those that it depends on."""
+        """Returns a word that changes with the kit, and with each source of a crate and of those that it depends on."""
         whole = hashlib.sha256((self.kit / "KIT-ID").read_bytes())
-        for it in sorted(self.crates.below(crate) | {crate}):
-            whole.update(self.crates.rows[it].encode() + b"\n")
-            parts = (self.root / "crates" / it / part for part in PARTS)
+        for each in sorted(self.crates.below(crate) | {crate}):
+            whole.update(self.crates.rows[each].encode() + b"\n")
+            parts = (self.root / "crates" / each / part for part in PARTS)
             for file in sorted(file for part in parts for file in part.rglob("*") if file.is_file()):
                 whole.update(f"{file.relative_to(self.root)} {file.stat().st_size}\n".encode() + file.read_bytes())
         return whole.hexdigest()
 
     @staticmethod
-    def library(crate: str) -> Path:
-        """The place of a library: in the folder in which rt looks for its own. Without rt's stamp rt doesn't take it."""
-        return folder_of(crate) / "out" / "rlib" / f"{crate}.rlib"
-
-    def note(self, crate: str) -> Path:
-        return self.library(crate).with_name("proved-once-from")
-
-    def is_of_rt(self, crate: str) -> bool:
-        return self.library(crate).with_name("stamp").exists()
+    def note(crate: str) -> Path:
+        return library_of(crate).with_name("proved-from")
 
     def is_current(self, crate: str) -> bool:
-        """Whether a library was proved from the sources as they are."""
+        """Returns whether a library was proved from the sources as they are."""
         note = self.note(crate)
-        return note.exists() and note.read_text() == self.proved_from(crate)
+        return note.exists() and library_of(crate).exists() and note.read_text() == self.proved_from(crate)
 
     def write(self, crate: str, proved_from: str) -> None:
         """Notes what a library was proved from, unless it or one below it was edited meanwhile."""
-        if proved_from == self.proved_from(crate):
+        if library_of(crate).exists() and proved_from == self.proved_from(crate):
             self.note(crate).write_text(proved_from)
-
-    def clear_stale(self) -> dict[str, str]:
-        """Removes all libraries that nothing can be proved over, except rt's: it would put them back over its own. Returns what each
-        library is proved from that isn't there."""
-        libraries = [it for it in self.crates.rows if self.crates.makes_library(it)]
-        for it in libraries:
-            if not self.is_of_rt(it) and not self.is_current(it):
-                shutil.rmtree(self.library(it).parent, ignore_errors=True)
-        return {it: self.proved_from(it) for it in libraries if not self.library(it).parent.exists()}
-
-    def write_all(self, proved_from: dict[str, str]) -> None:
-        """Notes what these libraries were proved from, if they were built since."""
-        for it in proved_from:
-            if self.library(it).exists() and not self.is_of_rt(it):
-                self.write(it, proved_from[it])

@@ -268,16 +268,21 @@ def is_refused_itself(state: str) -> bool:
     return state.startswith(("not proved", "no proof")) and not state.startswith("no proof: it calls")
 
 
+def first_reason(lines: list[str]) -> str:
+    """Returns the first of these lines that isn't only about a name that the edit took away, which a proof file still has. Empty if there
+    is none: then no contract has refused the edit."""
+    return next((line for line in lines if not NAMES_LOST.match(line)), "")
+
+
 def refused_at(functions: Iterable[Function], ran: Ran) -> str:
-    """Where the own proof of one of these functions fails, and the first line about it. Empty if none does."""
+    """Where the own proof of one of these functions fails, and the first line about it. Empty if none does, or none for a reason of its
+    own."""
     for name, state in ran.states().items():
-        function = next((it for it in functions if it.is_named(name)), None)
+        function = next((each for each in functions if each.is_named(name)), None)
         if function and is_refused_itself(state):
             told = [line for line in ran.lines if function.has(line) and (": error" in line or line.startswith("note: "))]
-            first = next((line for line in told if not NAMES_LOST.match(line)), "")
-            lost = " (only because a proof file names what the edit took away, which says little of the contract)"
-            lost = lost if told and not first else ""
-            return f"{name}{lost}: {first or (told or [state])[0]}"[:300]
+            if first_reason(told or [state]):
+                return f"{name}: {first_reason(told or [state])}"[:300]
     return ""
 
 
@@ -345,10 +350,10 @@ class Prover:
 
 class Kept:
     """The edits that were refused earlier on this machine, by the sums of all that was read: the kit, the crate and those below it, and
-    the edit."""
+    the edit. A fresh run takes none of them, and keeps none."""
 
-    def __init__(self, notes: Notes, is_anew: bool) -> None:
-        self.notes, self.is_anew = notes, is_anew
+    def __init__(self, notes: Notes, is_fresh: bool) -> None:
+        self.notes, self.is_fresh = notes, is_fresh
         cache = Path(os.environ.get("XDG_CACHE_HOME") or Path.home() / ".cache")
         self.folder = cache / "tigercanon-edits"
 
@@ -359,13 +364,13 @@ class Kept:
     def find(self, edit: Edit, proved_from: str) -> Optional[Result]:
         with contextlib.suppress(OSError, ValueError, KeyError, TypeError):
             found = json.loads(self.file(edit, proved_from).read_text(encoding="utf-8"))
-            if not self.is_anew and found["edit"] == edit.label and isinstance(found["text"], str):
+            if not self.is_fresh and found["edit"] == edit.label and isinstance(found["text"], str):
                 return Result(REFUSED, found["text"])
         return None
 
     def keep(self, edit: Edit, proved_from: str, result: Result) -> None:
         """Keeps a refusal. The file gets its name when it is whole."""
-        if result.kind != REFUSED:
+        if result.kind != REFUSED or self.is_fresh:
             return
         with contextlib.suppress(OSError):
             self.folder.mkdir(mode=0o700, parents=True, exist_ok=True)
@@ -491,8 +496,9 @@ class Trial:
         if ran.status == 1 and ran.lines[-1].startswith("logic=not-proved"):
             told = [line for line in ran.lines if re.match(r"(note: )?\S+:\d+:\d+:", line)]
             told = [line for line in told if ": error" in line or line.startswith("note: ")]
-            first = next((line for line in told if not NAMES_LOST.match(line)), "")
-            return Result(REFUSED, f"refused, with the crate: {(first or ' '.join(told[:1]))[:200]}")
+            if told and not first_reason(told):
+                return Result(MISSED, f"NOT SHOWN: only because a proof file names what the edit took away: {told[0][:200]}")
+            return Result(REFUSED, f"refused, with the crate: {first_reason(told)[:200]}")
         if ran.status == 0:
             return Result(MISSED, "NOT REFUSED: the crate is still proved with this edit. If that means the same as before, remove it")
         limit = next((line for line in ran.lines if LIMITS.search(line)), "")

@@ -1,6 +1,7 @@
 """Shared by the tests and the tools: counts of cases, runs of programs, and scripts as modules."""
 
 import hashlib
+import os
 import subprocess
 import sys
 import tempfile
@@ -13,7 +14,6 @@ from typing import Any, Callable, NamedTuple, Sequence
 
 from dev import ROOT as ROOT
 
-PROGRAM = ROOT / "crates/tigercanon_main/out/tigercanon_main"
 LENGTHS = {"1": 228, "2": 208, "4": 58, "5": 56, "6": 76, "7": 74, "8": 36, "I": 127, "P": 45}
 TYPES = "".join(LENGTHS)
 """The record types of the nine files, and the length of a line of each."""
@@ -131,13 +131,18 @@ def files_of(root: Path) -> set[str]:
     return {str(path.relative_to(root)) for path in root.rglob("*") if path.is_file() and not path.is_symlink()}
 
 
-def sources_line(root: Path) -> str:
-    """The line with which the launcher compares the sources of a tree."""
+def usual_program() -> str:
+    """Returns the program that ./tigercanon would run. If there is none, the file of this name isn't there."""
+    return os.fsdecode(run([ROOT / "scripts/find-made", "tigercanon"]).out).rstrip("\n") or str(ROOT / "out/tigercanon")
+
+
+def hash_of_sources(root: Path) -> str:
+    """Returns the hash by which ./tigercanon compares the sources of a tree."""
     files = [root / "crates.txt", root / "HANDLES"]
     for part in ("src", "specs"):
         files += [path for path in root.glob(f"crates/*/{part}/**/*") if path.suffix in (".rt", ".antt")]
     lines = sorted(f"{hashlib.sha256(path.read_bytes()).hexdigest()}  {path.relative_to(root)}\n" for path in files)
-    return f"{hashlib.sha256(''.join(lines).encode()).hexdigest()}  -"
+    return hashlib.sha256("".join(lines).encode()).hexdigest()
 
 
 def script(path: str) -> Any:

@@ -29,7 +29,7 @@ def room(tmp_path: Path, monkeypatch: pytest.MonkeyPatch) -> Path:
 
 @pytest.fixture
 def program(room: Path, monkeypatch: pytest.MonkeyPatch) -> str:
-    """The program that was built last, or that TIGERCANON names."""
+    """The program that ./tigercanon would run, or that TIGERCANON names."""
     monkeypatch.setenv("TIGERCANON", built_program())
     return built_program()
 

@@ -17,13 +17,12 @@ from pathlib import Path
 from typing import Any, Callable, Iterator, Mapping, NamedTuple, Sequence
 
 import pytest
-from dev.testing import PROGRAM as BUILT
-from dev.testing import ROOT, TYPES
+from dev.testing import ROOT, TYPES, usual_program
 
 PACKAGE = ROOT / "python"
 FAKES = PACKAGE / "tests/fakes"
 TOOLS = [sys.executable, "-m", "tigercanon"]
-PROGRAM = os.path.abspath(os.environ.get("TIGERCANON") or BUILT)
+PROGRAM = os.path.abspath(os.environ.get("TIGERCANON") or usual_program())
 
 NAME = "tigercanon-tools: "
 HEAD = "# tigercanon form 1\n"
@@ -36,9 +35,9 @@ Four = dict[str, bytes]
 
 
 def built_program() -> str:
-    """The program that TIGERCANON names, or that was built last. The test is skipped if there is none."""
+    """The program that TIGERCANON names, or that ./tigercanon would run. The test is skipped if there is none."""
     if not os.access(PROGRAM, os.X_OK):
-        pytest.skip("no program is built: ./tigercanon builds it, and TIGERCANON can name another")
+        pytest.skip("there is no program of these sources: TIGERCANON can name another")
     return PROGRAM
 
 

@@ -94,19 +94,19 @@ class TestProgram:
             os.renames(fake, f"{place}/tigercanon")
         env = {"PYTHONPATH": f"{room}/packages", "PATH": f"{room}/bin:/bin:/usr/bin", "ROOM": str(room), "TMPDIR": f"{room}/tmp"}
         status, out, err = run([*TOOLS, "fingerprint", "in"], env=env)
-        why = "there is no program tigercanon here: run ./tigercanon once, which builds it, or name one with --program"
+        why = "there is no program tigercanon here: ./tigercanon --prove builds it, and --program names another one"
         wanted = (0, manifest({"in/a": b"x\n"})) if place else (2, f"{NAME}{why}\n")
         assert (status, (out if place else err).decode()) == wanted
 
     def test_a_clone(self, room: Path, fake: Path, monkeypatch: pytest.MonkeyPatch) -> None:
-        """In a clone the launcher says which program it is, and builds it first if it must. An executable of the current folder isn't
-        taken for it, and neither is one of a relative folder on the PATH."""
+        """In a clone scripts/find-made says which program it is. An executable of the current folder isn't taken for it, and neither is
+        one of a relative folder on the PATH."""
         monkeypatch.delenv("TIGERCANON")
         complete("in/a", b"x\n")
         shutil.copytree(PACKAGE / "tigercanon", room / "clone/python/tigercanon")
         shutil.copy(ROOT / "tigercanon-tools", room / "clone")
-        launch = put("clone/scripts/launch", b'#!/bin/sh\necho "$1" >>$ROOM/calls\necho "$2/there/program"\n')
-        launch.chmod(0o755)
+        finder = put("clone/scripts/find-made", b'#!/bin/sh\necho "$@" >>$ROOM/calls\necho "${0%/*}/../there/program"\n')
+        finder.chmod(0o755)
         os.renames(fake, "clone/there/program")
         for wrong in ("tigercanon", "bin/tigercanon"):
             put(wrong, b"#!/bin/sh\necho wrong >>$ROOM/calls\n").chmod(0o755)
@@ -114,10 +114,10 @@ class TestProgram:
         env = {**os.environ, "PYTHON": sys.executable, "PATH": f".:bin:{os.environ['PATH']}"}
         ended = run(["./tools", "fingerprint", "in"], env=env)
         assert (ended.status, ended.out.count(b"\n")) == (0, 2), ended.err
-        assert Path("calls").read_text() == f"--program\n{room}/in/a\n"
-        launch.write_text("#!/bin/sh\nexit 70\n")
+        assert Path("calls").read_text() == f"tigercanon\n{room}/in/a\n"
+        finder.write_text("#!/bin/sh\nexit 70\n")
         assert run(["./tools", "fingerprint", "in"], env=env).status == 2
-        os.unlink(launch)
+        os.unlink(finder)
         ended = run(["./tools", "fingerprint", "in"], env=env)
         assert (ended.status, b"there is no program tigercanon here" in ended.err) == (2, True)
         assert "wrong" not in Path("calls").read_text()

@@ -327,15 +327,15 @@ def test_where_the_library_is(library: Path, tmp_path: Path, package: Path, firs
 
 
 def test_where_the_library_of_a_clone_is(library: Path, tmp_path: Path, package: Path) -> None:
-    """In a clone the launcher says where the library is that was made from the sources as they are, or why there is none. Then neither
+    """In a clone scripts/find-made says where the library is that was made from the sources as they are, or why there is none. Then neither
     another one of the clone nor that of the system is loaded."""
-    launch = tmp_path / "scripts/launch"
-    put(launch, b'#!/bin/sh\necho "$0 $*" >"${0%/*}/called"\necho "${0%/*}/found"\n')
-    launch.chmod(0o755)
+    finder = tmp_path / "scripts/find-made"
+    put(finder, b'#!/bin/sh\necho "$0 $*" >"${0%/*}/called"\necho "${0%/*}/found"\n')
+    finder.chmod(0o755)
     shutil.copy(library, tmp_path / "scripts/found")
     assert respelled(package) == Answer(0, b"tigercanon form 1\nb'x'\n", b"")
-    assert (tmp_path / "scripts/called").read_text() == f"{launch} --shared-library {tmp_path}\n"
-    put(launch, b"#!/bin/sh\necho 'none of these sources is here' >&2\nexit 70\n")
+    assert (tmp_path / "scripts/called").read_text() == f"{finder} libtigercanon.so.1\n"
+    put(finder, b"#!/bin/sh\necho 'none of these sources is here' >&2\nexit 70\n")
     for place in ("out/library/lib", "system"):
         (tmp_path / place).mkdir(parents=True)
         shutil.copy(library, tmp_path / place / _library.NAME)

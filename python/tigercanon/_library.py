@@ -19,7 +19,7 @@ if TYPE_CHECKING:
     from array import array
 
 NAME = "libtigercanon.so.1"
-LAUNCHER = "scripts/launch"
+FINDER = "scripts/find-made"
 VARIABLE = "TIGERCANON_LIBRARY"
 ADVICE = f"scripts/build-library builds it, a release has it, and {VARIABLE} names it elsewhere"
 
@@ -120,12 +120,12 @@ def place_of_library() -> tuple[str, str]:
     package = Path(__file__).resolve().parent
     root = package.parent.parent
     places = [package, root / "lib"]
-    if not (root / LAUNCHER).is_file():
+    if not (root / FINDER).is_file():
         places.append(root / "out/library/lib")
     found = os.environ.get(VARIABLE, "") or next((str(place / NAME) for place in places if (place / NAME).exists()), "")
-    if not found and (root / LAUNCHER).is_file():
+    if not found and (root / FINDER).is_file():
         # In a clone it is the library that was built from the sources as they are, or is prebuilt from them.
-        asks = [str(root / LAUNCHER), "--shared-library", str(root)]
+        asks = [str(root / FINDER), NAME]
         ended = subprocess.run(asks, stdin=subprocess.DEVNULL, stdout=subprocess.PIPE, stderr=subprocess.PIPE)
         found, why = (os.fsdecode(text).rstrip("\n") for text in (ended.stdout, ended.stderr))
         return found, why

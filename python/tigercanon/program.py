@@ -13,20 +13,19 @@ from .errors import Failure, reason
 
 VARIABLE = "TIGERCANON"
 PACKAGE = Path(__file__).resolve().parent
-ADVICE = "run ./tigercanon once, which builds it, or name one with --program"
+ADVICE = "./tigercanon --prove builds it, and --program names another one"
 # Settings that make the program faster, unless the user has others: its memory is in large pages, and it keeps memory that it frees.
 TUNABLES = "glibc.malloc.hugetlb=1:glibc.malloc.mmap_threshold=8589934592:glibc.malloc.trim_threshold=17179869184"
 
 
 def find_program(named: str | None = None) -> str:
     """The program that the option or the variable names, else that of the clone or release, else the one beside this package or on the
-    PATH. In a clone it is the one that ./tigercanon runs, which builds it first if it must. The current folder isn't searched. Raises
-    Failure if there is none."""
+    PATH. In a clone it is the one that ./tigercanon runs. The current folder isn't searched. Raises Failure if there is none."""
     given, root = named or os.environ.get(VARIABLE), PACKAGE.parent.parent
     if given:
         return checked(given)
-    if (root / "scripts/launch").is_file():
-        program = launched(root)
+    if (root / "scripts/find-made").is_file():
+        program = program_of_clone(root)
         if not program:
             raise Failure(f"there is no program tigercanon here: {ADVICE}")
         return checked(program)
@@ -43,10 +42,9 @@ def find_program(named: str | None = None) -> str:
     return checked(found)
 
 
-def launched(root: Path) -> str:
-    """The program of a clone, or nothing, and then the reason was reported. If it must be built first, that is reported too."""
-    words = [str(root / "scripts/launch"), "--program", str(root)]
-    ended = subprocess.run(words, stdin=subprocess.DEVNULL, stdout=subprocess.PIPE)
+def program_of_clone(root: Path) -> str:
+    """Returns the program of a clone, made from the sources as they are. If there is none, nothing, and the reason was reported."""
+    ended = subprocess.run([str(root / "scripts/find-made"), "tigercanon"], stdin=subprocess.DEVNULL, stdout=subprocess.PIPE)
     return os.fsdecode(ended.stdout).rstrip("\n") if ended.returncode == 0 else ""
 
 
@@ -67,7 +65,7 @@ def checked(name: str) -> str:
 
 
 def run_once(path: str) -> None:
-    """Runs the program on an empty set. A launcher that has to build it first reports its progress on standard error."""
+    """Runs the program on an empty set."""
     words = [path, "respell", os.devnull]
     try:
         ended = subprocess.run(words, stdin=subprocess.DEVNULL, stdout=subprocess.DEVNULL)
