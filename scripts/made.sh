@@ -109,11 +109,11 @@ jobs_that_fit() {
     if [ "$jobs" -gt 0 ]; then echo "$jobs"; fi
 }
 
-# To be attended: proves all crates by the kit, and builds the program into out/, unless its file $1 is there: tigercanon, or tigercanon.o, its object.
-# Standard error shows what the kit prints.
+# To be attended: proves all crates by the kit, and builds the program and its object into out/, unless the program is there. Standard error
+# shows what the kit prints.
 prove_program() {
     sources="$(hash_of_sources)" || stop "the sources can't be read"
-    if is_made "$root/out" "$1"; then return; fi
+    if is_made "$root/out" tigercanon; then return; fi
     has_kit || stop "the program has to be proved and built, and $lacking"
     make_stage || stop "$root/out can't be written"
     jobs="$(jobs_that_fit)"
