@@ -8,7 +8,7 @@ from pathlib import Path
 
 import pytest
 from dev.testing import ROOT, run
-from support import built_program, environment
+from support import built_program, environment, put
 
 import tigercanon
 from tigercanon import _library
@@ -53,6 +53,19 @@ def test_failures() -> None:
     assert list(tigercanon.differences("2004/TGR01001", "2006/TGR01001")) == []
     with pytest.raises(AttributeError):
         tigercanon.nothing
+
+
+def test_canonical_numbers_are_those_of_chains(archive: Path) -> None:
+    """In a canonical text a chain has its canonical number. Whatever numbers the polygons of an office 1.... have, the chains keep it."""
+    places, others = {"8": [10], "I": [40, 55], "P": [10]}, {1: 3, 2: 1, 3: 2}
+    lines = Path("1990/TGR01001.txt").read_text().splitlines(keepends=True)
+    for number, line in enumerate(lines):
+        for at in places.get(line[0], []):
+            polygon = line[at + 5 : at + 15].strip()
+            side = f"16001{others[int(polygon)]:10}" if polygon else line[at : at + 15]
+            lines[number] = line = line[:at] + side + line[at + 15 :]
+    put("16001.txt", "".join(lines).encode())
+    assert [(chain.tlid, chain.canonical_tlid) for chain in tigercanon.chains("16001.txt")] == [(tlid, tlid) for tlid in range(1, 8)]
 
 
 def test_a_table_for_gdal() -> None:

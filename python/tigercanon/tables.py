@@ -86,7 +86,8 @@ def chains(county: str | os.PathLike[str], *, program: str | None = None) -> Ite
 def rows_of(own: bytes, canonical: bytes) -> Iterator[ChainRow]:
     """The chains of respelled records, with their numbers in the canonical text."""
     county, other = read_county(own), read_county(canonical)
-    numbers = {number: number_of(key) for key, number in own_numbers(county, other).items() if key.startswith("1")}
+    chains = {chain.key for chain in other.chains}
+    numbers = {number: number_of(key) for key, number in own_numbers(county, other).items() if key in chains}
     for chain in county.chains:
         names = tuple(name_text(NAME, body) for body in county.name_bodies(chain))
         left, right = ("".join(side.split()) if side[5:].strip() else "" for side in chain.sides)
