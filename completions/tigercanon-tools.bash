@@ -13,13 +13,13 @@ _tigercanon_tools() {
     case "$command" in
         "") flags="--help --version" ;;
         # help: begin flags
-        fingerprint) flags="--help --version --output --update --again --strict --program --jobs --scheduler --memory --largest --no-sources --no-reserved --json" ;;
-        verify) flags="--help --version --quiet --root --program --jobs --scheduler --memory --largest --no-sources --no-reserved --json" ;;
-        check) flags="--help --version --quiet --program --jobs --scheduler --memory --largest --json" ;;
+        fingerprint) flags="--help --version --output --update --again --prune --strict --program --jobs --scheduler --memory --largest --seconds --exclude --verbose --no-sources --no-reserved --json" ;;
+        verify) flags="--help --version --quiet --quick --root --program --jobs --scheduler --memory --largest --seconds --exclude --verbose --no-sources --no-reserved --json" ;;
+        check) flags="--help --version --quiet --program --jobs --scheduler --memory --largest --seconds --exclude --verbose --json" ;;
         duplicates) flags="--help --version --different --json" ;;
-        changes) flags="--help --version --quiet --edition --json --pages --root --leaflet --jobs --program" ;;
-        diff) flags="--help --version --program --no-sources --no-reserved --stem --summary --json --page --geojson --all --leaflet" ;;
-        table) flags="--help --version --program --geojson --output" ;;
+        changes) flags="--help --version --quiet --edition --json --stat --pages --root --leaflet --jobs --program --force" ;;
+        diff) flags="--help --version --program --no-sources --no-reserved --force --stem --summary --json --page --geojson --all --leaflet" ;;
+        table) flags="--help --version --program --geojson --output --force" ;;
         explain) flags="--help --version --program" ;;
         # help: end
     esac

@@ -87,8 +87,8 @@ def call(*words: object, **options: Any) -> Ended:
 
 
 def shell(command: str) -> Ended:
-    """Runs a command of bash, which has `tigercanon-tools` and what else fakes/commands defines."""
-    env = {"ROOT": str(ROOT), "PYTHON": sys.executable}
+    """Runs a command of bash, which has `tigercanon-tools`, what else fakes/commands defines, and $REAL, the program."""
+    env = {"ROOT": str(ROOT), "PYTHON": sys.executable, "REAL": PROGRAM}
     return end(begin("-c", f'. "$0"\n{command}', FAKES / "commands", program=["bash"], env=env))
 
 

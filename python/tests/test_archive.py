@@ -65,7 +65,9 @@ def test_canonical_numbers_are_those_of_chains(archive: Path) -> None:
             side = f"16001{others[int(polygon)]:10}" if polygon else line[at : at + 15]
             lines[number] = line = line[:at] + side + line[at + 15 :]
     put("16001.txt", "".join(lines).encode())
-    assert [(chain.tlid, chain.canonical_tlid) for chain in tigercanon.chains("16001.txt")] == [(tlid, tlid) for tlid in range(1, 8)]
+    assert [(chain.tlid, chain.canonical_tlid) for chain in tigercanon.chains("16001.txt")] == [
+        (tlid, tlid) for tlid in range(1, 8)
+    ]
 
 
 def test_a_table_for_gdal() -> None:

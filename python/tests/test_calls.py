@@ -2,14 +2,17 @@
 
 import os
 import threading
+import types
+import typing
 from pathlib import Path
 from typing import Callable
 
 import pytest
 from dev.testing import ROOT, await_that
-from support import Four, complete, digest, left_behind, listed, manifest, processes, put, zip_up
+from support import Four, complete, digest, left_behind, listed, manifest, packed, processes, put, zip_up
 
 import tigercanon
+from tigercanon.contents import contents
 from tigercanon.errors import Failure
 from tigercanon.resources import Closed, Resources
 
@@ -85,7 +88,7 @@ def closed_early(folder: str) -> None:
     """The generator is closed before its end."""
     call = tigercanon.manifest(folder, jobs=2)
     assert next(call).county == f"{folder}/quick"
-    call.close()  # type: ignore[attr-defined]
+    call.close()
 
 
 def ended_by_an_error(folder: str) -> None:
@@ -132,3 +135,42 @@ def test_nothing_starts_after_the_end(room: Path) -> None:
     for start in starts:
         with pytest.raises(Closed):
             start()
+
+
+def test_names_and_types_of_the_package() -> None:
+    """dir has each public name, all of them are there, and the hints of each call and type resolve."""
+    assert {*tigercanon.__all__} <= {*dir(tigercanon)}
+    public = {name: getattr(tigercanon, name) for name in tigercanon.__all__}
+    hints = {name: typing.get_type_hints(value) for name, value in public.items() if isinstance(value, (type, types.FunctionType))}
+    assert [name for name, found in hints.items() if name[0].islower() and "return" not in found] == []
+    assert {"fingerprint", "notes"} <= {*hints["Judged"]} and hints["manifest"]["return"] == tigercanon.Results[tigercanon.Judged]
+
+
+def test_results_and_paths(four: Four, fake: Path) -> None:
+    """The counties are found when a call is made, with what is skipped, and judged while the results are read. A program can be a path."""
+    put("in/read.me", b"x")
+    results = tigercanon.manifest(Path("in"), output=Path("m"), program=fake)
+    assert (results.skipped, os.path.exists("m"), Path("calls").read_text()) == (("in/read.me",), False, "")
+    with results:
+        first = next(results)
+        assert digest(four[first.county]) == first.fingerprint and first.line in Path("m").read_text()
+    assert [*results] == [] and not os.path.exists("m.lock")
+    with pytest.raises(Failure, match="with no flags, but this run has --no-sources"):
+        next(tigercanon.verify("m", no_sources=True))
+    assert [each.verdict for each in tigercanon.verify("m", quick=True, program=Path("nowhere"))] == ["OK"]
+
+
+def test_explaining_an_exception_or_a_number() -> None:
+    refusals: list[typing.Union[str, int, Exception]] = [4, "4", "BadNumber", tigercanon.Refusal(4, "BadNumber", (1, 1, 6))]
+    for refusal in refusals:
+        answer = tigercanon.explain(refusal)
+        assert answer and answer.lines[0] == "refused 4 BadNumber PART LINE COLUMN"
+    assert answer and "part 1, line 1, column 6" in answer.lines
+
+
+def test_one_file_lists_no_folder(room: Path, monkeypatch: pytest.MonkeyPatch) -> None:
+    """The calls of the library read a zip or a file with all records without a look at the names beside it."""
+    put("in/a.txt", b"1\n")
+    put("in/TGR01001.ZIP", packed({"TGR01001.RT1": b"1\n"}))
+    monkeypatch.setattr(os, "scandir", lambda *_: pytest.fail("a folder is listed"))
+    assert contents("in/a.txt") == [b"1\n"] and contents("in/TGR01001.ZIP")[0] == b"1\n"

@@ -14,13 +14,16 @@ from dev.testing import ROOT, run, script
 from support import HEAD, NAME, PACKAGE, TOOLS, call, complete, manifest, put
 
 from tigercanon.explanations import explained, page, sections
+from tigercanon.faults import faults_of
 from tigercanon.hints import hint
-from tigercanon.progress import Console, Progress, amount, duration
+from tigercanon.progress import Console, Progress, amount, counted, duration
+from tigercanon.storage import line_at
 from tigercanon.version import VERSION
 
 COMMANDS = ["fingerprint", "verify", "check", "duplicates", "changes", "diff", "table", "explain"]
 PAGES = script("release/tool-pages")
 RUN = ROOT / "vectors/run"
+OLDER = "lines of type {} have {} bytes: an edition before 2002, which this program doesn't read"
 CONTROL_Z = "the file ends with a Control-Z, the end mark of an old system: remove it"
 
 
@@ -136,23 +139,28 @@ class TestProgram:
 
 
 def test_installing(room: Path) -> None:
-    """The package installs with Debian's hatchling, without a network, and has all of its files, the page on refusals and its command."""
+    """The package installs with Debian's hatchling, without a network. It has all of its files, the page on refusals, its command, and the
+    program and the library of prebuilt/, which need nothing around them."""
     pytest.importorskip("hatchling", reason="python3-hatchling isn't installed")
     shutil.copytree(PACKAGE, "python", ignore=shutil.ignore_patterns("tests", "__pycache__"))
+    shutil.copytree(ROOT / "prebuilt", "prebuilt")
     put("docs/refusals.md", (ROOT / "docs/refusals.md").read_bytes())
     install = "-m pip install --no-build-isolation --no-index --no-deps --target site ./python"
-    made = run([sys.executable, *install.split()])
-    assert made.status == 0, made.err
+    assert run([sys.executable, *install.split()]).status == 0
     source, installed = (
-        {path.relative_to(root) for path in root.rglob("*.*") if path.suffix != ".pyc"}
+        {path.relative_to(root) for path in root.rglob("*") if path.is_file() and path.suffix != ".pyc"}
         for root in (PACKAGE / "tigercanon", room / "site/tigercanon")
     )
-    assert installed == source | {Path("refusals.md")}
-    env = {"PYTHONPATH": str(room / "site"), "PATH": "/usr/bin:/bin"}
-    version = run([sys.executable, "site/bin/tigercanon-tools", "--version"], env=env)
-    assert version[:2] == (0, f"tigercanon-tools {VERSION}\n".encode())
-    told = run([*TOOLS, "explain", "9"], env=env)
-    assert (told.status, told.out.splitlines()[0]) == (0, b"refused 9 Memory"), told.err
+    assert installed == source | {Path("refusals.md"), Path("bin/tigercanon"), Path("libtigercanon.so.1")}
+    shutil.rmtree("prebuilt")
+    shutil.copytree(ROOT / "examples/autauga", "in")
+    env = {"PYTHONPATH": str(room / "site"), "PATH": "/usr/bin:/bin", "TMPDIR": f"{room}/tmp"}
+    digits = "1d52be5838ff73bc2575fb45a3df3475437eff9b6347ef11d750d52787afbf1a"
+    ended = run([sys.executable, "site/bin/tigercanon-tools", "fingerprint", "in/TGR01001"], env=env)
+    assert (ended.status, ended.out.decode()) == (0, f"{HEAD}{digits}  in/TGR01001\n"), ended.err
+    ended = run([sys.executable, "-c", "import tigercanon; print(tigercanon.fingerprint('in/TGR01001'))"], env=env)
+    assert (ended.out.decode(), ended.err) == (f"{digits}\n", b"")
+    assert run([*TOOLS, "explain", "9"], env=env).out.startswith(b"refused 9 Memory\n")
 
 
 def test_how_numbers_are_written() -> None:
@@ -164,6 +172,12 @@ def test_how_numbers_are_written() -> None:
     tally.counties, tally.bytes_in_all = 3200, 40_000_000_000
     tally.bytes, tally.ended, tally.failed = 10_000_000_000, 1200, 2
     tally.refused["4 BadNumber"] += 3
+    assert [counted(count, noun) for count, noun in ((1, "county"), (1200, "county"), (1, "page"), (0, "page"))] == [
+        "1 county",
+        "1,200 counties",
+        "1 page",
+        "0 pages",
+    ]
     progress = "1,200 of 3,200 counties, 10.0 GB of 40.0 GB, 100.0 MB a second, 5 min 0 s left, 3 refused, 2 failed"
     assert tally.line(100.0) == progress
 
@@ -195,6 +209,12 @@ def test_marks_of_markdown_are_left_out() -> None:
         (b"1\n1\x1a", "refused 3 BadByte 1 2 2", CONTROL_Z),
         (b"1\nx\n\x1a", "refused 1 UnknownType 1 2", ""),
         (b"1\nx\n", "refused 1 UnknownType 1 2", ""),
+        (b"1 a\r1 b\r", "refused 2 LineTooLong 1 1", "lines end in CR alone, as on an old Mac: convert them to LF or CR LF"),
+        (b"1 a\r1 b\r\n", "refused 2 LineTooLong 1 1", ""),
+        (b"1\r\nI" + b" " * 51 + b"\r\n", "refused 4 BadNumber 1 2 11", OLDER.format("I", 52)),
+        (b"5" + b"1" * 51, "refused 4 BadNumber 1 1 11", OLDER.format("5", 52)),
+        (b"P" + b" " * 43 + b"\n", "refused 4 BadNumber 1 1 16", OLDER.format("P", 44)),
+        (b"P" + b" " * 44 + b"\n", "refused 4 BadNumber 1 1 16", ""),
         (b"PK\3\4", "refused 14 LinkMissing 1", ""),
         (b"PK\3\4", "refused 1 UnknownType 3 1", ""),
     ],
@@ -202,6 +222,20 @@ def test_marks_of_markdown_are_left_out() -> None:
 def test_hints(room: Path, text: bytes, line: str, wanted: str) -> None:
     """What the bytes at the faulty place suggest."""
     assert hint(line, [str(put("x.RT1", text)), None]) == wanted
+
+
+@pytest.mark.parametrize("ending", [b"", b"\n", b"\r\n", b"\r", b"\nnext\n"])
+def test_a_long_line(room: Path, ending: bytes) -> None:
+    """Of a faulty line some hundred bytes are kept, whichever lines are before it, and the message has its whole length."""
+    put("x", b"x" * 3_000_000 + b"\n1\r\n1" + b" " * 2_999_999 + ending)
+    (fault,) = faults_of("refused 2 LineTooLong 1 3", ["x"], ["shown"])
+    assert (fault.file, fault.line, fault.wrong) == (
+        "shown",
+        3,
+        "the line has 3,000,000 bytes, and may have 228",
+    ) or ending == b"\r"
+    assert len(fault.text) == 400 and fault.last == 3_000_000 + (ending == b"\r")
+    assert [line_at("x", number)[1] for number in (1, 2, 4)] == [3_000_000, 1, 4 if b"next" in ending else 0]
 
 
 @pytest.mark.parametrize("present", ["tgr01013.rt1", "TGR01013.rt1"])

@@ -6,12 +6,12 @@ from pathlib import Path
 from typing import Callable
 
 import pytest
-from support import put
+from support import packed, put
 
 from tigercanon.counties import Finder
 from tigercanon.judge import County, File
 from tigercanon.layout import TYPES, stem_of
-from tigercanon.storage import joined, parted, tidy
+from tigercanon.storage import joined, members_of, opened_zip, parted, tidy
 
 ENDINGS = [f".RT{kind}" for kind in TYPES]
 FILES = "in/b.RT1 in/b.RT2 in/b.RTA in/a.ZIP in/read.me in/deep/er/c.zip in/deep/d.RT7 in/.e.zip in/small.rt1 in/[f].RT1"
@@ -106,12 +106,25 @@ def test_files(archive: Path) -> None:
 
 
 def test_skipped_files() -> None:
-    for name in ("in/a.tar.gz", "in/c.RT1.gz", "in/d.RT2.gz", "in/deep/README"):
+    """They are counted once, whichever sources lead to them."""
+    for name in ("in/a.tar", "in/c.RT1.gz", "in/d.RT2.gz", "in/deep/README"):
         put(name)
     finder = Finder()
-    finder.counties(["in", "in", "in/*.gz"])
-    assert finder.skipped == {".RTA": 1, ".me": 1, ".tar.gz": 1, ".gz": 2, "without an ending": 1}
-    assert finder.without_records == ["in/a.tar.gz", "in/c.RT1.gz", "in/d.RT2.gz", "in/read.me", "in/deep/README"]
+    finder.counties(["in", "in", "in/*.gz", "in/../in"])
+    assert [*finder.skipped.values()] == ["in/a.tar", "in/b.RTA", "in/c.RT1.gz", "in/d.RT2.gz", "in/read.me", "in/deep/README"]
+
+
+def test_what_a_mac_leaves() -> None:
+    """Its files, hidden folders and what globs exclude are left out. A hidden file may be a county."""
+    for name in ("in/._a.ZIP", "in/.DS_Store", "in/__MACOSX/a.ZIP", "in/.git/x.ZIP", "in/deep/.x/y/z.ZIP"):
+        put(name)
+    finder = Finder(excluded=["*.RT7", "in/deep/er", "read.*"])
+    assert sorted(county.stem for county in finder.all(["in"])) == [stem for stem in ALL if not stem.startswith("in/deep")]
+    assert [*finder.skipped.values()] == ["in/b.RTA"]
+    assert stems("in/**/*.ZIP", "in/.git/*") == ["in/.git/x", "in/a"]
+    put("in/deep/mac.ZIP", packed({"__MACOSX/._TGR01001.RT1": b"", "TGR01001.RT1": b"1\n", "._TGR01001.RT2": b""}))
+    with opened_zip("in/deep/mac.ZIP") as archive:
+        assert {kind: member.filename for kind, member in members_of(archive).items()} == {"1": "TGR01001.RT1"}
 
 
 @pytest.mark.parametrize("folder, name", [("", "a"), ("a", "b"), ("/", "a"), ("s3://a", "b"), ("s3://", "a"), ("file:///", "a")])

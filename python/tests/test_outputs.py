@@ -43,7 +43,7 @@ def test_no_room_for_a_zip(four: Four) -> None:
     put("in/b.RT1", b"x" * 3000)
     zip_up("in/b")
     ended = call("fingerprint", "in", preexec_fn=limit_files(1024))
-    assert ended.reports == {"in/b": "can't be read or unpacked: File too large"}
+    assert ended.reports == {"in/b": f"can't be unpacked into {os.environ['TIGERCANON_SHM']}: File too large"}
     assert (ended.status, len(ended.out.splitlines()), left_behind()) == (1, 4, [])
 
 

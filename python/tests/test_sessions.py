@@ -5,7 +5,7 @@ from pathlib import Path
 
 import pytest
 from dev.sessions import Session, sessions_of
-from support import PACKAGE, left_behind, shell
+from support import PACKAGE, built_program, left_behind, shell
 
 SESSIONS = [session for file in sorted((PACKAGE / "tests/sessions").glob("*.txt")) for session in sessions_of(file)]
 
@@ -21,6 +21,8 @@ def test_session(room: Path, fake: Path, session: Session) -> None:
     and one that ends with status 2 changes no file."""
     if not shutil.which("zip") and any("zip -" in step.command for step in session.steps):
         pytest.skip("zip isn't installed")
+    if any("$REAL" in step.command for step in session.steps):
+        built_program()
     for step in session.steps:
         before = files(room)
         ended = shell(step.command)

@@ -27,8 +27,8 @@ it. Without it, the first call raises ImportError; the command tigercanon-tools 
 
 The other calls do what the commands of tigercanon-tools do, and run the program instead of the library: manifest, verify and checks
 judge the counties of an archive, changes and duplicates read manifests, differences and chains read counties, and explain is about a
-refusal. They raise tigercanon.errors.Failure if they can't go on. A call keeps nothing outside itself: what it starts and makes ends
-with it, and a generator that isn't read to its end is ended by its close.
+refusal. They raise Failure if they can't go on. A call keeps nothing outside itself: what it starts and makes ends
+with it, and results that aren't read to their end are ended by their close.
 """
 
 from typing import TYPE_CHECKING, Any
@@ -38,11 +38,22 @@ from ._library import OutOfMemory, Part, Refusal, Set
 from .version import VERSION as __version__
 
 __all__ = [
+    "ChainRow",
+    "Checked",
+    "Difference",
+    "Explanation",
     "FORM",
+    "Failure",
+    "Fault",
+    "Group",
+    "History",
+    "Judged",
     "OutOfMemory",
     "Part",
     "Refusal",
+    "Results",
     "Set",
+    "Verified",
     "__version__",
     "chains",
     "changes",
@@ -62,16 +73,21 @@ __all__ = [
 FORM = "tigercanon form 1"  # the name of the form of the canonical texts. Cite it with a fingerprint.
 
 if TYPE_CHECKING:
+    from .archive import ChainRow, Checked, Difference, Explanation, Failure, Fault, Group, History, Judged, Results, Verified
     from .archive import chains, changes, checks, differences, duplicates, explain, manifest, verify
 
 
 def __getattr__(name: str) -> Any:
-    """The calls for archives, whose modules are loaded only if one of them is used."""
+    """Returns a call for archives or a type of theirs. Their modules are loaded only if one of them is used."""
     if name not in __all__:
         raise AttributeError(f"module {__name__!r} has no attribute {name!r}")
     from . import archive
 
     return getattr(archive, name)
+
+
+def __dir__() -> list[str]:
+    return sorted({*globals(), *__all__})
 
 
 def check(parts: Set) -> None:

@@ -4,9 +4,11 @@ from __future__ import annotations
 
 import ctypes
 import functools
+import mmap
 import os
 import stat
 import subprocess
+from array import array
 from contextlib import ExitStack, contextmanager
 from ctypes import c_bool, c_size_t, c_ssize_t, c_uint8, c_uint64, c_void_p
 from pathlib import Path
@@ -15,15 +17,15 @@ from typing import TYPE_CHECKING, Any, BinaryIO, Iterable, Iterator, Union
 from .errors import Unreadable
 
 if TYPE_CHECKING:
-    import mmap
-    from array import array
-
+    Array = array[Any]
+else:
+    Array = array
 NAME = "libtigercanon.so.1"
 FINDER = "scripts/find-made"
 VARIABLE = "TIGERCANON_LIBRARY"
 ADVICE = f"scripts/build-library builds it, a release has it, and {VARIABLE} names it elsewhere"
 
-Part = Union[bytes, bytearray, memoryview, "mmap.mmap", "array[Any]", BinaryIO, str, "os.PathLike[str]"]
+Part = Union[bytes, bytearray, memoryview, mmap.mmap, Array, BinaryIO, str, os.PathLike[str]]
 """A part of a set: an object that lends its bytes in one piece, a file opened in binary mode, or the path of a file."""
 
 Set = Union[Part, Iterable[Part]]

@@ -9,7 +9,7 @@ from __future__ import annotations
 import os
 from contextlib import closing
 from dataclasses import dataclass
-from typing import Any, Iterator
+from typing import Any, Generator, Iterable, Iterator, Sequence
 
 from .diff.differing import found_between
 from .diff.geojson import properties
@@ -19,15 +19,20 @@ from .editions import Group as Group
 from .editions import History as History
 from .editions import changes as changes
 from .editions import duplicates as duplicates
-from .errors import Failure
+from .errors import Failure as Failure
+from .faults import Fault as Fault
 from .explanations import Explanation as Explanation
 from .explanations import explain as explain
-from .judge import LARGEST
-from .judging import Check, Checked, Judged, Judging, Means, Numbered, Survey, T, Verification, Verified
+from .judge import LARGEST, SECONDS
+from .judging import Check, Judging, Means, Numbered, T, Verification
+from .judging import Checked as Checked
+from .judging import Verified as Verified
 from .manifests import FLAGS
 from .program import find_program
 from .progress import Tally
 from .resources import Resources
+from .survey import Choice, Survey
+from .survey import Judged as Judged
 from .tables import ChainRow as ChainRow
 from .tables import chains as chains
 
@@ -48,8 +53,30 @@ def flags_for(no_sources: bool, no_reserved: bool) -> tuple[str, ...]:
     return tuple(flag for flag, is_given in zip(FLAGS, (no_sources, no_reserved)) if is_given)
 
 
+class Results(Iterator[T]):
+    """The results of a call, each once it is there. skipped are the paths of files that aren't a county's. What the call has started ends
+    at the last result, by close, or at the end of a `with` block."""
+
+    def __init__(self, results: Generator[Any, None, None]) -> None:
+        self.results = results
+        self.skipped: tuple[str, ...] = next(results)
+
+    def __next__(self) -> T:
+        value: T = next(self.results)
+        return value
+
+    def close(self) -> None:
+        self.results.close()
+
+    def __enter__(self) -> Results[T]:
+        return self
+
+    def __exit__(self, *_: object) -> None:
+        self.close()
+
+
 def values_of(results: Numbered[T], judging: Judging) -> Iterator[T]:
-    """The results without their numbers. Raises Failure if the judging ended before all counties were done."""
+    """Yields the results without their numbers. Raises Failure if the judging ended before all counties were done."""
     with closing(results):
         for _, value in results:
             yield value
@@ -57,67 +84,117 @@ def values_of(results: Numbered[T], judging: Judging) -> Iterator[T]:
         raise Failure(f"{judging.gone}: {judging.left:,} counties are left")
 
 
+def names_of(names: Iterable[str | os.PathLike[str]]) -> list[str]:
+    return [os.fspath(name) for name in names]
+
+
+def judging_by(
+    resources: Resources,
+    program: str | os.PathLike[str] | None,
+    jobs: int | None,
+    scheduler: str | None,
+    memory: int | None,
+    largest: int,
+    seconds: int,
+    job: str = "fingerprint",
+) -> Judging:
+    means = Means(None if program is None else os.fspath(program), jobs, scheduler, memory, largest, seconds)
+    return Judging(means, resources, Tally(), job)
+
+
 def manifest(
     *sources: str | os.PathLike[str],
     output: str | os.PathLike[str] | None = None,
     update: bool = False,
     again: bool = False,
+    prune: bool = False,
     no_sources: bool = False,
     no_reserved: bool = False,
     strict: bool = False,
-    program: str | None = None,
+    exclude: Sequence[str] = (),
+    program: str | os.PathLike[str] | None = None,
     jobs: int | None = None,
     scheduler: str | None = None,
     memory: int | None = None,
     largest: int = LARGEST,
-) -> Iterator[Judged]:
-    """Judges the counties of all sources, and yields each as soon as it is done. With output the manifest is written to this file, and
-    counties that it lists already aren't judged: with update those are whose files have changed, and with again those that were refused.
-    Raises Failure if it can't go on."""
-    names = [os.fspath(source) for source in sources]
+    seconds: int = SECONDS,
+) -> Results[Judged]:
+    """Judges the counties of all sources, and yields each as soon as it is done.
+
+    The counties are found when it is called, and judged while the results are read. With output the manifest is written to this file: a
+    county is in it before it is yielded, and it is put in order after the last one. Counties that it lists already aren't judged: with
+    update those are whose files have changed, and with again those that were refused. With update and prune, counties that are gone are
+    taken out. Raises Failure if it can't go on."""
+    names = names_of(sources)
     if output is None and (update or again):
         raise ValueError("update and again need an output, which is the manifest")
-    with Resources() as resources:
-        judging = Judging(Means(program, jobs, scheduler, memory, largest), resources, Tally())
-        survey = Survey(judging, flags_for(no_sources, no_reserved), strict, update, again)
-        with survey.of(names, None if output is None else os.fspath(output)):
-            yield from values_of(survey.results(), judging)
+    if prune and not update:
+        raise ValueError("prune needs update")
+
+    def results() -> Generator[Any, None, None]:
+        with Resources() as resources:
+            judging = judging_by(resources, program, jobs, scheduler, memory, largest, seconds)
+            survey = Survey(judging, flags_for(no_sources, no_reserved), strict, Choice(update, again, prune))
+            with survey.of(names, None if output is None else os.fspath(output), exclude):
+                yield tuple(survey.finder.skipped.values())
+                yield from values_of(survey.results(), judging)
+
+    return Results(results())
 
 
 def verify(
     manifest: str | os.PathLike[str],
     *sources: str | os.PathLike[str],
     root: str | os.PathLike[str] | None = None,
-    program: str | None = None,
+    no_sources: bool = False,
+    no_reserved: bool = False,
+    quick: bool = False,
+    exclude: Sequence[str] = (),
+    program: str | os.PathLike[str] | None = None,
     jobs: int | None = None,
     scheduler: str | None = None,
     memory: int | None = None,
     largest: int = LARGEST,
-) -> Iterator[Verified]:
+    seconds: int = SECONDS,
+) -> Results[Verified]:
     """Judges the counties of a manifest again, and yields each with its verdict as soon as it is done; and those of the sources that
-    aren't in it. Their names are looked for below the root. Raises Failure if it can't go on."""
-    names = [os.fspath(source) for source in sources]
-    with Resources() as resources:
-        judging = Judging(Means(program, jobs, scheduler, memory, largest), resources, Tally())
-        verification = Verification(judging, os.fspath(manifest), names, None if root is None else os.fspath(root))
-        if verification.troubled:
-            raise Failure("; ".join(f"{county.stem}: {county.trouble}" for county in verification.troubled))
-        yield from values_of(verification.results(), judging)
+    aren't in it. Their names are looked for below the root. With quick those whose files have the sizes and times of the manifest aren't
+    judged. With a flag it raises Failure unless the manifest was made with the same. Raises Failure if it can't go on."""
+    name, names, folder = os.fspath(manifest), names_of(sources), None if root is None else os.fspath(root)
+
+    def results() -> Generator[Any, None, None]:
+        with Resources() as resources:
+            judging = judging_by(resources, program, jobs, scheduler, memory, largest, seconds)
+            flags = flags_for(no_sources, no_reserved)
+            verification = Verification(judging, name, names, folder, flags, exclude, quick)
+            yield tuple(verification.finder.skipped.values())
+            yield from values_of(verification.results(), judging)
+
+    return Results(results())
 
 
 def checks(
     *sources: str | os.PathLike[str],
-    program: str | None = None,
+    exclude: Sequence[str] = (),
+    program: str | os.PathLike[str] | None = None,
     jobs: int | None = None,
     scheduler: str | None = None,
     memory: int | None = None,
     largest: int = LARGEST,
-) -> Iterator[Checked]:
+    seconds: int = SECONDS,
+) -> Results[Checked]:
     """Checks the counties of all sources, and yields each as soon as it is done: whether it is accepted, or why it isn't, with the places
     in its files. Raises Failure if it can't go on."""
-    with Resources() as resources:
-        judging = Judging(Means(program, jobs, scheduler, memory, largest), resources, Tally(), "check")
-        yield from values_of(Check(judging, [os.fspath(source) for source in sources]).results(), judging)
+    names = names_of(sources)
+
+    def results() -> Generator[Any, None, None]:
+        with Resources() as resources:
+            judging = judging_by(resources, program, jobs, scheduler, memory, largest, seconds, "check")
+            check = Check(judging, names, exclude)
+            yield tuple(check.finder.skipped.values())
+            yield from values_of(check.results(), judging)
+
+    return Results(results())
 
 
 def differences(
@@ -126,10 +203,10 @@ def differences(
     *,
     no_sources: bool = False,
     no_reserved: bool = False,
-    program: str | None = None,
+    program: str | os.PathLike[str] | None = None,
 ) -> Iterator[Difference]:
-    """Where two counties differ: nothing if they are one map. It leaves out how things are joined. Raises Failure."""
-    names = [os.fspath(first), os.fspath(second)]
+    """Yields where two counties differ: nothing if they are one map. It leaves out how things are joined. Raises Failure."""
+    names = names_of([first, second])
     with Resources() as resources:
         counties, masks = [found(name, False) for name in names], flags_for(no_sources, no_reserved)
         comparison = found_between(counties, names, find_program(program), masks, resources).comparison

@@ -4,6 +4,7 @@ import argparse
 import os
 import re
 import signal
+import sys
 import threading
 import traceback
 from concurrent.futures import ThreadPoolExecutor
@@ -12,7 +13,8 @@ from typing import Any, Callable, Sequence
 from . import explanations, listing, runs, tables
 from .diff import command as differences
 from .errors import Failure, reason
-from .progress import Console
+from .judge import SECONDS
+from .progress import Console, print_bytes
 from .resources import PATIENCE, Resources
 from .version import VERSION
 
@@ -39,11 +41,11 @@ Example: tigercanon-tools fingerprint -o manifest tiger/2006"""
 
 
 def size_of(word: str) -> int:
-    """A number of bytes, with or without a unit."""
-    found = re.fullmatch(r"([0-9]+)(|kB|MB|GB)", word)
-    if not found or int(found[1]) == 0:
+    """Reads a number of bytes, with or without a unit."""
+    size = re.fullmatch(r"([0-9]+)(|kB|MB|GB)", word)
+    if not size or int(size[1]) == 0:
         raise argparse.ArgumentTypeError(f"{word!r} isn't a size such as 500MB or 2GB")
-    return int(found[1]) * SIZES[found[2]]
+    return int(size[1]) * SIZES[size[2]]
 
 
 def count_of(word: str) -> int:
@@ -56,10 +58,17 @@ class Parser(argparse.ArgumentParser):
     """A parser whose errors take one line, with the name of the command."""
 
     def parse_known_args(self, args: Any = None, namespace: Any = None) -> Any:
-        found, others = super().parse_known_args(args, namespace)
+        options, others = super().parse_known_args(args, namespace)
         if others:
             self.error(f"unrecognized arguments: {' '.join(others)}")
-        return found, others
+        return options, others
+
+    def _print_message(self, message: str, file: Any = None) -> None:
+        """Prints help as the commands print: with an error if it can't be written."""
+        if file is sys.stdout:
+            print_bytes(message.encode())
+        else:
+            super()._print_message(message, file)
 
     def error(self, message: str) -> Any:
         self.exit(2, f"{self.prog}: {message}; see {self.prog} --help\n")
@@ -67,21 +76,21 @@ class Parser(argparse.ArgumentParser):
 
 def parser() -> Parser:
     raw = argparse.RawDescriptionHelpFormatter
-    made = Parser(prog=NAME, description=ABOUT, epilog=STATUSES, formatter_class=raw, allow_abbrev=False)
-    made.add_argument("--version", action="version", version=f"{NAME} {VERSION}")
-    commands = made.add_subparsers(metavar="COMMAND", required=True, dest="command")
+    tools = Parser(prog=NAME, description=ABOUT, epilog=STATUSES, formatter_class=raw, allow_abbrev=False)
+    tools.add_argument("--version", action="version", version=f"{NAME} {VERSION}")
+    commands = tools.add_subparsers(metavar="COMMAND", required=True, dest="command")
     add_judging_commands(commands)
     add_check(commands)
     add_other_commands(commands)
-    return made
+    return tools
 
 
 def add_command(commands: Any, name: str, about: str, run: Run) -> argparse.ArgumentParser:
     description = f"{about[0].upper()}{about[1:]}."
-    made: argparse.ArgumentParser = commands.add_parser(name, help=about, description=description, allow_abbrev=False)
-    made.add_argument("--version", action="version", version=f"{NAME} {VERSION}")
-    made.set_defaults(run=run)
-    return made
+    command: argparse.ArgumentParser = commands.add_parser(name, help=about, description=description, allow_abbrev=False)
+    command.add_argument("--version", action="version", version=f"{NAME} {VERSION}")
+    command.set_defaults(run=run)
+    return command
 
 
 WHERE = "default: the one that $TIGERCANON names, else the one built here, else the one on the PATH"
@@ -89,103 +98,121 @@ SHARED: dict[str, dict[str, Any]] = {
     "--program": {"metavar": "FILE", "help": f"the program tigercanon to run ({WHERE})"},
     "--no-sources": {"action": "store_true", "help": "leave out the fields that record where data came from"},
     "--no-reserved": {"action": "store_true", "help": "leave out the reserved fields"},
+    "--force": {"action": "store_true", "help": "replace a county's file, a manifest, another page or a link, too"},
     "--json": {"action": "store_true", "help": "print JSON, one value on each line"},
     "manifest": {"metavar": "MANIFEST", "help": "a manifest that the command fingerprint has written; - is standard input"},
 }
 
 
-def add_shared(made: argparse.ArgumentParser, *names: str) -> None:
+def add_shared(command: argparse.ArgumentParser, *names: str) -> None:
     for name in names:
-        made.add_argument(name, **SHARED[name])
+        command.add_argument(name, **SHARED[name])
 
 
-def add_judging_options(made: argparse.ArgumentParser, with_flags: bool = True) -> None:
-    add_shared(made, "--program")
-    engine = made.add_mutually_exclusive_group()
+def add_judging_options(command: argparse.ArgumentParser, with_flags: bool = True) -> None:
+    add_shared(command, "--program")
+    engine = command.add_mutually_exclusive_group()
     engine.add_argument("--jobs", metavar="N", type=count_of, help="process N counties at a time (default: one per processor)")
     about = "use the workers of the Dask scheduler at this address, or at the one in a file that the scheduler has written"
     engine.add_argument("--scheduler", metavar="ADDRESS", help=about)
     about = "limit the memory of each process, for example to 4GB; a county that doesn't fit is tried again, alone"
-    made.add_argument("--memory", metavar="SIZE", type=size_of, help=about)
-    about = f"skip zips that unpack to more than SIZE (default: {LARGEST})"
-    made.add_argument("--largest", metavar="SIZE", type=size_of, default=size_of(LARGEST), help=about)
-    add_shared(made, *(["--no-sources", "--no-reserved"] if with_flags else []), "--json")
+    command.add_argument("--memory", metavar="SIZE", type=size_of, help=about)
+    about = f"fail counties that unpack to more than SIZE (default: {LARGEST})"
+    command.add_argument("--largest", metavar="SIZE", type=size_of, default=size_of(LARGEST), help=about)
+    about = f"fail counties that take longer than N seconds (default: {SECONDS})"
+    command.add_argument("--seconds", metavar="N", type=count_of, default=SECONDS, help=about)
+    about = "leave out files and folders whose name or path in a SOURCE matches this glob; it can be given several times"
+    command.add_argument("--exclude", metavar="GLOB", action="append", default=[], help=about)
+    command.add_argument("--verbose", action="store_true", help="name each file that is skipped, since it isn't a county's")
+    add_shared(command, *(["--no-sources", "--no-reserved"] if with_flags else []), "--json")
 
 
 def add_judging_commands(commands: Any) -> None:
     about = "print or write a manifest: the fingerprint and the name of each county"
-    made = add_command(commands, "fingerprint", about, runs.fingerprint)
+    command = add_command(commands, "fingerprint", about, runs.fingerprint)
     about = "write the manifest to this file; counties that it already lists are skipped, and so are those that it lists as refused"
-    made.add_argument("-o", "--output", metavar="MANIFEST", help=about)
+    command.add_argument("-o", "--output", metavar="MANIFEST", help=about)
     about = "with -o: judge again the counties whose files have another size or time than the manifest has"
-    made.add_argument("--update", action="store_true", help=about)
-    made.add_argument("--again", action="store_true", help="with -o: judge again all counties that were refused")
+    command.add_argument("--update", action="store_true", help=about)
+    command.add_argument("--again", action="store_true", help="with -o: judge again all counties that were refused")
+    about = "with --update: take out of the manifest the counties below a SOURCE that are gone"
+    command.add_argument("--prune", action="store_true", help=about)
     about = "reject a county if one of its files is missing, or if the one of type 1, 2 or I is empty"
-    made.add_argument("--strict", action="store_true", help=about)
-    add_judging_options(made)
-    made.add_argument("sources", metavar="SOURCE", nargs="+", help="where the counties are")
+    command.add_argument("--strict", action="store_true", help=about)
+    add_judging_options(command)
+    command.add_argument("sources", metavar="SOURCE", nargs="+", help="where the counties are")
 
     about = "check counties against their fingerprints in a manifest: OK, FAILED or MISSING for each"
-    made = add_command(commands, "verify", about, runs.verify)
-    made.add_argument("--quiet", action="store_true", help="don't print counties that are OK")
-    made.add_argument("--root", metavar="FOLDER", help="look for the names in the manifest below this folder")
-    add_judging_options(made)
-    add_shared(made, "manifest")
-    made.add_argument(
+    command = add_command(commands, "verify", about, runs.verify)
+    command.add_argument("--quiet", action="store_true", help="don't print counties that are OK")
+    about = "judge only counties whose files have other sizes or times than the manifest has"
+    command.add_argument("--quick", action="store_true", help=about)
+    command.add_argument("--root", metavar="FOLDER", help="look for the names in the manifest below this folder")
+    add_judging_options(command)
+    add_shared(command, "manifest")
+    command.add_argument(
         "sources", metavar="SOURCE", nargs="*", default=[], help="print NEW for each county here that isn't in the manifest"
     )
 
 
 def add_check(commands: Any) -> None:
     about = "check whether counties are accepted, and show the faulty line and field of each that isn't"
-    made = add_command(commands, "check", about, runs.check)
-    made.add_argument("--quiet", action="store_true", help="don't print counties that are accepted")
-    add_judging_options(made, with_flags=False)
-    made.add_argument("counties", metavar="COUNTY", nargs="+", help="a county, or a SOURCE of several")
+    command = add_command(commands, "check", about, runs.check)
+    command.add_argument("--quiet", action="store_true", help="don't print counties that are accepted")
+    add_judging_options(command, with_flags=False)
+    command.add_argument("counties", metavar="COUNTY", nargs="+", help="a county, or a SOURCE of several")
 
 
 def add_other_commands(commands: Any) -> None:
-    made = add_command(
+    command = add_command(
         commands, "duplicates", "list the counties of a manifest that are one map, in groups", listing.list_duplicates
     )
-    made.add_argument("--different", action="store_true", help="list only groups in which counties have different names")
-    add_shared(made, "--json", "manifest")
+    command.add_argument("--different", action="store_true", help="list only groups in which counties have different names")
+    add_shared(command, "--json", "manifest")
 
     about = "list how the editions of an archive differ: counties that are the same, changed, added, removed or renamed"
-    made = add_command(commands, "changes", about, listing.list_changes)
-    made.description = f"{made.description} Counties are matched by their names without folder, case and ending."
-    made.add_argument("--quiet", action="store_true", help="don't print counties that are the same")
+    command = add_command(commands, "changes", about, listing.list_changes)
+    command.description = f"{command.description} Counties are matched by their names without folder, case and ending."
+    command.add_argument("--quiet", action="store_true", help="don't print counties that are the same")
     about = "take the counties below this folder of the one manifest for an edition; give it for each edition, in their order"
-    made.add_argument("--edition", metavar="FOLDER", action="append", default=[], help=about)
-    add_shared(made, "--json")
+    command.add_argument("--edition", metavar="FOLDER", action="append", default=[], help=about)
+    add_shared(command, "--json")
+    about = "print how many chains, landmarks, polygons and names are only in the first map, only in the second, or changed"
+    command.add_argument("--stat", action="store_true", help=about)
     about = "write a page with a map for each county that changed, and an index; pages that are there already stay"
-    made.add_argument("--pages", metavar="FOLDER", help=about)
-    made.add_argument("--root", metavar="FOLDER", help="with --pages: look for the names in the manifests below this folder")
-    made.add_argument("--leaflet", metavar="FOLDER", help="with --pages: the folder that has leaflet.js and leaflet.css")
-    made.add_argument(
-        "--jobs", metavar="N", type=count_of, help="with --pages: write N pages at a time (default: one per processor)"
+    command.add_argument("--pages", metavar="FOLDER", help=about)
+    command.add_argument(
+        "--root", metavar="FOLDER", help="with --pages or --stat: look for the names in the manifests below this folder"
     )
-    add_shared(made, "--program")
-    made.add_argument(
+    command.add_argument("--leaflet", metavar="FOLDER", help="with --pages: the folder that has leaflet.js and leaflet.css")
+    command.add_argument(
+        "--jobs",
+        metavar="N",
+        type=count_of,
+        help="with --pages or --stat: compare N counties at a time (default: one per processor)",
+    )
+    add_shared(command, "--program", "--force")
+    command.add_argument(
         "manifests", metavar="MANIFEST", nargs="+", help="a manifest for each edition in their order, or one with all editions"
     )
 
-    made = add_command(commands, "diff", "show where two maps differ, as text, a page or GeoJSON", differences.run)
-    add_shared(made, "--program", "--no-sources", "--no-reserved")
-    differences.add_arguments(made)
+    command = add_command(commands, "diff", "show where two maps differ, as text, a page or GeoJSON", differences.run)
+    add_shared(command, "--program", "--no-sources", "--no-reserved", "--force")
+    differences.add_arguments(command)
 
-    made = add_command(commands, "table", "write the chains of a county as a table, in CSV or GeoJSON", tables.run)
-    made.description = f"{made.description} CSV has the points as WKT. DuckDB, pandas and GDAL read both."
-    add_shared(made, "--program")
-    made.add_argument("--geojson", action="store_true", help="write GeoJSON")
-    made.add_argument("-o", "--output", metavar="FILE", help="write to this file and not to standard output")
-    made.add_argument("county", metavar="COUNTY", help="a zip, a file with all records, or the stem or a file of the nine")
+    command = add_command(commands, "table", "write the chains of a county as a table, in CSV or GeoJSON", tables.run)
+    command.description = f"{command.description} CSV has the points as WKT. DuckDB, pandas and GDAL read both."
+    add_shared(command, "--program")
+    command.add_argument("--geojson", action="store_true", help="write GeoJSON")
+    command.add_argument("-o", "--output", metavar="FILE", help="write to this file and not to standard output")
+    add_shared(command, "--force")
+    command.add_argument("county", metavar="COUNTY", help="a zip, a file with all records, or the stem or a file of the nine")
 
     about = "explain a refusal: what it means, an example, and what to do; of a county it shows the place too"
-    made = add_command(commands, "explain", about, explanations.run)
-    add_shared(made, "--program")
+    command = add_command(commands, "explain", about, explanations.run)
+    add_shared(command, "--program")
     about = "the line that the program printed, or the refusal's number or name; a COUNTY may follow it, or be given instead"
-    made.add_argument("line", metavar="LINE", nargs="+", help=about)
+    command.add_argument("line", metavar="LINE", nargs="+", help=about)
 
 
 def end_by(number: int) -> None:
@@ -233,12 +260,12 @@ def run(arguments: Sequence[str]) -> int:
     """Runs a command line and returns the exit status. The command runs in a thread of its own, and this one waits for signals, so
     none comes at a bad moment. A command that can't go on ends this process, in which other threads may still be at work."""
     open_streams()
-    options = parser().parse_args(list(arguments))
     console, resources = Console(), Resources(prints=True)
-    for number in SIGNALS:
-        if signal.getsignal(number) is not signal.SIG_IGN:
-            signal.signal(number, Stop(console, resources))
     try:
+        options = parser().parse_args(list(arguments))
+        for number in SIGNALS:
+            if signal.getsignal(number) is not signal.SIG_IGN:
+                signal.signal(number, Stop(console, resources))
         return ThreadPoolExecutor(1).submit(perform, options, console, resources).result()
     except Failure as failure:
         console.report(str(failure))
@@ -250,6 +277,8 @@ def run(arguments: Sequence[str]) -> int:
     except OSError as error:
         name = f"{error.filename}: " if isinstance(error.filename, str) else ""
         console.report(f"{name}{reason(error)}")
+    except SystemExit:  # help, the version, or a wrong command line
+        raise
     except BaseException:  # a fault of this package
         traceback.print_exc()
     resources.end()

@@ -4,33 +4,33 @@ from __future__ import annotations
 
 import os
 import re
-from collections import Counter
-from contextlib import suppress
 from fnmatch import fnmatchcase
 from functools import lru_cache
-from typing import Callable, Collection, Iterable, Iterator
+from typing import Callable, Collection, Iterable, Iterator, Sequence
 
-from .errors import Failure, reason
+from .errors import Failure, Unreadable, reason
 from .judge import County, File
 from .layout import TYPES, folded, is_record, key_of, kind_of, stem_of
-from .storage import Entry, entries, entry_of, first_line, is_folder, is_url, joined, parted, real, tidy
+from .storage import Entry, entries, entry_of, first_line, is_absent, is_folder, is_url, joined, parted, real, tidy
 
 MAGIC = re.compile(r"[*?[]")
+COUNTY_NAME = re.compile("TGR[0-9]{5}")
+OTHER_ENDINGS = (".met", ".csv", ".geojson", ".html")  # of files that are distributed with a county's records, or made of them
 KINDS = (*TYPES, "ZIP")
 Names = dict[str, list[Entry]]  # the files of one stem in a folder, by their kinds
 
 
 class Finder:
-    """Finds counties, and notes the files that it skips. Files of the run itself aren't looked at."""
+    """Finds counties, and notes the files that it skips. It leaves out the files of the run itself, what one of these globs excludes, what
+    a Mac leaves in folders, and hidden folders. listed are the names of counties in a manifest, folded."""
 
-    def __init__(self, own_files: Collection[str] = ()) -> None:
-        listed = self.entries = lru_cache(maxsize=None)(entries)
-        self.by_key = lru_cache(maxsize=None)(lambda folder: keyed(listed(folder)))
-        self.own_files = {real(name) for name in own_files}
-        self.skipped: Counter[str] = Counter()
-        self.without_records: list[str] = []
+    def __init__(self, own_files: Collection[str] = (), excluded: Sequence[str] = (), listed: Collection[str] = ()) -> None:
+        self.entries = lru_cache(maxsize=None)(entries)
+        self.by_key = lru_cache(maxsize=None)(lambda folder: keyed(self.entries(folder)))
+        self.own_files, self.excluded, self.listed = {real(name) for name in own_files}, excluded, listed
+        self.skipped: dict[str, str] = {}  # the paths of other files, by the names that they have once
         self.same: list[tuple[str, str]] = []
-        self.counted: set[str] = set()
+        self.walked: set[str] = set()  # the folders of sources that have counties
 
     def all(self, sources: Iterable[str]) -> list[County]:
         """The counties of all sources. One may be there several times."""
@@ -63,8 +63,10 @@ class Finder:
         path = tidy(source) or ("/" if source.startswith("/") else "")
         try:
             if not kind_of(path) and is_folder(path or "."):
-                absent = County(path or ".", trouble="there is no county in this folder", is_absent=True)
-                yield from list(self.below(path, set())) or [absent]
+                walked: set[str] = set()
+                counties = list(self.below(path, set(), walked))
+                self.walked |= walked if any(not county.trouble for county in counties) else set()
+                yield from counties or [County(path or ".", trouble="there is no county in this folder", is_absent=True)]
             elif MAGIC.search(path) and not self.is_named(path):
                 yield from self.of_glob(path)
             else:
@@ -74,35 +76,44 @@ class Finder:
         except Exception as error:
             yield County(source, trouble=f"can't be read: {reason(error)}")
 
-    def below(self, folder: str, seen: set[str]) -> Iterator[County]:
-        """The counties in a folder and in all folders below it."""
+    def below(self, folder: str, seen: set[str], walked: set[str]) -> Iterator[County]:
+        """The counties in a folder and in all folders below it. Notes the folders that it has listed."""
         if real(folder or ".") in seen:
             return
         seen.add(real(folder or "."))
         try:
-            found = self.entries(folder)
+            found = self.entries_in(folder)
         except Exception as error:
             yield County(folder, trouble=f"can't be listed: {reason(error)}")
             return
+        walked.add(folder)
         for names in names_among(found).values():
             yield county_of(folder, names)
         for entry in found:
             if not entry.is_folder and kind_of(entry.name) not in KINDS:
                 yield from self.whole(folder, entry)
-        self.counted.add(folder)
         for entry in found:
             if entry.is_folder:
-                yield from self.below(joined(folder, entry.name), seen)
+                yield from self.below(joined(folder, entry.name), seen, walked)
+
+    def entries_in(self, folder: str) -> list[Entry]:
+        """The entries of a folder without those that are left out."""
+        return [entry for entry in self.entries(folder) if not (is_left_out(entry) or self.is_excluded(joined(folder, entry.name)))]
+
+    def is_excluded(self, path: str) -> bool:
+        """Whether a glob excludes a path, or the name at its end."""
+        return any(fnmatchcase(path, glob) or fnmatchcase(parted(path)[1], glob) for glob in self.excluded)
 
     def whole(self, folder: str, entry: Entry) -> Iterator[County]:
-        """The county of a file with all records, if its first line is one. Other files are noted as skipped, once."""
+        """The county of a file that is none of a county's nine, or nothing: then the file is noted as skipped, once."""
         path = joined(folder, entry.name)
-        if has_records(path, entry):
-            yield whole_county(folder, entry)
-        elif folder not in self.counted and real(path) not in self.own_files:
-            self.skipped[ending_of(entry.name)] += 1
-            if not kind_of(entry.name):
-                self.without_records.append(path)
+        if real(path) in self.own_files:
+            return
+        county = county_in(folder, entry, folded(path) in self.listed)
+        if county:
+            yield county
+        else:
+            self.skipped.setdefault(real(path), path)
 
     def of_glob(self, pattern: str) -> Iterator[County]:
         """The counties that a glob matches: folders with all that is in them, zips and files."""
@@ -114,7 +125,7 @@ class Finder:
         for folder, entry in self.matches(root, words):
             path = joined(folder, entry.name)
             if entry.is_folder:
-                found = self.below(path, set())
+                found = self.below(path, set(), self.walked)
             else:
                 found = iter([self.of_name(path)]) if kind_of(path) else self.whole(folder, entry)
             for county in found:
@@ -128,7 +139,7 @@ class Finder:
         word, rest = words[0], words[1:]
         if word == "**" and rest:
             yield from self.matches(folder, rest)
-        for entry in self.entries(folder):
+        for entry in self.entries(folder) if word.startswith(".") else self.entries_in(folder):
             if word == "**" and rest:
                 if entry.is_folder:
                     yield from self.matches(joined(folder, entry.name), words)
@@ -137,6 +148,13 @@ class Finder:
                     yield folder, entry
                 elif entry.is_folder:
                     yield from self.matches(joined(folder, entry.name), rest)
+
+    def has_walked(self, stem: str) -> bool:
+        """Whether a county of this name would have been found: its folder was listed, or isn't there any more below one that was."""
+        folder = parted(stem)[0]
+        while folder not in self.walked and folder and not (is_url(folder) or os.path.lexists(folder)):
+            folder = parted(folder)[0]
+        return folder in self.walked and not self.is_excluded(stem)
 
     def is_named(self, path: str) -> bool:
         """Whether a path with the letters of a glob is the name of something that is there."""
@@ -150,14 +168,10 @@ class Finder:
         """The county of this name, or the one that a file of this name belongs to. A county that isn't there may have been packed into
         a zip, or written as one file with all records. An exact name of a zip isn't one of the single files beside it."""
         folder, name = parted(path)
-        listed: list[Entry] = []
         try:
-            listed = self.entries(folder)
+            listed = self.listed_for(path, folder)
         except Exception as error:
-            if not is_url(path) and not isinstance(error, FileNotFoundError):
-                return County(path, trouble=f"can't be read: {reason(error)}")
-        if is_url(path) and not listed:  # a plain server of files can't list a folder
-            listed = list(probed(path))
+            return County(path, trouble=f"can't be read: {reason(error)}")
         by_key = self.by_key(folder) if listed and not is_url(path) else keyed(listed)
         alike = [entry for key in dict.fromkeys((folded(stem_of(name)), key_of(name))) for entry in by_key.get(key, [])]
         itself = [entry for entry in alike if entry.name == name]
@@ -171,18 +185,27 @@ class Finder:
         if not kind_of(name):
             if key_of(name) in names:
                 return county_of(folder, names[key_of(name)])
-            wholes = [
-                entry for entry in listed if key_of(entry.name) == key_of(name) and has_records(joined(folder, entry.name), entry)
-            ]
+            wholes = wholes_among(folder, by_key.get(key_of(name), []))
             if len(wholes) > 1:
-                listing = ", ".join(entry.name for entry in wholes)
+                listing = ", ".join(parted(county.stem)[1] for county in wholes)
                 return County(path, trouble=f"there are {len(wholes)} files with all records: {listing}")
             if wholes:
-                return whole_county(folder, wholes[0])
+                return wholes[0]
         if os.path.lexists(path):
             return County(path, trouble="isn't a regular file")
         absent = "no such file" if kind_of(path) and not is_url(path) else "no such file, folder or county"
         return County(path, trouble=absent, is_absent=True)
+
+    def listed_for(self, path: str, folder: str) -> list[Entry]:
+        """The entries among which a county of this name is: those of its folder, or, of a plain server of files, which can't list a
+        folder, those of its names that are there. Raises what stands in the way, unless the folder isn't there."""
+        try:
+            listed = self.entries(folder)
+        except Exception as error:
+            if not is_url(path) and not is_absent(error):
+                raise
+            listed = []
+        return listed if listed or not is_url(path) else probed(path)
 
 
 def keyed(found: Iterable[Entry]) -> dict[str, list[Entry]]:
@@ -202,19 +225,47 @@ def names_among(found: Iterable[Entry]) -> dict[str, Names]:
     return grouped
 
 
+def is_left_out(entry: Entry) -> bool:
+    """Whether an entry of a folder is what a Mac leaves there, or a hidden folder."""
+    hidden = (".", "__MACOSX") if entry.is_folder else ("._", ".DS_Store")
+    return entry.name.startswith(hidden)
+
+
 def ending_of(name: str) -> str:
     """The ending under which a skipped file is counted."""
     return ".tar.gz" if name.lower().endswith(".tar.gz") else os.path.splitext(name)[1] or "without an ending"
 
 
-def has_records(path: str, entry: Entry) -> bool:
-    """Whether a file that isn't one of a county's nine, nor a packed one of them, begins with a record."""
-    if entry.is_folder or entry.trouble or kind_of(entry.name) or kind_of(re.sub(r"(?i)\.gz$", "", entry.name)):
-        return False
+def county_in(folder: str, entry: Entry, is_listed: bool = False) -> County | None:
+    """Decides what a file is that is neither one of a county's nine nor a zip: a county, one that fails for its trouble, or, by None,
+    another file, which is skipped. What can't be opened, read or unpacked fails. A county is what begins with a record, and, however it
+    begins, what has a county's name or is listed in a manifest."""
+    path, inner = joined(folder, entry.name), re.sub(r"(?i)\.gz$", "", entry.name)
+    is_county = is_listed or bool(COUNTY_NAME.fullmatch(key_of(entry.name)))
+    if kind_of(entry.name) or inner.lower().endswith(OTHER_ENDINGS) or kind_of(inner) and not is_county:
+        return None
+    if kind_of(inner):
+        return (
+            County(path, trouble="it is one file of several, packed by gzip: unpack it first") if kind_of(inner) in KINDS else None
+        )
+    if entry.trouble:
+        return County(path, trouble=entry.trouble)
     try:
-        return is_record(first_line(path))
-    except Exception:
-        return False
+        is_county |= is_record(first_line(path))
+    except Failure:
+        raise
+    except Exception as error:
+        return County(path, trouble=str(error) if isinstance(error, Unreadable) else f"can't be read: {reason(error)}")
+    return whole_county(folder, entry) if is_county else None
+
+
+def wholes_among(folder: str, found: Iterable[Entry]) -> list[County]:
+    """The counties with all records in one file each. If some begin with a record, those."""
+    counties = [county for county in (county_in(folder, entry) for entry in found if not entry.is_folder) if county]
+    sure = (
+        [county for county in counties if county.whole and is_record(first_line(county.whole.place))] if len(counties) > 1 else []
+    )
+    return sure or counties
 
 
 def placed(folder: str, entry: Entry) -> File:
@@ -253,9 +304,21 @@ def county_of(folder: str, names: Names) -> County:
     return County(stem, files, notes=notes, readable_stem=os.path.abspath(stem) if is_readable else None)
 
 
-def probed(path: str) -> Iterator[Entry]:
-    """The files of a county at a URL that are there, each asked for by its name."""
-    stem = stem_of(path)
+def doubles_among(counties: Sequence[County]) -> dict[str, str]:
+    """The names of files with all records, each with that of the zip or the single files of the same name in the same folder."""
+    places = {(parted(county.stem)[0], key_of(county.stem)): county.stem for county in counties if county.zip or county.files}
+    pairs = [(county.stem, places.get((parted(county.stem)[0], key_of(county.stem)))) for county in counties if county.whole]
+    return {stem: first for stem, first in pairs if first}
+
+
+def probed(path: str) -> list[Entry]:
+    """The files of a county at a URL that are there, each asked for by its name. Raises the first error of a server that doesn't answer."""
+    stem, found, troubles = stem_of(path), list[Entry](), list[Exception]()
     for name in dict.fromkeys((path, *(stem + ending for ending in (".ZIP", ".zip", *(f".RT{kind}" for kind in TYPES))))):
-        with suppress(Exception):
-            yield entry_of(name)
+        try:
+            found.append(entry_of(name))
+        except Exception as error:
+            troubles += [] if is_absent(error) else [error]
+    if troubles and not found:
+        raise troubles[0]
+    return found

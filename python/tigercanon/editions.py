@@ -9,7 +9,7 @@ from .errors import Failure
 from .layout import key_of
 from .manifests import Line, loaded, named, without_mark
 
-KINDS = ("same", "changed", "added", "removed", "renamed", "refused")
+KINDS = ("same", "changed", "added", "removed", "renamed", "refused", "failed", "accepted")
 Lines = dict[str, Line]
 
 
@@ -38,16 +38,18 @@ class History(NamedTuple):
     @property
     def maps(self) -> list[int | None]:
         """A number for its map in each edition: the same number for the same map. None if an edition has no map of it."""
-        found: dict[str, int] = {}
-        return [found.setdefault(line.fingerprint, 1 + len(found)) if line and line.fingerprint else None for line in self.lines]
+        numbers: dict[str, int] = {}
+        return [
+            numbers.setdefault(line.fingerprint, 1 + len(numbers)) if line and line.fingerprint else None for line in self.lines
+        ]
 
     def step(self, place: int) -> str:
         """How it changed between an edition and the one before: one of KINDS, or nothing if neither edition has it."""
         old, new = self.lines[place - 1 : place + 1]
         if old is None or new is None:
             return "added" if new else "removed" if old else ""
-        if new.refusal:
-            return "same" if old.refusal == new.refusal else "refused"
+        if new.refusal or old.refusal:
+            return new.state
         is_renamed = key_of(old.stem) != key_of(new.stem)
         return "changed" if old.fingerprint != new.fingerprint else "renamed" if is_renamed else "same"
 
@@ -64,16 +66,21 @@ class History(NamedTuple):
         """How it changed, in words: `same since 1990`, or `changed in 2000, back in 2006`."""
         if self.is_same:
             return f"same since {self.editions[0]}"
-        maps, told = self.maps, []
-        for place, step in enumerate(self.steps, 1):
-            edition, before, old = self.editions[place], maps[:place], self.lines[place - 1]
-            if maps[place] is not None and maps[place] in before and maps[place] != maps[place - 1]:
-                told.append(f"back in {edition} as in {self.editions[before.index(maps[place])]}")
-            elif step == "renamed":
-                told.append(f"renamed in {edition} from {key_of(old.stem) if old else ''}")
-            elif step not in ("same", ""):
-                told.append(f"{'added again' if step == 'added' and any(self.lines[:place]) else step} in {edition}")
-        return ", ".join(told)
+        return ", ".join(filter(None, [self.words_for(place) for place in range(1, len(self.editions))]))
+
+    def words_for(self, place: int) -> str:
+        """How it changed in an edition, in words; nothing if it is the same there, or still isn't there."""
+        edition, step, old = self.editions[place], self.step(place), self.lines[place - 1]
+        number, before = self.maps[place], self.maps[:place]
+        if number is not None and number in before and number != before[-1]:
+            return f"back in {edition} as in {self.editions[before.index(number)]}"
+        if step == "renamed" and old:
+            return f"renamed in {edition} from {key_of(old.stem)}"
+        if step in ("same", ""):
+            return ""
+        if step == "added" and any(self.lines[:place]):
+            return f"added again in {edition}"
+        return f"{'still ' if old and old.state == step else ''}{step} in {edition}"
 
 
 class Group(NamedTuple):
@@ -96,16 +103,16 @@ class Group(NamedTuple):
 def editions_of(names: Sequence[str], folders: Sequence[str] = ()) -> list[Edition]:
     """The editions in these manifests: one in each, or all of them in one, below a folder each. Raises Failure if there is only one, or
     if their fingerprints can't be compared."""
-    found = [(name, *loaded(name)) for name in names]
-    for name, flags, _ in found[1:]:
-        if without_mark(flags) != without_mark(found[0][1]):
-            made = f"{names[0]} was made with {named(found[0][1])} and {name} with {named(flags)}"
-            raise Failure(f"{made}: their fingerprints can't be compared")
-    if len(found) == 1:
-        return parted(names[0], found[0][2], folders)
+    manifests = [(name, *loaded(name)) for name in names]
+    for name, flags, _ in manifests[1:]:
+        if without_mark(flags) != without_mark(manifests[0][1]):
+            both = f"{names[0]} was made with {named(manifests[0][1])} and {name} with {named(flags)}"
+            raise Failure(f"{both}: their fingerprints can't be compared")
+    if len(manifests) == 1:
+        return parted(names[0], manifests[0][2], folders)
     bases = [os.path.basename(name) for name in names]
     shown = bases if len({*bases}) == len(bases) else names
-    return [Edition(label, by_key(name, lines)) for label, (name, _, lines) in zip(shown, found)]
+    return [Edition(label, by_key(name, lines)) for label, (name, _, lines) in zip(shown, manifests)]
 
 
 def parted(name: str, lines: list[Line], folders: Sequence[str]) -> list[Edition]:
@@ -118,22 +125,23 @@ def parted(name: str, lines: list[Line], folders: Sequence[str]) -> list[Edition
         roots = sorted({"/".join(part[: depth + 1]) for part in parts})
         if len(roots) < 2 or any(len(part) <= depth for part in parts):
             raise Failure(f"{name}: has one edition: name another manifest, or the folder of each edition by --edition")
-    found = [Edition(root, by_key(name, [line for line in lines if line.stem.startswith(f"{root}/")])) for root in roots]
-    for edition in found:
+    editions = [Edition(root, by_key(name, [line for line in lines if line.stem.startswith(f"{root}/")])) for root in roots]
+    for edition in editions:
         if not edition.counties:
             raise Failure(f"{name}: has no county below {edition.name}")
     bases = [os.path.basename(root) for root in roots]
-    return [edition._replace(name=base) for edition, base in zip(found, bases)] if len({*bases}) == len(bases) else found
+    return [edition._replace(name=base) for edition, base in zip(editions, bases)] if len({*bases}) == len(bases) else editions
 
 
 def by_key(name: str, lines: Iterable[Line]) -> Lines:
-    """The counties by their names without folder, case and ending. Raises Failure if two have one name."""
-    found: Lines = {}
-    for line in lines:
-        first = found.setdefault(key_of(line.stem), line)
-        if first is not line:
+    """Returns the counties by their names without folder, case and ending. One that was refused gives way to one of the same name. Raises
+    Failure if two with a fingerprint have one name."""
+    counties: Lines = {}
+    for line in sorted(lines, key=lambda line: not line.fingerprint):
+        first = counties.setdefault(key_of(line.stem), line)
+        if first is not line and line.fingerprint:
             raise Failure(f"{name}: {first.stem} and {line.stem} have the same name, so counties can't be matched by it")
-    return found
+    return counties
 
 
 def histories(editions: Sequence[Edition]) -> list[History]:

@@ -16,7 +16,7 @@ import tigercanon.judge
 
 from .errors import Failure, reason
 from .faults import Fault
-from .judge import Answer, County, Order, judge, judge_on_a_worker
+from .judge import Answer, County, Kind, Order, judge, judge_on_a_worker
 from .resources import Resources
 
 TICK = 0.5
@@ -42,7 +42,7 @@ class Engine:
         """The answers as they come. Counties that may not have fitted into memory are judged again, each alone. Raises Gone."""
         again: list[int] = []
         for result in self.first_answers(dict(enumerate(counties)), order):
-            if result and result[1].kind == "memory":
+            if result and result[1].kind is Kind.MEMORY:
                 again.append(result[0])
             else:
                 yield result
@@ -94,17 +94,17 @@ class DaskEngine(Engine):
         self.served_at = time.monotonic()
         try:
             kind, text, notes, faults = future.result()
-            answer = Answer(kind, text, notes, tuple(Fault(*each) for each in faults))
+            answer = Answer(Kind(kind), text, notes, tuple(Fault(*each) for each in faults))
         except BaseException as error:
             name = type(error).__name__
             if name in SCHEDULER_ENDED:
                 raise Gone(f"{self.name} is gone") from None
             if name == "KilledWorker":
-                return Answer("memory", "every worker that judged it ended")
+                return Answer(Kind.MEMORY, "every worker that judged it ended")
             if not isinstance(error, Exception):
                 raise
-            return Answer("failed", f"its judging ended with {name}: {reason(error)}")
-        if answer.kind == "lost":
+            return Answer(Kind.FAILED, f"its judging ended with {name}: {reason(error)}")
+        if answer.kind is Kind.LOST:
             raise Failure(f"{self.name}: {answer.text}")
         return answer
 

@@ -5,13 +5,13 @@ from __future__ import annotations
 import argparse
 import os
 import re
-from contextlib import suppress
 from dataclasses import dataclass
 from pathlib import Path
 
 from .diff.sets import found, opened
 from .errors import Failure, printable
 from .faults import Fault, faults_of
+from .hints import hint
 from .judge import County
 from .layout import kind_of
 from .program import find_program
@@ -74,15 +74,20 @@ class Explanation:
     lines: tuple[str, ...]
 
 
-def explain(refusal: str = "", county: str | os.PathLike[str] | None = None, *, program: str | None = None) -> Explanation | None:
-    """Explains a refusal: the program's line, its number or its name. If a county is named, its places there are looked up; without a
-    refusal it is the one that the county gets, and None if it is accepted. Raises Failure."""
+def explain(
+    refusal: str | int | Exception = "",
+    county: str | os.PathLike[str] | None = None,
+    *,
+    program: str | os.PathLike[str] | None = None,
+) -> Explanation | None:
+    """Explains a refusal: the program's line, the refusal's number or name, or the exception Refusal. If a county is named, its places
+    there are looked up; without a refusal it is the one that the county gets, and None if it is accepted. Raises Failure."""
     with Resources() as resources:
-        return explanation(refusal, None if county is None else os.fspath(county), program, resources)
+        return explanation(str(refusal), None if county is None else os.fspath(county), program, resources)
 
 
-def explanation(refusal: str, name: str | None, program: str | None, resources: Resources) -> Explanation | None:
-    """The explanation of a refusal, in the county of this name if there is a name."""
+def explanation(refusal: str, name: str | None, program: str | os.PathLike[str] | None, resources: Resources) -> Explanation | None:
+    """Explains a refusal, in the county of this name if there is a name."""
     if name is None:
         return Explanation(bare(refusal), (), tuple(explained(refusal, page())))
     with resources.part() as part:
@@ -92,8 +97,9 @@ def explanation(refusal: str, name: str | None, program: str | None, resources: 
             if ended.returncode == 0:
                 return None
             refusal = source.complaint(ended)[0]
-        lines, faults = explained(refusal, page()), faults_of(bare(refusal), source.files, source.names)
-        return Explanation(bare(refusal), tuple(faults), tuple(lines))
+        heading, *lines = explained(refusal, page())
+        faults, advice = faults_of(bare(refusal), source.files, source.names), hint(bare(refusal), source.files)
+        return Explanation(bare(refusal), tuple(faults), (heading, *(["", advice] if advice else []), *lines))
 
 
 def run(options: argparse.Namespace, console: Console, resources: Resources) -> int:
@@ -103,20 +109,25 @@ def run(options: argparse.Namespace, console: Console, resources: Resources) -> 
     county = found_there(name)
     resources.inputs(file.place for file in (county.places if county else ()))
     refusal = line if county else options.line
-    told = explanation(" ".join(refusal), name if county else None, options.program, resources)
-    if told is None:
+    answer = explanation(" ".join(refusal), name if county else None, options.program, resources)
+    if answer is None:
         print_lines([f"{printable(name)}: accepted"])
         return 0
-    shown = [line for fault in told.faults for line in fault.shown()]
-    print_lines([*([*shown, ""] if shown else []), *told.lines])
+    shown = [line for fault in answer.faults for line in fault.shown()]
+    print_lines([*([*shown, ""] if shown else []), *answer.lines])
     return 0
 
 
 def found_there(name: str) -> County | None:
-    """The county of this name, if there is one."""
-    with suppress(Failure):
-        return found(name, False) if "/" in name or os.path.lexists(name) or kind_of(name) else None
-    return None
+    """Returns the county of this name, if there is one, and nothing for a refusal. Raises Failure for the name of another file."""
+    if not ("/" in name or os.path.lexists(name) or kind_of(name)):
+        return None
+    try:
+        return found(name, False)
+    except Failure:
+        if REFUSAL.fullmatch(bare(name)):
+            return None
+        raise
 
 
 def bare(line: str) -> str:

@@ -10,6 +10,7 @@ from typing import Iterator, Sequence
 from .diff.columns import CHAIN, LANDMARK, NAME, POLYGON, RANGE, TOPOLOGY
 from .errors import reason
 from .layout import FILLED, LENGTHS, NUMBERS, TYPES, Field
+from .storage import line_at
 
 REFUSAL = re.compile(r"refused (\d+) (\w+)((?: [0-9A-Za-z]+)*?)(?: in set [12])?")
 TEXTS = {each.record_type: each.columns for each in (CHAIN, LANDMARK, NAME, POLYGON, RANGE, TOPOLOGY)}
@@ -54,10 +55,10 @@ class Fault:
 
 def faults_of(refusal: str, files: Sequence[str], names: Sequence[str]) -> list[Fault]:
     """The places of a refusal in the files of a set, which are shown under these names."""
-    found = REFUSAL.fullmatch(refusal)
-    if not found:
+    words = REFUSAL.fullmatch(refusal)
+    if not words:
         return []
-    number, places = int(found[1]), found[3].split()
+    number, places = int(words[1]), words[3].split()
     try:
         if number <= 6:
             part, line, *column = map(int, places)
@@ -89,8 +90,7 @@ def unreadable(file: str, is_first: bool) -> str:
 
 def in_line(number: int, file: str, name: str, line: int, column: int = 1) -> Fault:
     """The fault in a line: of its type, its length, a byte or a field."""
-    with open(file, "rb") as opened:
-        text = next(islice(opened, line - 1, None), b"").rstrip(b"\n").removesuffix(b"\r")
+    text, length = line_at(file, line)
     kind = text[:1].decode("latin-1")
     field = next((each for each in NUMBERS.get(kind, ()) if each.first == column), None) if number > 3 else None
     if number == 1:
@@ -98,12 +98,12 @@ def in_line(number: int, file: str, name: str, line: int, column: int = 1) -> Fa
         return fault(name, line, text, 1, 1, "", "", wrong, f"one of {' '.join(TYPES)}")
     if number == 2:
         most = LENGTHS[kind]
-        return fault(name, line, text, most + 1, len(text), kind, "", f"the line has {len(text)} bytes, and may have {most}", "")
+        return fault(name, line, text, most + 1, length, kind, "", f"the line has {length:,} bytes, and may have {most}", "")
     if field is None:
         wrong = f"the byte 0x{text[column - 1]:02X} isn't allowed"
         return fault(name, line, text, column, column, kind, named(kind, column), wrong, "a blank")
     value = text[field.first - 1 : field.last].ljust(field.last - field.first + 1)
-    wrong, example = ("it is used, and a place to its left isn't", "blanks") if number == 6 else told(field, value)
+    wrong, example = ("it is used, and a place to its left isn't", "blanks") if number == 6 else wrong_in(field, value)
     return fault(name, line, text, field.first, field.last, kind, f"{field.name} ({field.holds})", wrong, example)
 
 
@@ -119,8 +119,8 @@ def named(kind: str, column: int) -> str:
     return next((shown for first, last, shown in fields if first <= column <= last), "")
 
 
-def told(field: Field, value: bytes) -> tuple[str, str]:
-    """What is wrong with a number or a coordinate, and an example of a right one."""
+def wrong_in(field: Field, value: bytes) -> tuple[str, str]:
+    """Tells what is wrong with a number or a coordinate, and an example of a right one."""
     width = field.last - field.first + 1
     example = f'"{("-086468600" if width == 10 else "+32424900") if field.is_point else str(12345)[: width - 1].rjust(width)}"'
     if not value.strip():
@@ -146,13 +146,10 @@ def in_county(number: int, places: list[str], files: Sequence[str], names: Seque
     """The lines with the numbers that a refusal of a county names."""
     kind = RECORDS.get(number) or places[0]
     polygon = number in (18, 20, 23)
-    wanted = {"POLYID": int(places[1])} if polygon else {"LAND": int(places[0])} if number == 19 else {}
-    if not wanted:
-        wanted = {"FEAT" if number == 16 else "TLID": int(places[1] if number in (12, 13) else places[0])}
+    name = "POLYID" if polygon else "LAND" if number == 19 else "FEAT" if number == 16 else "TLID"
+    value = int(places[1] if polygon or number in (12, 13) else places[0])
     office = bytes.fromhex(places[0]) if polygon else b""
-    fields = {field.name: field for field in NUMBERS[kind]}
-    ((name, value),) = wanted.items()
-    field = fields[name]
+    (field,) = (field for field in NUMBERS[kind] if field.name == name)
     for file, shown in zip(files, names):
         for line, text in lines_of(file, kind):
             digits = text[field.first - 1 : field.last].strip()

@@ -8,6 +8,8 @@ from contextlib import suppress
 from pathlib import Path
 from typing import Sequence
 
+from .storage import line_at
+
 FAULTY_LINE = re.compile(r"refused ([1-6]) \w+ (\d+) (\d+)\b.*")
 
 BEGINNINGS = (
@@ -19,30 +21,39 @@ BEGINNINGS = (
 )
 
 
+OLDER_LENGTHS = {"5": 52, "I": 52, "P": 44}
+"""The lengths of lines before 2002, of the types that had another length then."""
+
+
 def hint(line: str, files: Sequence[str | None]) -> str:
-    """What to look at after a refusal, or nothing. files are the parts of the set in their order."""
+    """Tells what to look at after a refusal, if anything. files are the parts of the set in their order."""
     if line.startswith("refused 8 "):
         for path in [Path(file) for file in files if file and not os.path.exists(file)]:
             for other in (path.stem + path.suffix.lower(), path.name.lower()):
                 if other != path.name and path.with_name(other).exists():
                     return f"there is {other}: the program reads names in capitals only"
-    found = FAULTY_LINE.match(line)
-    file = files[int(found[2]) - 1] if found and 1 <= int(found[2]) <= len(files) else None
+    place = FAULTY_LINE.match(line)
+    file = files[int(place[2]) - 1] if place and 1 <= int(place[2]) <= len(files) else None
     with suppress(OSError):
-        return bytes_hint(file, int(found[3])) if found and file else ""
+        return hint_of_bytes(file, int(place[3])) if place and file else ""
     return ""
 
 
-def bytes_hint(file: str, line: int) -> str:
-    """What the first bytes of a file, or the last ones, suggest about its faulty line."""
+def hint_of_bytes(file: str, line: int) -> str:
+    """Tells what the first bytes of a file, the last ones, or the length of its faulty line suggest."""
     with open(file, "rb") as opened:
-        start = opened.read(4)
+        start = opened.read(4096)
         opened.seek(max(0, opened.seek(0, os.SEEK_END) - 4))
         end = opened.read()
-        for beginning, text in BEGINNINGS:
-            if line == 1 and start.startswith(beginning):
-                return text
-        opened.seek(0)
-        if end.rstrip(b"\r\n").endswith(b"\x1a") and line == sum(1 for _ in opened):
-            return "the file ends with a Control-Z, the end mark of an old system: remove it"
+    for beginning, text in BEGINNINGS:
+        if line == 1 and start.startswith(beginning):
+            return text
+    if line == 1 and b"\r" in start and b"\n" not in start:
+        return "lines end in CR alone, as on an old Mac: convert them to LF or CR LF"
+    if end.rstrip(b"\r\n").endswith(b"\x1a") and not line_at(file, line + 1)[1]:
+        return "the file ends with a Control-Z, the end mark of an old system: remove it"
+    record, length = line_at(file, line)
+    kind = record[:1].decode("latin-1")
+    if OLDER_LENGTHS.get(kind) == length:
+        return f"lines of type {kind} have {length} bytes: an edition before 2002, which this program doesn't read"
     return ""

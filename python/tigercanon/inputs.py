@@ -1,17 +1,22 @@
-"""The files that a call or a command reads. None of them is written over."""
+"""The files that a call or a command reads, and files that it didn't make. None of them is written over."""
 
 from __future__ import annotations
 
 import os
+import re
 import stat
 from contextlib import suppress
 from typing import Iterable, Mapping, Optional, Union
 
-from .errors import Failure
-from .layout import kind_of
+from .errors import Failure, Unreadable
+from .layout import is_record, kind_of
+from .storage import first_line
 
 Identity = tuple[int, int]
 STREAMS = {1: "standard output", 2: "standard error"}  # those of a command
+MANIFEST = re.compile(rb"# tigercanon form .*|# --no-.*|[0-9a-fA-F]{64}  .*")  # how a manifest begins
+PAGE = re.compile(rb"(?i)(\xef\xbb\xbf)?\s*<(!doctype )?html")  # how a page begins
+MARK = b'<meta name="generator" content="tigercanon'  # what a page of these commands has at its beginning
 ON_THIS_MACHINE = ("file://", "local://")  # how URLs of fsspec begin that lead to files here
 
 
@@ -47,6 +52,35 @@ class Inputs:
             self.spare(name, name)
             if kind_of(name) or kind_of(os.path.realpath(name)):
                 raise Failure(f"{name}: can't be written: it has the name of a county's file")
+
+
+def refuse_other_files(names: Iterable[str]) -> None:
+    """Raises Failure if one of these names leads to a file that no command has made, but that may be dear to somebody."""
+    for name in names:
+        why = "it is a symbolic link" if os.path.islink(name) else what_begins(name)
+        if why:
+            raise Failure(f"{name}: can't be written: {why}; --force writes it nevertheless")
+
+
+def what_begins(name: str) -> str:
+    """What a file is by its beginning: a county, a manifest, or another page than those of these commands. Nothing for any other file."""
+    with suppress(OSError, Unreadable):
+        line = first_line(name)
+        if is_record(line):
+            return "it is a county's file"
+        if MANIFEST.fullmatch(line):
+            return "it is a manifest"
+        return "it is another page" if PAGE.match(beginning(name)) and not is_own_page(name) else ""
+    return ""
+
+
+def is_own_page(name: str) -> bool:
+    return MARK in beginning(name)
+
+
+def beginning(name: str) -> bytes:
+    with open(name, "rb") as file:
+        return file.read(1 << 16)
 
 
 def path_of(name: str) -> str:

@@ -12,6 +12,7 @@ import re
 import shutil
 import subprocess
 from dataclasses import astuple, dataclass, field, replace
+from enum import Enum
 from typing import Any, Iterable, Iterator, Mapping, Sequence
 
 from .errors import Unreadable, printable, reason
@@ -19,12 +20,13 @@ from .faults import Fault, faults_of
 from .hints import hint
 from .layout import TYPES, file_name
 from .resources import Resources, remove_stale_folders
-from .storage import fetch, is_packed, is_url, members_of, opened_zip, pieces_of, stamp, unpacked
+from .storage import NO_ROOM, fetch, is_packed, is_url, members_of, opened_zip, pieces_of, stamp, unpacked
 
 ANSWERS = {"fingerprint": re.compile(rb"[0-9a-f]{64}\n"), "check": re.compile(b"accepted\n")}
 """What the program prints for a county that it accepts."""
 NEEDED_IN_STRICT_MODE = "12I"  # types whose file may not be empty in strict mode
 LARGEST = 2 * 10**9  # the bytes that a county may have after it is unpacked, by default
+SECONDS = 600  # the seconds that a county may take, by default
 
 
 @dataclass(frozen=True)
@@ -73,14 +75,25 @@ class Order:
     largest: int = LARGEST
     memory: int | None = None
     job: str = "fingerprint"
+    seconds: int = SECONDS
+
+
+class Kind(Enum):
+    """What an answer is, and its text: the fingerprint or `accepted`; the program's line, or what strict mode rejects; what is wrong with
+    a county's files; that a county may not have fitted into memory; and why a worker can judge nothing."""
+
+    ACCEPTED = "accepted"
+    REFUSED = "refused"
+    FAILED = "failed"
+    MEMORY = "memory"
+    LOST = "lost"
 
 
 @dataclass(frozen=True)
 class Answer:
-    """The result for a county. kind is "made" (text is the fingerprint, or `accepted`), "refused" (text is the program's line, or says what strict
-    mode rejects), "failed" (text says what is wrong with its files) or "memory" (it may not have fitted into memory)."""
+    """The result for a county."""
 
-    kind: str
+    kind: Kind
     text: str
     notes: tuple[str, ...] = ()
     faults: tuple[Fault, ...] = ()
@@ -108,10 +121,23 @@ class Source:
         """The user's names of these files."""
         return [file_name(self.name, kind) for kind in TYPES] if self.is_stem else [self.name]
 
+    @property
+    def is_empty(self) -> bool:
+        """Whether there are files, and none of them has a byte."""
+        there = [os.path.getsize(file) for file in self.files if os.path.exists(file)]
+        return bool(there) and not any(there)
+
     def run(
-        self, program: str, job: str, flags: Sequence[str], resources: Resources, memory: int | None = None
+        self,
+        program: str,
+        job: str,
+        flags: Sequence[str],
+        resources: Resources,
+        memory: int | None = None,
+        seconds: int | None = None,
     ) -> subprocess.CompletedProcess[bytes]:
-        return resources.run([program, job, *["--stem"] * self.is_stem, *flags, "--", self.place], memory)
+        """Runs a command of the program on the set. Raises TimeoutExpired if it takes longer than these seconds."""
+        return resources.run([program, job, *["--stem"] * self.is_stem, *flags, "--", self.place], memory, seconds)
 
     def complaint(self, ended: subprocess.CompletedProcess[bytes]) -> list[str]:
         """The program's line, or how it ended; and a hint, if there is one."""
@@ -130,25 +156,38 @@ class Source:
 def judge(county: County, order: Order, resources: Resources) -> Answer:
     """Judges a county. Whatever goes wrong is part of the answer."""
     notes = list(county.notes)
-    try:
-        with resources.part() as part:
+    with resources.part() as part:
+        try:
             source = prepared(county, order, notes, part)
-            ended = source.run(order.program, order.job, order.flags, part, order.memory)
-            if ended.returncode == 0 and ANSWERS[order.job].fullmatch(ended.stdout):
-                return Answer("made", ended.stdout[:-1].decode(), tuple(notes))
-            line, *hints = source.complaint(ended)
-            faults = faults_of(line, source.files, source.names) if order.job == "check" else []
-    except Rejected as rejected:
-        return Answer("refused", str(rejected), tuple(notes))
-    except Unreadable as failure:
-        return Answer("failed", str(failure), county.notes)
-    except MemoryError:
-        return Answer("memory", "out of memory", tuple(notes))
-    except OSError as error:
-        return Answer("failed", f"can't be read or unpacked: {reason(error)}", tuple(notes))
+            if source.is_empty:
+                return Answer(Kind.FAILED, "it is empty, so it has no records", county.notes)
+            ended = source.run(order.program, order.job, order.flags, part, order.memory, order.seconds)
+            return answer_of(source, ended, order, notes)
+        except Rejected as rejected:
+            return Answer(Kind.REFUSED, str(rejected), tuple(notes))
+        except Unreadable as failure:
+            return Answer(Kind.FAILED, str(failure), county.notes)
+        except subprocess.TimeoutExpired:
+            return Answer(Kind.FAILED, f"it takes longer than --seconds {order.seconds}", tuple(notes))
+        except MemoryError:
+            return Answer(Kind.MEMORY, "out of memory", tuple(notes))
+        except OSError as error:
+            what = f"unpacked into {part.room}" if error.errno in NO_ROOM else "read or unpacked"
+            return Answer(Kind.FAILED, f"can't be {what}: {reason(error)}", tuple(notes))
+
+
+def answer_of(source: Source, ended: subprocess.CompletedProcess[bytes], order: Order, notes: list[str]) -> Answer:
+    """Returns the answer that the program has given."""
+    if ended.returncode == 0 and ANSWERS[order.job].fullmatch(ended.stdout):
+        return Answer(Kind.ACCEPTED, ended.stdout[:-1].decode(), tuple(notes))
+    line, *hints = source.complaint(ended)
+    faults = faults_of(line, source.files, source.names) if order.job == "check" else []
     # Signals end a program that finds no memory in one way or another; a shell between reports them as a status over 128.
-    lacks_memory = line.startswith("refused 9 ") or not 0 <= ended.returncode <= 128
-    kind = "memory" if lacks_memory else "refused" if line.startswith("refused ") else "failed"
+    is_ended = not 0 <= ended.returncode <= 128
+    if is_ended and order.memory is not None:
+        line = f"it doesn't fit into --memory {order.memory}: {line}"
+    lacks_memory = is_ended or line.startswith("refused 9 ")
+    kind = Kind.MEMORY if lacks_memory else Kind.REFUSED if line.startswith("refused ") else Kind.FAILED
     return Answer(kind, line, (*notes, *hints), tuple(faults))
 
 
@@ -272,10 +311,10 @@ def judge_on_a_worker(county: tuple[Any, ...], order: tuple[Any, ...]) -> tuple[
     program = shutil.which(named.program) or shutil.which("tigercanon")
     if program is None:
         why = f"there is no {named.program}, and no tigercanon on its PATH"
-        return "lost", f"a worker has no program: {why}", (), ()
+        return Kind.LOST.value, f"a worker has no program: {why}", (), ()
     stem, files, whole, packed, *rest = county
     singles = {kind: File(*file) for kind, file in files.items()}
     there = County(stem, singles, whole and File(*whole), packed and File(*packed), *rest)
     with Resources() as resources:
         answer = judge(there, replace(named, program=program), resources)
-    return answer.kind, answer.text, answer.notes, tuple(map(astuple, answer.faults))
+    return answer.kind.value, answer.text, answer.notes, tuple(map(astuple, answer.faults))

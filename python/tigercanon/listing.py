@@ -6,11 +6,14 @@ import argparse
 from collections import Counter
 from typing import Any, Iterator, Sequence
 
+from .diff import words
 from .editions import KINDS, History, changes, duplicates
 from .errors import Failure
-from .pages import Pages
-from .progress import Console, Progress, as_json, print_lines
+from .pages import Comparing, Counts, Pages, counts_of
+from .progress import Console, Progress, as_json, counted, print_lines
 from .resources import Resources
+
+SHOWN_KINDS = words.KINDS[:3]  # of what differs
 
 
 def list_duplicates(options: argparse.Namespace, console: Console, resources: Resources) -> int:
@@ -18,9 +21,8 @@ def list_duplicates(options: argparse.Namespace, console: Console, resources: Re
     groups = duplicates(options.manifest)
     different = [group for group in groups if group.is_different]
     of_different = f"{len(different):,} of counties with different names" if different else "none of counties with different names"
-    console.report(
-        f"{len(groups):,} groups of one map with {sum(len(group.counties) for group in groups):,} counties, {of_different}"
-    )
+    counties = counted(sum(len(group.counties) for group in groups), "county")
+    console.report(f"{counted(len(groups), 'group')} of one map with {counties}, {of_different}")
     shown = different if options.different else groups
     if options.json:
         print_lines(as_json({"fingerprint": group.fingerprint, "counties": list(group.counties)}) for group in shown)
@@ -32,8 +34,13 @@ def list_duplicates(options: argparse.Namespace, console: Console, resources: Re
 def list_changes(options: argparse.Namespace, console: Console, resources: Resources) -> int:
     resources.inputs(options.manifests)
     found = changes(*options.manifests, editions=options.edition)
-    if any((options.root, options.leaflet, options.program, options.jobs)) and not options.pages:
-        raise Failure("--root, --leaflet, --program and --jobs need --pages")
+    if any((options.root, options.program, options.jobs)) and not (options.pages or options.stat):
+        raise Failure("--root, --program and --jobs need --pages or --stat")
+    if (options.leaflet or options.force) and not options.pages:
+        raise Failure("--leaflet and --force need --pages")
+    if options.stat:
+        list_counts(found, options, console, resources)
+        return int(any(not each.is_same for each in found))
     shown = [each for each in found if not (options.quiet and each.is_same)]
     if options.json:
         print_lines(map(as_json, map(row_of, shown)))
@@ -47,13 +54,40 @@ def list_changes(options: argparse.Namespace, console: Console, resources: Resou
 
 def list_pages(found: Sequence[History], options: argparse.Namespace, console: Console, resources: Resources) -> None:
     """Writes the pages of the option --pages."""
-    pages = Pages(found, options.pages, options.manifests, resources, options.root, options.leaflet, options.program)
+    pages = Pages(found, options.pages, options.manifests, resources, options.root, options.leaflet, options.program, options.force)
     if pages.are_there:
-        console.report(f"{pages.are_there:,} of {len(pages.changes):,} pages are there already")
-    for change, why in pages.write(Progress(console), options.jobs):
+        console.report(f"pages that are there already: {pages.are_there:,} of {len(pages.changes):,}")
+    for change, why in pages.write(Progress(console, "page"), options.jobs):
         if why:
             console.report(f"{change.county}: no page: {why}")
-    console.report(f"{len(pages.changes) - len(pages.reasons):,} pages and index.html are in {options.pages}")
+    console.report(f"{counted(len(pages.changes) - len(pages.reasons), 'page')} and index.html are in {options.pages}")
+
+
+def list_counts(found: Sequence[History], options: argparse.Namespace, console: Console, resources: Resources) -> None:
+    """Prints how many things differ in each county that changed."""
+    counts = [
+        *counts_of(
+            found, Comparing(options.manifests, options.root, options.program), resources, Progress(console, "county"), options.jobs
+        )
+    ]
+    if options.json:
+        keys = [{"county": each.change.county, "editions": each.change.editions} for each in counts]
+        print_lines(as_json({**key, "counts": each.counts or None, "reason": each.why or None}) for key, each in zip(keys, counts))
+    else:
+        print_lines(table_of_counts(counts))
+    report_counts(found, console)
+
+
+def table_of_counts(counts: Sequence[Counts]) -> Iterator[str]:
+    """Yields a line for each county: how many chains and so on are only in the first map, only in the second, and changed."""
+    names = [*next((each.counts for each in counts if each.counts), {})]
+    rows = [["county", "editions", *names]]
+    for each in counts:
+        cells = ["/".join(f"{each.counts[name][kind]:,}" for kind in SHOWN_KINDS) for name in names] if each.counts else [each.why]
+        rows.append([each.change.county, " to ".join(each.change.editions), *cells])
+    widths = [max(len(row[place]) for row in rows if len(row) == len(rows[0]) or place < 2) for place in range(len(rows[0]))]
+    for row in rows if counts else []:
+        yield "  ".join(f"{cell:{width}}" for cell, width in zip(row, widths)).rstrip()
 
 
 def of_two(found: Sequence[History]) -> Iterator[str]:
@@ -71,7 +105,7 @@ def table(found: Sequence[History]) -> Iterator[str]:
     rows = [("county", found[0].editions, "")]
     for each in found:
         cells = tuple(
-            "-" if line is None else "refused" if line.refusal else str(number) for line, number in zip(each.lines, each.maps)
+            "-" if line is None else line.state if line.refusal else str(number) for line, number in zip(each.lines, each.maps)
         )
         rows.append((each.county, cells, each.verdict))
     widths = [max(map(len, column)) for column in zip(*(cells for _, cells, _ in rows))]
@@ -104,5 +138,5 @@ def report_counts(found: Sequence[History], console: Console) -> None:
     editions = found[0].editions if found else ()
     for place, edition in enumerate(editions[1:], 1):
         counts = Counter(each.step(place) for each in found)
-        told = ", ".join(f"{counts[kind]:,} {kind}" for kind in KINDS if counts[kind] or kind in KINDS[:4])
-        console.report(told if len(editions) == 2 else f"{edition}: {told}")
+        line = ", ".join(f"{counts[kind]:,} {kind}" for kind in KINDS if counts[kind] or kind in KINDS[:4])
+        console.report(line if len(editions) == 2 else f"{edition}: {line}")

@@ -20,19 +20,23 @@ from pathlib import Path
 from typing import Iterator, NamedTuple, Sequence
 
 from .errors import Failure, reason, reported
+from .counties import county_in
 from .inputs import Inputs
-from .counties import has_records
 from .layout import folded, kind_of
 from .resources import Resources, new_files
-from .storage import Entry
+from .storage import Entry, parted, tidy
 
 Flags = tuple[str, ...]
 FORM = "# tigercanon form 1"
 FLAGS = ("--no-sources", "--no-reserved")
 FLAG_SETS = ((), FLAGS[:1], FLAGS[1:], FLAGS)
+OTHER_FORM = re.compile(rb"# tigercanon form .*")
 UNPROVED = "unproved"  # comes before the flags if the program isn't proved
 LINE = re.compile(rb"([0-9a-fA-F]{64})  ([^\n]+)")
-COMMENT = re.compile(rb"# ((?:[0-9?]+ [^ \n]+)(?:, [0-9?]+ [^ \n]+)*)  (?:(refused [0-9A-Za-z ]+)  )?([^\n]+)")
+COMMENT = re.compile(rb"# ([0-9?]+ [^ \n]+(?:, [0-9?]+ [^ \n]+)*)  (?:(refused [0-9A-Za-z ]+|failed: (?:(?!  )[^\n])+)  )?([^\n]+)")
+LASTING = re.compile(r"refused (?:[1-7]|1[1-9]|2[0-9]) ")  # refusals that a county gets again as long as its files are the same
+TELLING = re.compile(r"[0-9]+ [^- ]\S*(?:, [0-9]+ [^- ]\S*)*")  # sizes and times of files that show a change on disk
+UNKNOWN = "? -"  # the size and the time of files that nothing is known of
 STARTED_LINE = re.compile(rb"[0-9a-f]{0,64}|[0-9a-f]{64} ( [^\n]*)?|#[^\n]*")
 LOCK_LINE = re.compile(rb"process [0-9]* on ")
 PATIENCE_FOR_LOCK = 0.2
@@ -58,8 +62,8 @@ HEADINGS.update({f"# {' '.join(flags)}".encode(): flags for flags in FLAG_SETS i
 
 
 class Line(NamedTuple):
-    """A county of a manifest. One that was refused has a refusal and no fingerprint. Its sources are the size and the time of each of its
-    files, if the manifest has them."""
+    """A county of a manifest. One that was refused or has failed has the refusal, or the reason after `failed: `, and no fingerprint. The
+    sources are the size and the time of each of its files, if the manifest has them."""
 
     fingerprint: str
     stem: str
@@ -70,10 +74,20 @@ class Line(NamedTuple):
         return f"{self.fingerprint}  {self.stem}"
 
     @property
+    def state(self) -> str:
+        """Whether the county was `accepted`, `refused` or has `failed`."""
+        return "accepted" if not self.refusal else "refused" if self.refusal.startswith("refused ") else "failed"
+
+    @property
+    def is_lasting(self) -> bool:
+        """Whether the county has the same answer as long as its files are the same."""
+        return not self.refusal or bool(LASTING.match(self.refusal))
+
+    @property
     def entry(self) -> str:
         """The lines of a county in a manifest. For sha256sum those that begin with # are comments."""
         if self.refusal:
-            return f"# {self.sources}  {self.refusal}  {self.stem}\n"
+            return f"# {self.sources or UNKNOWN}  {self.refusal}  {self.stem}\n"
         return f"# {self.sources}  {self.stem}\n{self}\n" if self.sources else f"{self}\n"
 
 
@@ -97,40 +111,61 @@ def parsed(name: str, is_written: bool = False) -> tuple[Flags | None, list[Line
     if whole and all(line.endswith(b"\r") for line in whole):
         whole = [line[:-1] for line in whole]
     flags = HEADINGS.get(whole[0]) if whole else None
+    if whole and flags is None and OTHER_FORM.fullmatch(whole[0]):
+        raise Failure(
+            f"{name}: its first line is {os.fsdecode(whole[0])!r}, and this version knows {FORM!r} with its own flags alone"
+        )
     counties: dict[str, Line] = {}
-    sources: dict[bytes, bytes] = {}
-    for number, line in enumerate(whole[flags is not None :], 1 + (flags is not None)):
-        found, comment = LINE.fullmatch(line), COMMENT.fullmatch(line)
-        if not found and not comment:
+    sources: dict[str, str] = {}
+    for number, text in enumerate(whole[flags is not None :], 1 + (flags is not None)):
+        line = parsed_line(text)
+        if line is None and text.startswith(b"#"):
+            raise Failure(
+                f"{name}: line {number} is a comment that fingerprint doesn't write and would lose: move it to another file"
+            )
+        if line is None:
             raise Failure(f"{name}: not a manifest: line {number} isn't a fingerprint and a name")
-        stem = os.fsdecode(found[2] if found else comment[3] if comment else b"")
-        if found and flags is None and is_other_file(stem):
-            raise Failure(f"{name}: not a manifest but a list of other hashes: line {number} is of the file {stem}")
-        if found:
-            counties.pop(stem, None)
-            counties[stem] = Line(found[1].decode().lower(), stem, sources.get(found[2], b"").decode())
-        elif comment and comment[2]:
-            counties.pop(stem, None)
-            counties[stem] = Line("", stem, comment[1].decode(), comment[2].decode())
-        elif comment:
-            sources[comment[3]] = comment[1]
+        if line.fingerprint and flags is None and is_other_file(line.stem):
+            raise Failure(f"{name}: not a manifest but a list of other hashes: line {number} is of the file {line.stem}")
+        if line.fingerprint or line.refusal:
+            counties.pop(line.stem, None)
+            counties[line.stem] = line._replace(sources=line.sources or sources.get(line.stem, ""))
+        else:
+            sources[line.stem] = line.sources
     if not STARTED_LINE.fullmatch(rest) and not any(each.startswith(rest) for each in HEADINGS):
         raise Failure(f"{name}: not a manifest: its last line isn't a fingerprint and a name")
     return (flags or ()) if whole else None, [*counties.values()], rest
+
+
+def parsed_line(text: bytes) -> Line | None:
+    """A line of a manifest: a county, or a comment with the sources of one. Nothing for any other line."""
+    line, comment = LINE.fullmatch(text), COMMENT.fullmatch(text)
+    if line:
+        return Line(line[1].decode().lower(), os.fsdecode(line[2]))
+    return Line("", os.fsdecode(comment[3]), comment[1].decode(), os.fsdecode(comment[2] or b"")) if comment else None
+
+
+def names_in(name: str) -> set[str]:
+    """The names of the counties that a manifest lists, folded; none if it can't be read as one."""
+    with suppress(Failure):
+        return {folded(tidy(line.stem)) for line in parsed(name, is_written=True)[1]} if os.path.isfile(name) else set()
+    return set()
 
 
 def is_other_file(stem: str) -> bool:
     """Whether a name belongs to a file whose hash isn't a fingerprint: one of a county's nine, a zip, or one without records."""
     if kind_of(stem):
         return True
-    return os.path.isfile(stem) and not has_records(stem, Entry(os.path.basename(stem), False, None))
+    folder, base = parted(stem)
+    return os.path.isfile(stem) and county_in(folder, Entry(base, False, None)) is None
 
 
 def loaded(name: str) -> tuple[Flags | None, list[Line]]:
     """The flags and the counties of a whole manifest, with at least one county. Those that were refused are among them. Raises Failure."""
     flags, lines, rest = parsed(name)
     if rest:
-        raise Failure(f"{name}: its last line is cut off; let the run that writes it finish first")
+        why = "let the run that writes it finish first, or add the line ending if the line is whole"
+        raise Failure(f"{name}: its last line has no line ending, so it may be cut off: {why}")
     if not lines:
         raise Failure(f"{name}: the manifest is empty")
     return flags, lines
@@ -141,10 +176,10 @@ def named(flags: Flags | None) -> str:
     return f"an unproved program and {words}" if UNPROVED in (flags or ()) else words
 
 
-def agreed(name: str, made: Flags | None, asked: Flags) -> None:
-    """Raises Failure if a manifest was made with other flags."""
-    if made is not None and made != asked:
-        raise Failure(f"{name}: made with {named(made)}, but this run has {named(asked)}")
+def agreed(name: str, flags: Flags | None, others: Flags) -> None:
+    """Raises Failure if a manifest was made with other flags than these."""
+    if flags is not None and flags != others:
+        raise Failure(f"{name}: made with {named(flags)}, but this run has {named(others)}")
 
 
 class Manifest:
@@ -154,9 +189,10 @@ class Manifest:
         self.name, self.flags, self.inputs, self.resources = name, flags, inputs, resources
         self.place = os.path.realpath(name)
         self.lines: list[Line] = []
+        self.is_shorter = False
         if os.path.lexists(self.place):
-            made, self.lines, _ = parsed(name, is_written=True)
-            agreed(name, made, flags)
+            before, self.lines, _ = parsed(name, is_written=True)
+            agreed(name, before, flags)
             with reported(name):
                 open(self.place, "ab").close()
             self.put_in_order()
@@ -175,12 +211,17 @@ class Manifest:
                 raise
             self.lines.append(line)
 
+    def drop(self, stem: str) -> None:
+        """Takes a county out: its lines go when the manifest is put in order."""
+        self.lines = [line for line in self.lines if folded(line.stem) != folded(stem)]
+        self.is_shorter = True
+
     def put_in_order(self) -> None:
         """Puts the counties in order by a copy, which takes the manifest's place once it is whole. Of a county the last line stays."""
-        if self.lines:
+        if self.lines or self.is_shorter:
             self.lines = [*{folded(line.stem): line for line in self.lines}.values()]
             self.lines.sort(key=lambda line: (os.fsencode(line.stem), line.fingerprint))
-            with new_files([self.name], self.inputs, self.resources) as files:
+            with new_files([self.name], self.inputs, self.resources, is_forced=True) as files:
                 files[self.name].write(os.fsencode("".join([f"{heading(self.flags)}\n", *(line.entry for line in self.lines)])))
 
 

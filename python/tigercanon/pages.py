@@ -18,6 +18,7 @@ from .diff.page import ASSETS, find_leaflet
 from .diff.words import SUBJECTS
 from .editions import History
 from .errors import printable, reported
+from .inputs import is_own_page, refuse_other_files, what_begins
 from .manifests import Line, loaded, without_mark
 from .program import find_program
 from .progress import Tally
@@ -26,6 +27,7 @@ from .storage import joined
 
 START = "import sys; sys.path[0] = sys.argv.pop(1); from tigercanon.__main__ import main; sys.exit(main())"
 PACKAGES = str(Path(__file__).resolve().parent.parent)
+NOT_THE_MAP = "on disk it isn't the map of the manifest any more"
 COUNTS = re.compile(r'"counts":(\{[^}]*\})')
 HEAD = """\
 <!DOCTYPE html>
@@ -34,6 +36,7 @@ HEAD = """\
 <meta charset="utf-8">
 <meta http-equiv="Content-Security-Policy" content="default-src 'none'; style-src 'unsafe-inline'">
 <meta name="viewport" content="width=device-width, initial-scale=1">
+<meta name="generator" content="tigercanon-tools changes">
 <title>Counties that changed</title>
 <style>
 body { font: 1rem/1.5 system-ui, sans-serif; margin: 2rem auto; max-width: 70rem; padding: 0 1rem; color: #1d2733; }
@@ -82,6 +85,58 @@ def counts_in(page: Path, change: Change) -> dict[str, list[int]] | None:
     return None
 
 
+class Comparing:
+    """The command diff over the counties of changes, each by a process of its own."""
+
+    def __init__(self, manifests: Sequence[str], root: str | None = None, program: str | None = None) -> None:
+        self.root, self.program = root, find_program(program)
+        self.flags = without_mark(loaded(manifests[0])[0])
+
+    def names_of(self, change: Change) -> list[str]:
+        """Returns the names of a county in both editions."""
+        return [joined(self.root, line.stem) if self.root else line.stem for line in (change.old, change.new)]
+
+    def run(self, change: Change, words: Sequence[str], resources: Resources) -> tuple[bytes, str]:
+        """Returns what diff prints, and why it has failed if it has."""
+        words = ["diff", *words, "--program", self.program, *self.flags, "--", *self.names_of(change)]
+        ended = resources.run([sys.executable, "-B", "-c", START, PACKAGES, *words])
+        lines = ended.stderr.decode(errors="replace").strip().splitlines()
+        if ended.returncode in (0, 1):
+            return ended.stdout, ""
+        return b"", printable(lines[-1].partition(": ")[2]) if lines else f"the command diff ended with status {ended.returncode}"
+
+
+class Counts(NamedTuple):
+    """How many things differ in a change, by their kinds; or why that isn't known."""
+
+    change: Change
+    counts: dict[str, dict[str, int]]
+    why: str = ""
+
+
+def counts_of(
+    found: Sequence[History], comparing: Comparing, resources: Resources, tally: Tally, jobs: int | None = None
+) -> Iterator[Counts]:
+    """Counts what differs in each change, several at a time."""
+
+    def counted(change: Change) -> Counts:
+        text, why = comparing.run(change, ["--summary", "--json"], resources)
+        answer = json.loads(text) if text else {}
+        shown = [answer.get(name, {}).get("fingerprint") for name in ("first", "second")]
+        if text and shown != [change.old.fingerprint, change.new.fingerprint]:
+            why = NOT_THE_MAP
+        return Counts(change, {} if why else answer["counts"], why)
+
+    changes = [*changed(found)]
+    tally.start(len(changes), 0)
+    with ThreadPoolExecutor(jobs or len(os.sched_getaffinity(0))) as threads:
+        for counts in threads.map(counted, changes):
+            yield counts
+            tally.end(0)
+            tally.look()
+    tally.close()
+
+
 class Pages:
     """The pages of all changes in a folder, and the index of them. Pages that are there already stay, so a run that was stopped is
     continued by the next one."""
@@ -95,17 +150,24 @@ class Pages:
         root: str | None = None,
         leaflet: str | None = None,
         program: str | None = None,
+        is_forced: bool = False,
     ) -> None:
         """Raises Failure if a page can't be written, before one is."""
-        self.folder, self.changes, self.resources, self.root = Path(folder), [*changed(found)], resources, root
+        self.folder, self.changes, self.resources = Path(folder), [*changed(found)], resources
+        self.comparing = Comparing(manifests, root, program)
         self.index, assets = str(self.folder / "index.html"), find_leaflet(leaflet)
-        self.words = ["--program", find_program(program), *without_mark(loaded(manifests[0])[0])]
-        self.words += ["--leaflet", leaflet] if leaflet else []
+        self.words = ["--leaflet", leaflet] if leaflet else []
         finder = Finder()
-        counties = [finder.of_name(name) for change in self.changes for name in self.names_of(change)]
+        counties = [finder.of_name(name) for change in self.changes for name in self.comparing.names_of(change)]
         read = [file.place for county in counties for file in county.places]
-        self.inputs = resources.inputs([*manifests, *read, self.words[1], *assets.files, *ASSETS])
-        self.inputs.spare_all([self.index, *(str(self.folder / change.page) for change in self.changes)])
+        self.inputs = resources.inputs([*manifests, *read, self.comparing.program, *assets.files, *ASSETS])
+        names = [self.index, *(str(self.folder / change.page) for change in self.changes)]
+        self.inputs.spare_all(names)
+        self.is_forced = is_forced
+        if is_forced:
+            self.words.append("--force")
+        else:
+            refuse_other_files(names)
         with reported(folder):
             self.folder.mkdir(parents=True, exist_ok=True)
         self.left = [change for change in self.changes if counts_in(self.folder / change.page, change) is None]
@@ -115,10 +177,6 @@ class Pages:
     def are_there(self) -> int:
         """How many pages are there already."""
         return len(self.changes) - len(self.left)
-
-    def names_of(self, change: Change) -> list[str]:
-        """The names of a county in both editions."""
-        return [joined(self.root, line.stem) if self.root else line.stem for line in (change.old, change.new)]
 
     def write(self, tally: Tally, jobs: int | None = None) -> Iterator[tuple[Change, str]]:
         """Writes the pages that aren't there, several at a time, and then the index. Yields each change, and why it has no page if it
@@ -132,18 +190,18 @@ class Pages:
                 tally.end(0)
                 tally.look()
         tally.close()
-        with new_files([self.index], self.inputs, self.resources) as files:
+        with new_files([self.index], self.inputs, self.resources, self.is_forced) as files:
             files[self.index].write("".join(index(self.folder, self.changes, self.reasons)).encode())
 
     def write_one(self, resources: Resources, change: Change) -> str:
         """Writes a page by a process of its own, and returns why there is none."""
         page = self.folder / change.page
-        words = ["diff", "--summary", "--page", str(page), *self.words, "--", *self.names_of(change)]
-        ended = resources.run([sys.executable, "-B", "-c", START, PACKAGES, *words])
-        told = ended.stderr.decode(errors="replace").strip().splitlines()
-        if ended.returncode not in (0, 1):
-            return printable(told[-1].partition(": ")[2]) if told else f"the command diff ended with status {ended.returncode}"
-        return "" if counts_in(page, change) else "on disk it isn't the map of the manifest any more"
+        _, why = self.comparing.run(change, ["--summary", "--page", str(page), *self.words], resources)
+        if not why and counts_in(page, change):
+            return ""
+        if not what_begins(str(page)):
+            page.unlink(missing_ok=True)  # it doesn't show these maps
+        return why or NOT_THE_MAP
 
 
 def index(folder: Path, changes: Sequence[Change], reasons: dict[str, str]) -> Iterator[str]:
@@ -163,4 +221,14 @@ def index(folder: Path, changes: Sequence[Change], reasons: dict[str, str]) -> I
         name = html.escape(printable(change.county))
         link = f'<a href="{html.escape(quote(os.fsencode(change.page)))}">{name}</a>' if counts else name
         yield f"<tr><td>{link}</td><td>{html.escape(' to '.join(change.editions))}</td>{cells}</tr>\n"
-    yield "</tbody>\n</table>\n</body>\n</html>\n"
+    yield "</tbody>\n</table>\n"
+    others = [f'<a href="{html.escape(quote(name))}">{html.escape(name)}</a>' for name in other_pages(folder, changes)]
+    if others:
+        yield f"<p>Of other manifests: {', '.join(others)}</p>\n"
+    yield "</body>\n</html>\n"
+
+
+def other_pages(folder: Path, changes: Sequence[Change]) -> list[str]:
+    """The names of pages in a folder that an earlier run has written for other changes."""
+    names = {page.name for page in folder.glob("*.html") if page.is_file() and is_own_page(str(page))}
+    return sorted(names - {"index.html", *(change.page for change in changes)})

@@ -14,14 +14,15 @@ from .errors import Failure, reason
 VARIABLE = "TIGERCANON"
 PACKAGE = Path(__file__).resolve().parent
 ADVICE = "./tigercanon --prove builds it, and --program names another one"
+PAGE = "the page tigercanon.html judges counties in any browser"
 # Settings that make the program faster, unless the user has others: its memory is in large pages, and it keeps memory that it frees.
 TUNABLES = "glibc.malloc.hugetlb=1:glibc.malloc.mmap_threshold=8589934592:glibc.malloc.trim_threshold=17179869184"
 
 
-def find_program(named: str | None = None) -> str:
+def find_program(named: str | os.PathLike[str] | None = None) -> str:
     """The program that the option or the variable names, else that of the clone or release, else the one beside this package or on the
     PATH. In a clone it is the one that ./tigercanon runs. The current folder isn't searched. Raises Failure if there is none."""
-    given, root = named or os.environ.get(VARIABLE), PACKAGE.parent.parent
+    given, root = os.fspath(named) if named else os.environ.get(VARIABLE), PACKAGE.parent.parent
     if given:
         return checked(given)
     if (root / "scripts/find-made").is_file():
@@ -70,9 +71,9 @@ def run_once(path: str) -> None:
     try:
         ended = subprocess.run(words, stdin=subprocess.DEVNULL, stdout=subprocess.DEVNULL)
     except OSError as error:
-        raise Failure(f"the program {path} can't be run: {reason(error)}") from None
+        raise Failure(f"the program {path} can't be run: {reason(error)}; {PAGE}") from None
     if ended.returncode != 0:
-        raise Failure(f"the program {path} can't be run: it ended with status {ended.returncode}")
+        raise Failure(f"the program {path} can't be run: it ended with status {ended.returncode}; {PAGE}")
 
 
 def is_unproved(path: str) -> bool:

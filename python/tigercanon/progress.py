@@ -8,8 +8,8 @@ import sys
 import threading
 import time
 from collections import Counter
-from contextlib import suppress
-from typing import Any, Iterable
+from contextlib import contextmanager, suppress
+from typing import Any, Iterable, Iterator
 
 from .errors import Failure, printable, reason
 
@@ -56,18 +56,30 @@ def duration(seconds: float) -> str:
     return f"{whole // 60} min {whole % 60} s" if whole >= 60 else f"{whole} s"
 
 
+def plural(noun: str) -> str:
+    return f"{noun[:-1]}ies" if noun.endswith("y") else f"{noun}s"
+
+
+def counted(count: int, noun: str) -> str:
+    """Writes a number of things, with their noun in the singular or the plural."""
+    return f"{count:,} {noun if count == 1 else plural(noun)}"
+
+
 class Tally:
-    """The counties that are judged, and the results so far. A call from Python doesn't show them."""
+    """The counties that are judged, and the results so far: doubles are files with the map of another file of their county. A call from
+    Python doesn't show them."""
+
+    noun = "county"
 
     def __init__(self) -> None:
-        self.counties = self.ended = self.bytes = self.bytes_in_all = self.failed = 0
+        self.counties = self.ended = self.bytes = self.bytes_in_all = self.failed = self.doubles = 0
         self.refused: Counter[str] = Counter()
         self.started = time.monotonic()
 
     @property
-    def made(self) -> int:
+    def accepted(self) -> int:
         """How many were neither refused nor failed."""
-        return self.ended - sum(self.refused.values()) - self.failed
+        return self.ended - sum(self.refused.values()) - self.failed - self.doubles
 
     def start(self, counties: int, bytes_in_all: int) -> None:
         """All counties are found."""
@@ -92,15 +104,27 @@ class Console:
         self.lock = threading.Lock()  # keeps lines whole: it is held while one is printed
         self.progress: Progress | None = None
 
+    @contextmanager
+    def above_the_bar(self) -> Iterator[None]:
+        """Takes the progress bar away, if there is one, while something is printed."""
+        with self.lock:
+            bar = self.progress.bar if self.progress else None
+            if bar is not None:
+                bar.clear()
+            yield
+            if bar is not None:
+                bar.refresh()
+
     def report(self, text: str) -> None:
-        """Reports a line, above the progress bar if there is one. If it can't be written, it is dropped."""
-        line = f"tigercanon-tools: {printable(text)}"
-        with self.lock, suppress(OSError, ValueError, AttributeError):
-            if self.progress and self.progress.bar is not None:
-                self.progress.bar.write(line, file=sys.stderr)
-            else:
-                sys.stderr.write(f"{line}\n")
-                sys.stderr.flush()
+        """Reports a line on standard error. If it can't be written, it is dropped."""
+        with self.above_the_bar(), suppress(OSError, ValueError, AttributeError):
+            sys.stderr.write(f"tigercanon-tools: {printable(text)}\n")
+            sys.stderr.flush()
+
+    def print_lines(self, lines: Iterable[str]) -> None:
+        """Prints lines on standard output. Raises what print_lines raises."""
+        with self.above_the_bar():
+            print_lines(lines)
 
 
 class Progress(Tally):
@@ -108,9 +132,9 @@ class Progress(Tally):
 
     bar: Any = None
 
-    def __init__(self, console: Console) -> None:
+    def __init__(self, console: Console, noun: str = "county") -> None:
         super().__init__()
-        self.console, self.reported_at = console, self.started
+        self.console, self.noun, self.reported_at = console, noun, self.started
         console.progress = self
 
     def start(self, counties: int, bytes_in_all: int) -> None:
@@ -119,7 +143,7 @@ class Progress(Tally):
             if counties and sys.stderr.isatty():
                 from tqdm import tqdm
 
-                self.bar = tqdm(total=counties, unit=" counties", file=sys.stderr, leave=False, dynamic_ncols=True)
+                self.bar = tqdm(total=counties, unit=f" {plural(self.noun)}", file=sys.stderr, leave=False, dynamic_ncols=True)
 
     def end(self, size: int) -> None:
         super().end(size)
@@ -152,7 +176,7 @@ class Progress(Tally):
 
     @property
     def how_far(self) -> str:
-        return f"{self.ended:,} of {self.counties:,} counties"
+        return f"{self.ended:,} of {counted(self.counties, self.noun)}"
 
     @property
     def took(self) -> str:

@@ -16,7 +16,7 @@ from pathlib import Path
 from typing import BinaryIO, ContextManager, Iterable, Iterator, Protocol, Sequence, TypeVar
 
 from .errors import Failure, reported
-from .inputs import STREAMS, Inputs
+from .inputs import STREAMS, Inputs, refuse_other_files
 from .layout import TYPES, file_name
 from .program import TUNABLES
 
@@ -45,6 +45,7 @@ class Resources:
         if whole:
             self.lock = whole.lock
         self.contexts, self.is_closed = ExitStack(), False
+        self.room = ""  # where the last temporary folder is
         self.parts: list[Resources] = []
 
     def part(self) -> Resources:
@@ -88,13 +89,16 @@ class Resources:
         self.lock.acquire(timeout=PATIENCE)
         self.close()
 
-    def run(self, words: Sequence[str], memory: int | None = None) -> subprocess.CompletedProcess[bytes]:
-        """Runs the program in a session of its own, so that all of it can be ended. memory limits its address space."""
+    def run(
+        self, words: Sequence[str], memory: int | None = None, seconds: int | None = None
+    ) -> subprocess.CompletedProcess[bytes]:
+        """Runs the program in a session of its own, so that all of it can be ended. memory limits its address space. Raises TimeoutExpired
+        if it takes longer than these seconds."""
         if memory is not None:
             words = ["/bin/sh", "-c", f'ulimit -v {memory // 1024} && exec "$@"', "sh", *words]
         with self.part() as part:
             child = part.keep(started(words))
-            out, err = child.communicate()
+            out, err = child.communicate(timeout=seconds)
         return subprocess.CompletedProcess(words, child.returncode, out, err)
 
     def place(self, size: int) -> str:
@@ -102,7 +106,8 @@ class Resources:
         room, fits = os.environ.get(VARIABLE, IN_MEMORY), False
         with suppress(OSError):
             fits = bool(room) and shutil.disk_usage(room).free >= size + SPARE
-        return f"{self.keep(temporary_folder(room if fits else None))}/{COUNTY}"
+        self.room = room if fits else tempfile.gettempdir()
+        return f"{self.keep(temporary_folder(self.room))}/{COUNTY}"
 
     def inputs(self, names: Iterable[str]) -> Inputs:
         """Files that are read. Raises Failure if a command prints to one of them."""
@@ -121,7 +126,7 @@ def started(words: Sequence[str]) -> Iterator[subprocess.Popen[bytes]]:
 
 
 @contextmanager
-def temporary_folder(room: str | None) -> Iterator[str]:
+def temporary_folder(room: str) -> Iterator[str]:
     """A folder that this run holds, and removes."""
     folder = tempfile.mkdtemp(SUFFIX, PREFIX, room)
     try:
@@ -195,8 +200,10 @@ class NewFile:
 
     file: BinaryIO
 
-    def __init__(self, name: str, inputs: Inputs) -> None:
+    def __init__(self, name: str, inputs: Inputs, is_forced: bool) -> None:
         inputs.spare_all([name])
+        if not is_forced:
+            refuse_other_files([name])
         self.name, self.place, self.inputs = name, os.path.realpath(name), inputs
         folder, base = os.path.split(self.place)
         self.path = os.path.join(folder, f".{base[:200]}.{os.getpid()}.part")
@@ -239,12 +246,12 @@ class NewFile:
 
 
 @contextmanager
-def new_files(names: Iterable[str], inputs: Inputs, resources: Resources) -> Iterator[dict[str, NewFile]]:
+def new_files(names: Iterable[str], inputs: Inputs, resources: Resources, is_forced: bool = False) -> Iterator[dict[str, NewFile]]:
     """Files to be written, by their names, which take the places of these names when all are whole, and have the modes of the files
     before them. If anything goes wrong, a signal for example, there are none of them, and what had these names is as it was. Raises
-    Failure if one of them is an input."""
+    Failure if one of them is an input, or, unless it is forced, another file than these commands write."""
     with resources.part() as part:
-        files = {name: part.keep(NewFile(name, inputs)) for name in names}
+        files = {name: part.keep(NewFile(name, inputs, is_forced)) for name in names}
         yield files
         for file in files.values():
             file.finish()

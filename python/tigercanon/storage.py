@@ -6,13 +6,14 @@ import errno
 import gzip
 import io
 import os
+import re
 import time
 import zipfile
 import zlib
 from contextlib import suppress
 from dataclasses import dataclass
 from datetime import datetime, timezone
-from typing import Any, Iterator
+from typing import Any, BinaryIO, Iterator
 
 from .errors import Failure, Unreadable, reason
 from .layout import TYPES, is_record, kind_of, stem_of
@@ -24,6 +25,8 @@ LONGEST_END = 65557
 PIECE = 1 << 20
 GZIP = b"\x1f\x8b"
 LONGEST_LINE = 240
+MOST_OF_A_LINE = 400
+LEFT_BY_A_MAC = re.compile(r"(?:.*/)?(?:__MACOSX/|\._|\.DS_Store$)")  # members of a zip
 
 
 @dataclass(frozen=True)
@@ -98,17 +101,51 @@ def stamp(path: str) -> str:
 
 
 def first_line(path: str) -> bytes:
-    """The first line of a file, which may be packed by gzip: at most 240 bytes of it. Raises OSError, or what fsspec raises."""
+    """The first line of a file, which may be packed by gzip: at most 240 bytes of it. Raises OSError, what fsspec raises, and Unreadable
+    if the file can't be unpacked."""
     if is_url(path):
         system, inner = system_of(path)
         head = bytes(system.cat_file(inner, 0, PIECE >> 4))
     else:
         with open(path, "rb") as file:
             head = file.read(PIECE >> 4)
-    if head.startswith(GZIP):
-        with suppress(EOFError), gzip.open(io.BytesIO(head)) as packed:
-            head = packed.read(LONGEST_LINE)
-    return head[:LONGEST_LINE].partition(b"\n")[0].rstrip(b"\r")
+    is_packed = head.startswith(GZIP)
+    if is_packed:
+        head = beginning_of(unpacked(io.BytesIO(head), LONGEST_LINE))
+    line = head[:LONGEST_LINE].partition(b"\n")[0].rstrip(b"\r")
+    if path.lower().endswith(".gz") and not is_packed and not is_record(line):
+        raise Unreadable("can't be unpacked: it isn't a file of gzip, as its name says")
+    return line
+
+
+def beginning_of(pieces: Iterator[bytes]) -> bytes:
+    """Joins the first pieces until they have a line."""
+    head = b""
+    while len(head) < LONGEST_LINE and b"\n" not in head and (piece := next(pieces, b"")):
+        head += piece
+    return head
+
+
+def line_at(path: str, number: int) -> tuple[bytes, int]:
+    """The beginning of a line of a file without its line ending, at most some hundred bytes of it, and how many bytes it has. Nothing is
+    kept of the lines before, which may be very long."""
+    with open(path, "rb") as file:
+        while number > 1 and (piece := file.readline(PIECE)):
+            number -= piece.endswith(b"\n")
+        line = file.readline(MOST_OF_A_LINE) if number == 1 else b""
+        rest = 0 if line.endswith(b"\n") else length_of_line(file)
+    text = line if rest else line.rstrip(b"\n").removesuffix(b"\r")
+    return text, len(text) + rest
+
+
+def length_of_line(file: BinaryIO) -> int:
+    """How many bytes a line has from here, without its line ending."""
+    count, last = 0, b""
+    while piece := file.readline(PIECE):
+        count, last = count + len(piece), last[-1:] + piece[-2:]
+        if piece.endswith(b"\n"):
+            break
+    return count - (2 if last.endswith(b"\r\n") else last.endswith(b"\n"))
 
 
 def local_entry(item: os.DirEntry[str]) -> Entry:
@@ -178,24 +215,25 @@ def members_of(archive: zipfile.ZipFile) -> dict[str, zipfile.ZipInfo]:
     """The files of the one county in a zip by their types, in either case of their names; or the one file with all records, by no type.
     Raises Unreadable."""
     counties: dict[str, dict[str, list[zipfile.ZipInfo]]] = {}
-    for member in archive.infolist():
+    members = [member for member in archive.infolist() if not LEFT_BY_A_MAC.match(member.filename)]
+    for member in members:
         kind = kind_of(member.filename)
         if kind in [*TYPES]:
             counties.setdefault(stem_of(member.filename).upper(), {}).setdefault(kind, []).append(member)
     if not counties:
-        counties = {member.filename: {"": [member]} for member in archive.infolist() if begins_with_a_record(archive, member)}
+        counties = {member.filename: {"": [member]} for member in members if begins_with_a_record(archive, member)}
     if not counties:
         raise Unreadable("the zip has no county in it")
     if len(counties) > 1:
         names = ", ".join(sorted(ascii(name)[1:-1] for name in counties)[:3])
         raise Unreadable(f"the zip has {len(counties)} counties in it: {names}")
-    members = counties.popitem()[1]
-    for kind, found in members.items():
+    county = counties.popitem()[1]
+    for kind, found in county.items():
         if len(found) > 1:
             raise Unreadable(f"the zip has {len(found)} files .RT{kind}")
         if found[0].flag_bits & 1:
             raise Unreadable("the zip is locked with a password")
-    return {kind: members[kind][0] for kind in ["", *TYPES] if kind in members}
+    return {kind: county[kind][0] for kind in ["", *TYPES] if kind in county}
 
 
 def begins_with_a_record(archive: zipfile.ZipFile, member: zipfile.ZipInfo) -> bool:
@@ -226,11 +264,11 @@ def pieces_of(archive: zipfile.ZipFile, member: zipfile.ZipInfo) -> Iterator[byt
         raise Unreadable(f"the zip is broken at {name}")
 
 
-def unpacked(path: str) -> Iterator[bytes]:
-    """The bytes of a file that gzip packed. Raises Unreadable if they can't be unpacked."""
+def unpacked(source: str | io.BytesIO, most: int = PIECE) -> Iterator[bytes]:
+    """The bytes of a file that gzip packed, in pieces of at most this many. Raises Unreadable if they can't be unpacked."""
     try:
-        with gzip.open(path) as source:
-            while piece := source.read(PIECE):
+        with gzip.open(source) as packed:
+            while piece := packed.read1(most):
                 yield piece
     except (MemoryError, GeneratorExit):
         raise
@@ -241,3 +279,11 @@ def unpacked(path: str) -> Iterator[bytes]:
 def is_packed(path: str) -> bool:
     with open(path, "rb") as file:
         return file.read(2) == GZIP
+
+
+def is_absent(error: Exception) -> bool:
+    """Whether an error says that a file or folder isn't there. fsspec says so too if a server doesn't answer: then the error has another
+    cause."""
+    cause = error.__cause__
+    is_answer = cause is None or isinstance(cause, FileNotFoundError) or getattr(cause, "status", None) in (404, 410)
+    return isinstance(error, FileNotFoundError) and is_answer

@@ -76,8 +76,8 @@ def table_of(name: str, county: County, program: str, resources: Resources) -> T
     return Table(rows_of(own, canonical), notes)
 
 
-def chains(county: str | os.PathLike[str], *, program: str | None = None) -> Iterator[ChainRow]:
-    """The chains of a county, in the order of its file: a zip, a file with all records, or the stem of the nine. Raises Failure."""
+def chains(county: str | os.PathLike[str], *, program: str | os.PathLike[str] | None = None) -> Iterator[ChainRow]:
+    """Yields the chains of a county, in the order of its file: a zip, a file with all records, or the stem of the nine. Raises Failure."""
     name = os.fspath(county)
     with Resources() as resources:
         yield from table_of(name, found(name, False), find_program(program), resources).rows
@@ -126,7 +126,7 @@ def run(options: argparse.Namespace, console: Console, resources: Resources) -> 
     outputs = [options.output] if options.output and options.output not in STANDARD_OUTPUT else []
     county, program = found(options.county, False), find_program(options.program)
     inputs, kept = resources.inputs([*(file.place for file in county.places), program]), Kept()
-    with new_files(outputs, inputs, resources) as files:
+    with new_files(outputs, inputs, resources, options.force) as files:
         table = table_of(options.county, county, program, resources)
         if table.notes:
             console.report(f"{printable(options.county)}: {'; '.join(table.notes)}")

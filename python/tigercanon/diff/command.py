@@ -61,9 +61,8 @@ def add_arguments(parser: argparse.ArgumentParser) -> None:
     add("first", metavar="FIRST", help="the first set")
     add("second", metavar="SECOND", help="the second set")
     add("--stem", action="store_true", help="use FIRST and SECOND as the beginnings of names, even if such files exist")
-    printed = parser.add_mutually_exclusive_group()
-    printed.add_argument("--summary", action="store_true", help="print only how many of each kind differ")
-    printed.add_argument("--json", action="store_true", help="print the differences as JSON")
+    add("--summary", action="store_true", help="print only how many of each kind differ")
+    add("--json", action="store_true", help="print the differences as JSON, or with --summary how many there are")
     about = "write a page with a map of the differences, which needs no network; - is standard output, without the report"
     add("--page", metavar="FILE", help=about)
     add("--geojson", metavar="FILE", help="write the differences as GeoJSON, for any GIS; - is standard output, without the report")
@@ -99,7 +98,7 @@ def reported_difference(options: argparse.Namespace, outputs: list[str], console
         counties = [found(name, options.stem) for name in names]
         read = [file.place for county in counties for file in county.places]
         inputs = resources.inputs([*read, program, *(leaflet.files if leaflet else ()), *ASSETS])
-        with new_files(outputs, inputs, resources) as files:
+        with new_files(outputs, inputs, resources, options.force) as files:
             page, geojson = (files.get(name, kept) if name else None for name in (options.page, options.geojson))
             with_numbers = bool(page or geojson or options.json or not options.summary)
             differing = found_between(counties, names, program, flags_of(options), resources, steps.at, with_numbers)
@@ -115,11 +114,11 @@ def reported_difference(options: argparse.Namespace, outputs: list[str], console
         print_bytes(b"".join(kept.pieces))
     else:
         sets, comparison = differing.sets, differing.comparison
-        print_lines([as_json(comparison, sets)] if options.json else told(comparison, sets, options.summary))
+        print_lines([as_json(comparison, sets, options.summary)] if options.json else told(comparison, sets, options.summary))
     return int(not differing.sets.are_one_map)
 
 
-def as_json(comparison: Comparison, sets: Sets) -> str:
+def as_json(comparison: Comparison, sets: Sets, is_summary: bool) -> str:
     counts = {f"{subject}s": dict(zip(KINDS, part.counts)) for subject, part in zip(SUBJECTS, comparison.parts)}
-    differences = [properties for _, properties in features(comparison)]
-    return json.dumps({**head(comparison, sets), "counts": counts, "differences": differences}, ensure_ascii=False, indent=1)
+    differences = {} if is_summary else {"differences": [properties for _, properties in features(comparison)]}
+    return json.dumps({**head(comparison, sets), "counts": counts, **differences}, ensure_ascii=False, indent=1)
