@@ -124,11 +124,11 @@ def by_type(text: bytes) -> dict[str, bytes]:
 
 
 def files_of(root: Path) -> set[str]:
-    """The files of a repository, without links; without git all that are there."""
+    """The files of a repository; without git all that are there."""
     done = run(["git", "ls-files", "--cached", "--others", "--exclude-standard"], cwd=root)
     if done.status == 0:
-        return {name for name in done.out.decode().splitlines() if not (root / name).is_symlink()}
-    return {str(path.relative_to(root)) for path in root.rglob("*") if path.is_file() and not path.is_symlink()}
+        return set(done.out.decode().splitlines())
+    return {str(path.relative_to(root)) for path in root.rglob("*") if path.is_file()}
 
 
 def usual_program() -> str:

@@ -118,8 +118,8 @@ prove_program() {
     make_stage || stop "$root/out can't be written"
     jobs="$(jobs_that_fit)"
     say "every crate is proved, and the program is built: about half an hour on four processors"
-    CDPATH="" cd -- "$root" && attend setsid rt all check --jobs "${jobs:-1}" >&2 &&
-        cd crates/tigercanon_main && attend setsid rt run -- respell /dev/null >&2 || stop "the program isn't proved"
+    CDPATH="" cd -- "$root/crates" && attend setsid rt all check --jobs "${jobs:-1}" >&2 &&
+        cd tigercanon_main && attend setsid rt run -- respell /dev/null >&2 || stop "the program isn't proved"
     built="$root/crates/tigercanon_main/out/tigercanon_main"
     cp -- "$built" "$stage/tigercanon" && cp -- "$built.o" "$stage/tigercanon.o" || stop "$root/out can't be written"
     [ "$(hash_of_sources)" = "$sources" ] || stop "a source was edited meanwhile, so the program isn't that of the sources as they are"
