@@ -4,6 +4,8 @@ from __future__ import annotations
 
 import random
 import re
+import signal
+import subprocess
 from collections import Counter
 from pathlib import Path
 from typing import Callable, Iterable
@@ -11,7 +13,7 @@ from typing import Callable, Iterable
 import pytest
 from dev.maps import Chain, County
 from dev.random_counties import Maker, lines_of
-from dev.testing import LENGTHS, ROOT, Answer, run
+from dev.testing import LENGTHS, ROOT, Answer, await_that, run
 
 SEED = 24
 """That of a county that is refused. In the next one each flag hides something."""
@@ -53,6 +55,23 @@ def test_wrong(name: str, program: str, monkeypatch: pytest.MonkeyPatch) -> None
     assert texts.keys() >= {"calls", "county", "twin", "other", "county.RT1"}
     compare("wrong", "--seed", folder.name[5:], "--counties", 1)
     assert {path.name: path.read_bytes() for path in folder.iterdir()} == texts
+
+
+@pytest.mark.parametrize("number", [signal.SIGTERM, signal.SIGKILL])
+def test_a_stop_leaves_no_worker(number: signal.Signals, room: Path) -> None:
+    (room / "slow").write_text("#!/bin/sh\nexec sleep 100\n")
+    (room / "slow").chmod(0o755)
+    words = [ROOT / "tools/compare-with-reference", "--program", room / "slow", "--jobs", "2"]
+    process = subprocess.Popen(words, stdout=subprocess.DEVNULL, stderr=subprocess.DEVNULL)
+
+    def running() -> bool:
+        """Returns whether a process has the program among its arguments."""
+        return subprocess.run(["pgrep", "-c", "-f", str(room / "slow")], stdout=subprocess.PIPE, check=False).stdout != b"0\n"
+
+    assert await_that(lambda: len(list(Path(f"/proc/{process.pid}/task/{process.pid}/children").read_text().split())) == 2)
+    process.send_signal(number)
+    process.wait()
+    assert await_that(lambda: not running(), 10)
 
 
 def repeats(things: Iterable[object]) -> int:
