@@ -8,7 +8,9 @@ import { CHAIN, LANDMARK, RANGE } from "./contents.js";
 import { landmarkRows, pairBy, polygonFields, rows, Teller } from "./fields.js";
 import { comesAfterItsReverse, isOwnReverse, NO_POINT, reversedPoints } from "./points.js";
 import { Chain, County, isBlank, numberOf } from "./records.js";
-import { areasOf, tiesAmong, tiesOf } from "./ties.js";
+import { areasOf, areTied, tiesAmong, tiesOf } from "./ties.js";
+
+const OFFICE = 5; // columns of a polygon's key with the office that numbers it
 
 // What is in the first map alone, in the second alone, changed, and alike.
 class Matched {
@@ -52,7 +54,7 @@ class Comparison {
   // The nodes, polygons and names that are one in one map and several in the other. Chains and landmarks that nothing else tells apart
   // are paired at will, so they are asked only if nothing else differs.
   get ties() {
-    const ofChains = (pairs) => pairs.flatMap(([one, other]) => tiesOf(one, other, this.first, this.second));
+    const ofChains = (pairs) => (areTied(pairs, this.first, this.second) ? pairs.flatMap(([one, other]) => tiesOf(one, other, this.first, this.second)) : []);
     const ofLandmarks = (pairs) => pairs.flatMap(([one, other]) => areasOf(one, other, this.first, this.second));
     if (!this.foundTies) {
       this.foundTies = tiesAmong(ofChains(this.certain));
@@ -68,8 +70,9 @@ export function compareCounties(first, second) {
   const byPoints = new Map();
   [first, second].forEach((county, place) => {
     for (const chain of county.chains) {
-      if (!byPoints.has(chain.points)) byPoints.set(chain.points, [[], []]);
-      byPoints.get(chain.points)[place].push(chain);
+      const group = byPoints.get(chain.points);
+      if (group) group[place].push(chain);
+      else byPoints.set(chain.points, place ? [[], [chain]] : [[chain], []]);
     }
   });
   const groups = [...byPoints.values()];
@@ -101,7 +104,7 @@ function tellersOf(first, second, polygons) {
 function matchChains(groups, first, second) {
   const matched = new Matched();
   for (const [ones, others] of groups) {
-    if (ones.length === 1 && others.length === 1 && says(ones[0], first) === says(others[0], second)) {
+    if (ones.length === 1 && others.length === 1 && sayTheSame(ones[0], others[0], first, second)) {
       matched.alike.push([ones[0], others[0]]);
     } else if (ones.length && others.length) {
       matchGroup(ones, others, first, second, matched);
@@ -146,13 +149,28 @@ function pairTheNearest(onesLeft, othersLeft, first, second, mayBeTurned, matche
   matched.second.push(...others);
 }
 
+// Whether two chains have the same content without their points and numbers. `says` would make long strings of all chains.
+function sayTheSame(one, other, first, second) {
+  const isSame = one.body === other.body && one.topologyBody === other.topologyBody && [0, 1].every((at) => isBlank(one.nodes[at]) === isBlank(other.nodes[at]));
+  return isSame && [0, 1].every((at) => isSameSide(one.sides[at], other.sides[at], first, second)) && haveSameNames(one, other, first, second)
+    && one.ranges.length === other.ranges.length && one.ranges.every((range, place) => range === other.ranges[place]);
+}
+
+const isSameSide = (one, other, first, second) => first.marks.get(one) === second.marks.get(other) && one.slice(0, OFFICE) === other.slice(0, OFFICE);
+
+function haveSameNames(one, other, first, second) {
+  if (one.feats.length !== other.feats.length) return false;
+  const [names, others] = [first.county, second.county].map((county, place) => county.nameBodies(place ? other : one));
+  return names.every((name, place) => name === others[place]);
+}
+
 // The content of a chain without its points and numbers, as one string.
 function says(chain, teller) {
   const [left, right] = chain.sides;
   const marks = [left, right].map((side) => teller.marks.get(side) ?? "-");
   const nodes = chain.nodes.map(isBlank).join();
   const names = chain.feats.length ? teller.county.nameBodies(chain) : [];
-  const parts = [chain.body, chain.topologyBody, left.slice(0, 5), right.slice(0, 5), ...marks, nodes, names.join("|"), chain.ranges.join("|")];
+  const parts = [chain.body, chain.topologyBody, left.slice(0, OFFICE), right.slice(0, OFFICE), ...marks, nodes, names.join("|"), chain.ranges.join("|")];
   return parts.join("\n");
 }
 

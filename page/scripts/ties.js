@@ -6,6 +6,8 @@ import { degrees, eachPoint, NO_POINT } from "./points.js";
 import { isBlank } from "./records.js";
 
 const SUBJECTS_OF_TIES = ["node", "polygon", "feature name"];
+const ENDS = ["start", "end"];
+const HANDS = ["left side", "right side"];
 
 // Ties are groups of places: those that have one number in the one map, by the number that they have in the other.
 export function tiesAmong(tied) {
@@ -33,23 +35,50 @@ function grouped(tied, isOneInFirst) {
   return found;
 }
 
-// The nodes at both ends of a chain, the polygons on sides with the same content in both maps, and the further names, if they are the
-// same.
+// Calls `add` with the numbers that both maps have at a chain's places: the nodes at its ends, the polygons on sides with the same
+// content in both maps, and the further names, if they are the same.
+export function eachTied(chain, twin, first, second, add) {
+  for (const [at, place] of ENDS.entries()) {
+    if (!isBlank(chain.nodes[at]) && !isBlank(twin.nodes[at])) add("node", chain.nodes[at], twin.nodes[at], place);
+  }
+  for (const [at, place] of HANDS.entries()) {
+    const [one, other] = [chain.sides[at], twin.sides[at]];
+    const mark = first.marks.get(one);
+    if (mark !== undefined && mark === second.marks.get(other)) add("polygon", one, other, place);
+  }
+  if (!chain.feats.length || chain.feats.length !== twin.feats.length) return;
+  if (first.county.nameBodies(chain).join("\n") !== second.county.nameBodies(twin).join("\n")) return;
+  chain.feats.forEach((feat, at) => add("feature name", feat, twin.feats[at], `further name ${at + 1}`));
+}
+
+// What a chain and its twin tie together.
 export function tiesOf(chain, twin, first, second) {
   const found = [];
-  const add = (subject, one, other, place) => found.push({ subject, first: one, second: other, chain, place });
-  ["start", "end"].forEach((place, at) => {
-    if (!isBlank(chain.nodes[at]) && !isBlank(twin.nodes[at])) add("node", chain.nodes[at], twin.nodes[at], place);
-  });
-  ["left side", "right side"].forEach((place, at) => {
-    const [one, other] = [chain.sides[at], twin.sides[at]];
-    if (first.marks.has(one) && first.marks.get(one) === second.marks.get(other)) add("polygon", one, other, place);
-  });
-  const names = first.county.nameBodies(chain);
-  if (names.length && names.join("\n") === second.county.nameBodies(twin).join("\n")) {
-    chain.feats.forEach((feat, at) => add("feature name", feat, twin.feats[at], `further name ${at + 1}`));
-  }
+  eachTied(chain, twin, first, second, (subject, one, other, place) => found.push({ subject, first: one, second: other, chain, place }));
   return found;
+}
+
+// Whether the chains of these pairs have one number in the one map where they have several in the other. Nearly always they don't, and
+// this is found in much less time than what is tied.
+export function areTied(pairs, first, second) {
+  const numbers = Object.fromEntries(SUBJECTS_OF_TIES.map((subject) => [subject, [new Map(), new Map()]]));
+  let isTied = false;
+  const add = (subject, one, other) => {
+    const [others, ones] = numbers[subject];
+    isTied ||= isAnother(others, one, other) || isAnother(ones, other, one);
+  };
+  for (const [chain, twin] of pairs) {
+    eachTied(chain, twin, first, second, add);
+    if (isTied) return true;
+  }
+  return false;
+}
+
+// Whether a number has another partner than it had before.
+function isAnother(partners, number, partner) {
+  const known = partners.get(number);
+  if (known === undefined) partners.set(number, partner);
+  return known !== undefined && known !== partner;
 }
 
 // The polygons that a landmark lies in, in both maps.
