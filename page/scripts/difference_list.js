@@ -81,9 +81,10 @@ export class DifferenceList {
     const button = h("button", { type: "button", tabIndex: -1, onclick: (event) => this.onchoose(entry, item, event.detail === 0) }, [
       h("span", { class: `sign ${KIND_CLASSES[kind]}`, "aria-hidden": "true" }, KIND_SIGNS[kind]),
       h("span", { class: "told" }, [
-        h("span", { class: "name" }, title),
-        h("span", { class: "quiet" }, ` ${kindText(entry)}`),
-        h("span", { class: "numbers quiet" }, entry.numbers),
+        h("span", { class: "line" }, [
+          h("span", {}, h("span", { class: "name" }, title), h("span", { class: "quiet" }, ` ${kindText(entry)}`)),
+          h("span", { class: "numbers quiet" }, entry.numbers),
+        ]),
         linesOf(entry).map((line) => h("span", { class: entry.changes.length ? "rest" : "rest about" }, line)),
       ]),
     ]);

@@ -32,7 +32,7 @@ export class Differing {
     const { chains, points, titles, entries, firstEntry } = this.found.shapes;
     this.entryOf = (found) => (found.point ? found.point.entry : entries[found.chain - firstEntry]);
     this.places = points.map((point) => ({ ...point, place: shifted(point.place, chains.shift) }));
-    const titleOf = (found) => found.point?.title ?? titles[found.chain] ?? this.titles?.get(this.entryOf(found)) ?? "";
+    const titleOf = (found) => found.point?.title ?? titles.all[titles.ofChains[found.chain]] ?? "";
     this.map = new MapView({
       chains, points: this.places, look: differencesLook, titleOf, label: "Map of both counties",
       onpick: (found, place, isFocused) => this.openFound(found, place, isFocused),

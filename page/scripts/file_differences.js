@@ -4,7 +4,7 @@ import { linesOf } from "./faulty.js";
 import { ownKeys } from "./matching.js";
 import { counted } from "./numbers.js";
 import { POINT_WIDTH } from "./points.js";
-import { isBlank, readCounty, UNUSED_PLACES } from "./records.js";
+import { featsOf, linesIn, readCounty, usedPlaces } from "./records.js";
 
 const SAME = "the same";
 
@@ -84,10 +84,10 @@ function divisionText([first, second], canonical) {
 // How many places each record of types 2 and 4 has in use, chain by chain.
 function divisionsOf(text) {
   const found = new Map();
-  for (const line of new TextDecoder("windows-1252").decode(text).split("\n")) {
+  for (const line of linesIn(text)) {
     if (line[0] !== "2" && line[0] !== "4") continue;
     const key = `1${line.slice(5, 15)}`;
-    const used = line[0] === "2" ? line.slice(18).replace(UNUSED_PLACES, "").length / POINT_WIDTH : line.slice(18).match(/.{8}/g).filter((feat) => !isBlank(feat)).length;
+    const used = line[0] === "2" ? usedPlaces(line).length / POINT_WIDTH : featsOf(line).length;
     found.set(key, `${found.get(key) ?? ""} ${line[0]}:${line.slice(15, 18)}:${used}`);
   }
   return found;

@@ -4,7 +4,7 @@ import { chainTitle, landmarkTitle, landmarkPoints } from "./fields.js";
 import { ALIKE, CHANGED, keyOfKind } from "./kinds.js";
 import { counted } from "./numbers.js";
 import { eachPoint, NO_POINT, POINT_WIDTH, position } from "./points.js";
-import { Shapes } from "./shapes.js";
+import { distinct, Shapes } from "./shapes.js";
 import { KINDS } from "./tables.js";
 import { tieLine, tiedPlace, tiePoints } from "./ties.js";
 
@@ -53,7 +53,7 @@ export class Findings {
       chains: shapes.sent(),
       firstEntry: alike.length,
       entries: Uint32Array.from(different.map((entry) => entry.number)),
-      titles: alike.map(chainTitle),
+      titles: distinct(alike.map(chainTitle)),
       points: [...this.alikeLandmarks(), ...this.differingPoints()],
     };
   }

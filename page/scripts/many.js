@@ -1,37 +1,33 @@
 // Many counties: a table with the result of each, to be saved as a manifest, and compared with one.
-import { badge, troubleOf } from "./card.js";
+import { troubleOf } from "./card.js";
+import { CountyTable } from "./county_table.js";
 import { counted } from "./numbers.js";
 import { announce, h, replace, save, sizeText } from "./dom.js";
 import { Crew } from "./jobs.js";
 import { flagsOf, manifestOf, readManifest, verified } from "./manifests.js";
+import { shownName } from "./names.js";
 import { Queue, weightOf } from "./queue.js";
 
 const SHOWN_DIGITS = 16;
+const KINDS_OF_STATES = { OK: "accepted", NEW: "busy", FAILED: "refused", MISSING: "refused" };
+
+const digitsOf = (fingerprint) => h("code", { title: fingerprint }, `${fingerprint.slice(0, SHOWN_DIGITS)}…`);
 
 export class ManyCounties {
   constructor({ counties, manifests, skipped }, masks, actions) {
-    Object.assign(this, { counties, manifests, skipped, masks, actions, rows: new Map(), crew: new Crew() });
+    Object.assign(this, { counties, manifests, skipped, masks, actions, crew: new Crew() });
     this.counts = { accepted: 0, refused: 0, troubled: 0 };
-    this.summary = h("p", { class: "summary", role: "status" });
+    this.summary = h("p", { class: "summary" });
     this.bar = h("progress", { "aria-label": "Counties judged", max: counties.length });
     const stop = h("button", { type: "button", class: "quiet", onclick: () => this.queue.stop() }, "Stop");
     this.notes = h("div", {});
-    this.body = h("tbody", {}, counties.map((county) => this.waitingRow(county)));
+    this.table = new CountyTable(counties.map(({ stem }) => stem));
     this.actionRow = h("div", { class: "actions" });
-    const heads = ["County", "Result", "Fingerprint or refusal", "Notes"].map((text) => h("th", { scope: "col" }, text));
-    const table = h("table", { class: "counties" }, h("thead", {}, h("tr", {}, heads)), this.body);
     this.node = h("div", { class: "many" }, [
       h("h2", {}, "Counties"),
       h("div", { class: "bar" }, this.bar, stop),
-      this.summary, this.notes, this.actionRow,
-      h("div", { class: "scroll", tabIndex: 0, role: "region", "aria-label": "Table of counties" }, table),
+      this.summary, this.notes, this.actionRow, this.table.node,
     ]);
-  }
-
-  waitingRow({ stem }) {
-    const row = h("tr", {}, h("th", { scope: "row" }, stem), h("td", {}, badge("busy", "Waiting")), h("td", {}), h("td", {}));
-    this.rows.set(stem, row);
-    return row;
   }
 
   async start() {
@@ -62,21 +58,20 @@ export class ManyCounties {
   }
 
   judge(task, masks) {
-    replace(this.rows.get(task.county.stem).cells[1], badge("busy", "Judging"));
+    this.table.setResult(task.county.stem, "busy", "Judging");
     return this.crew.job("judgeOfMany", { county: task.county, masks }, weightOf(task.county), (assistant) => {
       task.assistant = assistant;
     });
   }
 
   showResult({ county, result, trouble }) {
-    const { cells } = this.rows.get(county.stem);
-    const open = h("button", { type: "button", class: "link", onclick: () => this.actions.open(county) }, county.stem);
+    const cells = this.table.cells(county.stem);
+    const open = h("button", { type: "button", class: "link", onclick: () => this.actions.open(county) }, shownName(county.stem));
     replace(cells[0], open);
     const [count, kind, text] = trouble ? ["troubled", "refused", "Not judged"] : result.isAccepted ? ["accepted", "accepted", "Accepted"] : ["refused", "refused", "Refused"];
     this.counts[count] += 1;
-    replace(cells[1], badge(kind, text));
-    const told = result?.isAccepted ? h("code", { title: result.fingerprint }, `${result.fingerprint.slice(0, SHOWN_DIGITS)}…`) : h("span", {}, trouble ?? result.line);
-    replace(cells[2], told);
+    this.table.setResult(county.stem, kind, text);
+    replace(cells[2], result?.isAccepted ? digitsOf(result.fingerprint) : h("span", {}, trouble ?? result.line));
     replace(cells[3], (result?.notes ?? []).join("; "));
   }
 
@@ -106,9 +101,10 @@ export class ManyCounties {
     ]);
     const verify = h("button", { type: "button", onclick: this.actions.addMore }, "Compare with a manifest…");
     replace(this.actionRow, button, verify);
-    announce(this.summary.textContent);
     this.showAlike();
-    if (this.manifest) this.verify();
+    const verdict = this.manifest ? this.verify() : "";
+    this.table.order();
+    announce(`${this.summary.textContent} ${verdict}`);
   }
 
   // Which counties are one map.
@@ -126,24 +122,20 @@ export class ManyCounties {
     const judged = this.queue.tasks.map(({ county, result }) => ({ stem: county.stem, fingerprint: result?.fingerprint }));
     const { isByName, lines } = verified(this.manifest, judged);
     const counts = new Map();
-    for (const { stem, state, isOtherMap } of lines) {
+    for (const { stem, state, isOtherMap, wanted } of lines) {
       counts.set(state, (counts.get(state) ?? 0) + 1);
-      const { cells } = this.rows.get(stem) ?? this.absentRow(stem);
-      replace(cells[1], badge(state === "OK" ? "accepted" : state === "NEW" ? "busy" : "refused", state));
+      if (!this.table.rows.has(stem)) this.table.add(stem, "busy", "").cells[2].append("not among these files");
+      this.table.setResult(stem, KINDS_OF_STATES[state], state);
+      const cells = this.table.cells(stem);
       if (isOtherMap) cells[3].prepend(h("strong", {}, "another map "));
+      if (state === "FAILED") cells[2].append(h("div", { class: "wanted" }, "in the manifest: ", digitsOf(wanted)));
     }
     const text = [...counts].map(([state, count]) => `${counted(count)} ${state}`).join(", ");
     const flags = flagsOf(this.masks).join(" ") || "no flags";
     const how = `${isByName ? "" : " Counties are matched by their names without folder, case and ending."} It was made with ${flags}.`;
     const verdict = h("p", { class: "verified" }, h("strong", {}, `Compared with ${this.manifest.name}: ${text}.`), how);
     this.notes.prepend(verdict);
-    announce(verdict.textContent);
-  }
-
-  absentRow(stem) {
-    const row = h("tr", {}, h("th", { scope: "row" }, stem), h("td", {}), h("td", {}, "not among these files"), h("td", {}));
-    this.body.append(row);
-    return row;
+    return verdict.textContent;
   }
 
   dispose() {

@@ -1,10 +1,11 @@
 // The page: takes files, and shows one county, two, or many.
 import { counted } from "./numbers.js";
 import { sortedOut } from "./counties.js";
-import { announce, replace } from "./dom.js";
+import { announce, h, replace } from "./dom.js";
 import { chosenFiles, droppedFiles } from "./dropping.js";
 import { bytesOfBase64, engineModule } from "./jobs.js";
 import { ManyCounties } from "./many.js";
+import { baseOf, shownName } from "./names.js";
 import { OneCounty } from "./one.js";
 import { EXAMPLES, IS_PROVED } from "./tables.js";
 import { TwoCounties } from "./two.js";
@@ -31,6 +32,7 @@ function fixMasks(masks) {
 // Shows what fits the counties that there are.
 function show() {
   state.view?.dispose();
+  byId("notice").hidden = true;
   for (const id of MASK_BOXES) byId(id).disabled = false;
   const { counties, manifests } = state;
   const isStart = !counties.length && !manifests.length;
@@ -95,9 +97,20 @@ function put({ counties, manifests, skipped }, adds) {
   // Two files of one name are two counties, so the later one gets another name, unless it goes into a table.
   if (kept.length === 1 && counties.length === 1 && names.delete(kept[0].stem)) counties[0].stem = `${counties[0].stem} (2)`;
   const first = kept.filter(({ stem }) => !names.has(stem));
-  Object.assign(state, { counties: [...first, ...counties], manifests: [...(keeps ? state.manifests : []), ...manifests], skipped, before: undefined });
+  const left = keeps || state.counties.length < 2 ? undefined : { counties: state.counties, manifests: state.manifests, skipped: state.skipped };
+  if (left) history.pushState(null, "");
+  Object.assign(state, { counties: [...first, ...counties], manifests: [...(keeps ? state.manifests : []), ...manifests], skipped, before: left });
   complain("");
   show();
+  if (left) notify(left.counties);
+}
+
+// Says what became of two counties when others were given. The way back is the browser's own.
+function notify(left) {
+  const names = left.map(({ stem }) => shownName(baseOf(stem))).join(" and ");
+  const back = h("button", { type: "button", class: "link", onclick: () => history.back() }, "Back to them");
+  replace(byId("notice"), `The comparison of ${names} was closed, since two counties are compared at a time. `, back, ".");
+  byId("notice").hidden = false;
 }
 
 function nothingIn(files, skipped) {

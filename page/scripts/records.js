@@ -1,20 +1,28 @@
 // Reads the records that the engine prints: a county's chains, feature names, polygons and landmarks. The engine spells each number
 // and point in one way, so equal ones are equal strings.
 import { CHAIN, LANDMARK, NAME, POLYGON, RANGE, TOPOLOGY } from "./contents.js";
-import { NO_POINT } from "./points.js";
+import { NO_POINT, POINT_WIDTH } from "./points.js";
 import { LENGTHS } from "./tables.js";
 
 const LINE_FEED = 10;
 const DECODED_AT_ONCE = 1 << 24;
-export const UNUSED_PLACES = /(\+000000000\+00000000)+$/;
+const NONE_OF_THEM = [];
+const UNUSED_PLACE = "+000000000+00000000";
 
 export class NotCanonical extends Error {}
 
 export const isBlank = (text) => text.trim() === "";
 
 export class Chain {
-  constructor(fields) {
-    Object.assign(this, fields);
+  constructor({ key, body, points, feats, ranges, topologyBody, nodes, sides }) {
+    this.key = key;
+    this.body = body;
+    this.points = points;
+    this.feats = feats;
+    this.ranges = ranges;
+    this.topologyBody = topologyBody;
+    this.nodes = nodes;
+    this.sides = sides;
   }
 }
 
@@ -92,13 +100,13 @@ function readChains(records) {
   return records["1"].map((line) => {
     const tlid = line.slice(5, 15);
     const topology = there(topologies, tlid);
-    const shape = (inner.get(tlid) ?? []).map((each) => each.slice(18).replace(UNUSED_PLACES, ""));
+    const shape = (inner.get(tlid) ?? NONE_OF_THEM).map(usedPlaces);
     return new Chain({
       key: `1${tlid}`,
       body: CHAIN.of(line),
       points: line.slice(190, 209) + shape.join("") + line.slice(209),
-      feats: (names.get(tlid) ?? []).flatMap(featsOf),
-      ranges: (ranges.get(tlid) ?? []).map((each) => RANGE.of(each)),
+      feats: (names.get(tlid) ?? NONE_OF_THEM).flatMap(featsOf),
+      ranges: (ranges.get(tlid) ?? NONE_OF_THEM).map((each) => RANGE.of(each)),
       topologyBody: TOPOLOGY.of(topology),
       nodes: [topology.slice(20, 30), topology.slice(30, 40)],
       sides: [topology.slice(40, 55), topology.slice(55, 70)],
@@ -106,8 +114,15 @@ function readChains(records) {
   });
 }
 
+// The places of a record of type 2, without the unused ones at its end.
+export function usedPlaces(line) {
+  let end = line.length;
+  while (line.endsWith(UNUSED_PLACE, end)) end -= POINT_WIDTH;
+  return line.slice(18, end);
+}
+
 // The FEATs of a record of type 4.
-function featsOf(line) {
+export function featsOf(line) {
   const places = [18, 26, 34, 42, 50].map((at) => line.slice(at, at + 8));
   return places.filter((feat) => !isBlank(feat));
 }
@@ -117,11 +132,12 @@ function byChain(lines) {
   const found = new Map();
   for (const line of lines) {
     const tlid = line.slice(5, 15);
-    if (!found.has(tlid)) found.set(tlid, []);
-    found.get(tlid).push(line);
+    const several = found.get(tlid);
+    if (several) several.push(line);
+    else found.set(tlid, [line]);
   }
   const sequence = (line) => Number(line.slice(15, 18));
-  for (const several of found.values()) several.sort((one, other) => sequence(one) - sequence(other));
+  for (const several of found.values()) if (several.length > 1) several.sort((one, other) => sequence(one) - sequence(other));
   return found;
 }
 

@@ -89,22 +89,22 @@ export function shapesOf(text) {
     shapes.endChain(classOf(text[line + 55], text[line + 56]));
   }
   const counts = Object.fromEntries(Object.entries(records).map(([type, its]) => [type, its.count]));
-  return { chains: shapes.sent(), titles: titlesOf(text, records["1"]), landmarks: landmarksOf(text, records["7"]), counts };
+  return { chains: shapes.sent(), titles: distinct(titlesIn(text, records["1"])), landmarks: landmarksOf(text, records["7"]), counts };
 }
 
 const linesOfType = (text, { from, count, step }) => linesIn(text.subarray(from, from + count * step));
 
+function* titlesIn(text, records) {
+  for (const line of linesOfType(text, records)) yield chainTitle({ body: CHAIN.of(line) });
+}
+
 // The titles of chains: each title once, and the number of each chain's.
-function titlesOf(text, records) {
+export function distinct(titles) {
   const numbers = new Map();
-  const ofChains = new Uint32Array(records.count);
-  let chain = 0;
-  for (const line of linesOfType(text, records)) {
-    const title = chainTitle({ body: CHAIN.of(line) });
+  const ofChains = Uint32Array.from(titles, (title) => {
     if (!numbers.has(title)) numbers.set(title, numbers.size);
-    ofChains[chain] = numbers.get(title);
-    chain += 1;
-  }
+    return numbers.get(title);
+  });
   return { all: [...numbers.keys()], ofChains };
 }
 

@@ -262,6 +262,48 @@ def try_exchange(page: Page) -> None:
     page.equal("the counts", counts[4:8] + counts[:4], found[:8])
 
 
+def try_third(page: Page) -> None:
+    """A third county says that it closed a comparison, and leads back to it."""
+    show_town(page)
+    page.browser.give([EXAMPLES / "autauga/all.txt"])
+    page.browser.wait_for("document.getElementById('fingerprint')")
+    notice = page.browser.text("#notice")
+    page.equal("what a third county does", "The comparison of first.txt and second.txt was closed, since two counties are compared at a time. Back to them.", notice)
+    page.browser.click("#notice button")
+    page.holds("back", page.browser.wait_for(LISTED), page.browser.text("main"))
+    page.equal("the notice is gone", "", page.browser.text("#notice:not([hidden])"))
+
+
+def try_table(page: Page) -> None:
+    """The table of many counties has its faults first, is sorted by its columns and filtered, and shows wanted fingerprints."""
+    resize(page, LAPTOP)
+    files = [TOWN[1], EXAMPLES / "broken.txt", EXAMPLES / "autauga/all.txt", TOWN[0]]
+    page.show(files, "document.querySelector('.many .actions button')")
+    names = ".counties tbody tr:not([hidden]) th"
+    page.equal("faults first, then by names", ["broken.txt", "all.txt", "first.txt", "second.txt"], page.browser.texts(names))
+    heads = ".counties thead button"
+    found = []
+    for column in (0, 0, 1):
+        page.browser.driver.execute_script("document.querySelectorAll(arguments[0])[arguments[1]].click()", heads, column)
+        found.append(page.browser.texts(names))
+    page.equal("by name", ["all.txt", "broken.txt", "first.txt", "second.txt"], found[0])
+    page.equal("by name, the other way round", ["second.txt", "first.txt", "broken.txt", "all.txt"], found[1])
+    page.equal("by result", "broken.txt", found[2][-1])
+    page.equal("the sorted column", ["Result"], page.browser.texts(".counties [aria-sort='ascending']"))
+    page.browser.driver.execute_script("const box = document.getElementById('county-filter'); box.value = 'accepted s'; box.dispatchEvent(new Event('input'))")
+    page.equal("a filter of two words", ["first.txt", "second.txt"], sorted(page.browser.texts(names)))
+    page.equal("how many there are", "2 of 4", page.browser.text(".county-table .listed"))
+    manifest = page.room / "wanted.manifest"
+    fingerprint = page.printed("fingerprint", TOWN[0])
+    manifest.write_text(f"# tigercanon form 1\n{fingerprint}  first.txt\n{'a' * 64}  second.txt\n{'b' * 64}  broken.txt\n")
+    page.browser.give([manifest])
+    page.holds("compared", page.browser.wait_for("document.querySelector('.verified')"), page.browser.text("main"))
+    rows = {text.split()[0]: text for text in page.browser.texts(".counties tbody tr")}
+    page.holds("a failed county's wanted fingerprint", "FAILED" in rows["second.txt"] and f"in the manifest: {'a' * 16}" in rows["second.txt"], rows)
+    page.holds("a refused county's wanted fingerprint", "FAILED" in rows["broken.txt"] and f"in the manifest: {'b' * 16}" in rows["broken.txt"], rows)
+    page.equal("failed ones first", ["broken.txt", "second.txt"], page.browser.texts(names)[:2])
+
+
 def try_one_map(page: Page) -> None:
     """Two files of one map: the map is shown, and how the files differ."""
     other = page.room / "renumbered.txt"
@@ -460,6 +502,8 @@ CASES = (
     try_rulers,
     try_keyboard,
     try_exchange,
+    try_third,
+    try_table,
     try_one_map,
     try_printing,
     try_phone,
