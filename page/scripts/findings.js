@@ -73,7 +73,8 @@ export class Findings {
   // The points inside of polygons that are alike.
   alikePolygons() {
     const inside = this.comparison.polygons.alike.map(([one]) => one).filter(({ point }) => point !== NO_POINT);
-    return inside.map((one) => ({ title: nameOf(entryOf({ what: "polygon", ...MAKERS.polygon(this.comparison, one) })), place: position(one.point), kind: ALIKE, subject: "polygon" }));
+    const title = (one) => nameOf({ what: "polygon", ...MAKERS.polygon(this.comparison, one) });
+    return inside.map((one) => ({ title: title(one), place: position(one.point), kind: ALIKE, subject: "polygon" }));
   }
 
   // Takes the numbers that things have in the files of both sets, by their keys.
