@@ -1,0 +1,110 @@
+// What is drawn of maps: the classes of chains, lines and marks of each kind, what is small or dense, and the part that is shown.
+import { equal, take } from "./scripts.mjs";
+
+const { CLASSES, classOf } = await take("classes");
+const { boundsOf, byStyle, chainNear, draw, specksOf, Squares, strokesOf } = await take("drawing");
+const { ALIKE, CHANGED, FIRST, KIND_LINES, SECOND } = await take("kinds");
+const { drawMark } = await take("marks");
+const { View } = await take("view");
+
+// The classes of roads are those of the CFCC: A1 has limited access, A2 and A3 are main roads, A4 and more are others.
+const className = (cfcc) => CLASSES[classOf(cfcc.charCodeAt(0), cfcc.charCodeAt(1))];
+const cfccs = ["A11", "A21", "A31", "A41", "A74", "B11", "H11", "F10", "D43", "X00"];
+equal("the classes of chains", ["highway", "main road", "main road", "road", "road", "rail", "water", "boundary", "other", "other"], cfccs.map(className));
+
+// A canvas that keeps what is done with it.
+function recorder() {
+  const calls = [];
+  const state = {};
+  const keep = (name) => (...values) => calls.push([name, ...values]);
+  return new Proxy({ calls }, {
+    get(target, name) {
+      if (name === "calls") return target.calls;
+      if (name === "stroke" || name === "fill") return () => calls.push([name, { ...state }]);
+      if (name === "setLineDash") return (dash) => (state.dash = dash);
+      return keep(name);
+    },
+    set(_, name, value) {
+      state[name] = value;
+      return true;
+    },
+  });
+}
+
+// Four chains around the middle of a map of a thousandth of a degree: one from corner to corner, one short, one of a point, one away.
+const chains = {
+  starts: Uint32Array.from([0, 2, 4, 6, 8]),
+  places: Int32Array.from([0, 0, 1000, 1000, 500, 400, 502, 402, 100, 900, 100, 900, 5000, 5000, 5010, 5000]),
+  classes: Uint8Array.from([ALIKE, CHANGED, FIRST, SECOND]),
+};
+const { bounds, all } = boundsOf(chains);
+equal("the bounds of all chains", [0, 0, 5010, 5000], all);
+equal("the bounds of each chain", [0, 0, 1000, 1000, 500, 400, 502, 402, 100, 900, 100, 900, 5000, 5000, 5010, 5000], [...bounds]);
+equal("the bounds of no chains", [-1, -1, 1, 1], boundsOf({ starts: Uint32Array.of(0), places: Int32Array.of() }).all);
+equal("chains by their style", [[ALIKE, [0]], [SECOND, [3]], [FIRST, [2]], [CHANGED, [1]]], byStyle(chains.classes, [ALIKE, SECOND, FIRST, CHANGED]));
+
+const view = new View([0, 0, 1000, 1000]);
+view.resize(448, 248);
+equal("the scale that shows all", 0.2, view.scale);
+equal("the place of a corner on the canvas", [124, 224], [view.x(0), view.y(0)].map(Math.round));
+equal("the place of a point of the canvas", [0, 0], view.placeAt(124, 224).map(Math.round).map(Math.abs));
+const rulers = view.rulers(110);
+// 110 pixels are 550 millionths of a degree, 61.2 m or 200.9 ft.
+equal("the rulers", [["50 m", 90], ["200 ft", 110]], rulers.map(({ text, pixels }) => [text, Math.round(pixels)]));
+view.zoom(2, 124, 224);
+equal("a place that the map is zoomed around", [124, 224], [view.x(0), view.y(0)].map(Math.round));
+equal("the scale after that", 0.4, view.scale);
+view.move(10, -20);
+equal("a place after the map was moved", [134, 204], [view.x(0), view.y(0)].map(Math.round));
+view.showWhole();
+const wide = new View([0, 0, 10_000_000, 1_000_000]);
+wide.resize(448, 248);
+equal("rulers in kilometres and miles", [["200 km"], ["100 mi"]], wide.rulers(110).map(({ text }) => [text]));
+const before = wide.scale;
+for (let round = 0; round < 40; round += 1) wide.zoom(0.5);
+equal("the least scale is a quarter of all", before / 4, wide.scale);
+for (let round = 0; round < 90; round += 1) wide.zoom(2);
+equal("the greatest scale", 2, wide.scale);
+
+// A line of a kind that differs has a casing, a hollow one shows what is below its middle, and very many are thin lines.
+const style = (kind) => ({ ...KIND_LINES[kind], color: "ink", isCased: kind !== ALIKE });
+equal("the strokes of what the first map has alone", [["paper", 6, [8, 6]], ["ink", 3, [8, 6]]], strokesOf(style(FIRST), "paper", 1).map(({ color, width, dash }) => [color, width, dash]));
+equal("the strokes of what the second map has alone", [["paper", 8], ["ink", 5]], strokesOf(style(SECOND), "paper", 5000).map(({ color, width }) => [color, width]));
+equal("the strokes of what changed", [["paper", 10], ["ink", 7], ["paper", 3]], strokesOf(style(CHANGED), "paper", 1).map(({ color, width }) => [color, width]));
+equal("the strokes of very many", [["ink", 1.5]], strokesOf(style(CHANGED), "paper", 5001).map(({ color, width }) => [color, width]));
+equal("the strokes of what is alike", [["ink", 1.2]], strokesOf(style(ALIKE), "paper", 1).map(({ color, width }) => [color, width]));
+
+const styles = { paper: "paper", chains: [FIRST, SECOND, CHANGED, ALIKE].map((kind) => ({ ...style(kind), color: `color ${kind}`, sign: kind === ALIKE ? undefined : "+", isThin: kind === ALIKE })) };
+const layer = { ...chains, bounds };
+const groups = byStyle(chains.classes, [ALIKE, SECOND, FIRST, CHANGED]);
+const canvas = recorder();
+let done = [];
+await draw(canvas, view, layer, groups, styles, () => false, (isDone) => done.push(isDone), Infinity);
+equal("drawn at once", [true], done);
+const strokes = canvas.calls.filter(([name]) => name === "stroke").map(([, { strokeStyle }]) => strokeStyle);
+equal("the order in which kinds are drawn", ["color 3", "color 1", "color 0", "color 2"], strokes.filter((each) => each !== "paper"));
+equal("the chains in view begin at", [[124, 224], [144, 44], [224, 144]], canvas.calls.filter(([name]) => name === "moveTo").map(([, x, y]) => [Math.round(x), Math.round(y)]));
+equal("small chains with a sign", [[FIRST, 100, 900], [CHANGED, 501, 401], [SECOND, 5005, 5000]].sort(), specksOf(view, layer, groups, styles).map(({ kind, place }) => [kind, ...place.map(Math.round)]).sort());
+
+const squares = new Squares(3);
+equal("a square is taken once", [true, false, true, true], [squares.take(1, 1), squares.take(2.9, 0), squares.take(3, 1), squares.take(1, 3)]);
+const dense = { starts: Uint32Array.from([0, 2, 4, 6]), places: Int32Array.from([0, 0, 2, 2, 1, 1, 3, 3, 0, 0, 500, 0]), classes: Uint8Array.of(ALIKE, ALIKE, ALIKE) };
+const thinned = recorder();
+await draw(thinned, view, { ...dense, bounds: boundsOf(dense).bounds }, [[ALIKE, [0, 1, 2]]], styles, () => false, () => {}, Infinity);
+equal("of two small chains of a place one is drawn, and the long one", 2, thinned.calls.filter(([name]) => name === "moveTo").length);
+
+const near = (x, y, isShown = () => true) => chainNear(view, layer, x, y, 8, isShown);
+equal("the chain at a place", 0, near(view.x(250), view.y(250) + 3));
+equal("no chain within reach", -1, near(view.x(900), view.y(100)));
+equal("the nearer of two chains", 1, near(view.x(501), view.y(401)));
+equal("a hidden chain isn't found", -1, near(view.x(100), view.y(900), (chain) => chain !== 2));
+
+const marked = (mark) => {
+  const context = recorder();
+  drawMark(context, 10, 20, mark, "paper");
+  return context.calls;
+};
+equal("a circle with the sign for more", ["arc", 2], [marked({ color: "ink", radius: 7, sign: "+" })[1][0], marked({ color: "ink", radius: 7, sign: "+" }).filter(([name]) => name === "lineTo").length]);
+equal("a square for a polygon", ["rect", 3, 13, 14, 14], marked({ color: "ink", radius: 7, sign: "≠", isSquare: true })[1]);
+equal("a filled mark", ["ink", "paper"], (({ fillStyle, strokeStyle }) => [fillStyle ?? "", strokeStyle])(marked({ color: "ink", radius: 7, sign: "−" }).find(([name]) => name === "stroke")[1]));
+equal("an empty mark", ["paper", "ink"], (({ fillStyle, strokeStyle }) => [fillStyle, strokeStyle])(marked({ color: "ink", radius: 3 }).find(([name]) => name === "stroke")[1]));
