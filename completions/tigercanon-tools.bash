@@ -17,8 +17,8 @@ _tigercanon_tools() {
         verify) flags="--help --version --quiet --quick --root --program --jobs --scheduler --memory --largest --seconds --exclude --verbose --no-sources --no-reserved --json" ;;
         check) flags="--help --version --quiet --program --jobs --scheduler --memory --largest --seconds --exclude --verbose --json" ;;
         duplicates) flags="--help --version --different --json" ;;
-        changes) flags="--help --version --quiet --edition --json --stat --pages --root --leaflet --jobs --program --force" ;;
-        diff) flags="--help --version --program --no-sources --no-reserved --force --stem --summary --json --page --geojson --all --leaflet" ;;
+        changes) flags="--help --version --quiet --edition --json --stat --pages --root --jobs --program --force" ;;
+        diff) flags="--help --version --program --no-sources --no-reserved --force --stem --summary --json --page --geojson --all" ;;
         table) flags="--help --version --program --geojson --output --force" ;;
         explain) flags="--help --version --program" ;;
         # help: end

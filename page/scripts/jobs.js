@@ -9,17 +9,17 @@ function element(id) {
   return document.getElementById(id).textContent.trim();
 }
 
-async function unzippedBase64(text) {
-  const packed = Uint8Array.from(atob(text), (letter) => letter.charCodeAt(0));
+export async function bytesOfBase64(text) {
+  const letters = atob(text);
+  const packed = new Uint8Array(letters.length);
+  for (let at = 0; at < letters.length; at += 1) packed[at] = letters.charCodeAt(at);
   const stream = new Blob([packed]).stream().pipeThrough(new DecompressionStream("gzip"));
   return new Response(stream).arrayBuffer();
 }
 
-export const bytesOfBase64 = unzippedBase64;
-
 // The engine, compiled once for all workers.
 export function engineModule() {
-  moduleReady ??= unzippedBase64(element("engine")).then((bytes) => WebAssembly.compile(bytes));
+  moduleReady ??= bytesOfBase64(element("engine")).then((bytes) => WebAssembly.compile(bytes));
   return moduleReady;
 }
 

@@ -168,7 +168,7 @@ function haveSameNames(one, other, first, second) {
 function says(chain, teller) {
   const [left, right] = chain.sides;
   const marks = [left, right].map((side) => teller.marks.get(side) ?? "-");
-  const nodes = chain.nodes.map(isBlank).join();
+  const nodes = chain.nodes.map((node) => (isBlank(node) ? "no" : "yes")).join();
   const names = chain.feats.length ? teller.county.nameBodies(chain) : [];
   const parts = [chain.body, chain.topologyBody, left.slice(0, OFFICE), right.slice(0, OFFICE), ...marks, nodes, names.join("|"), chain.ranges.join("|")];
   return parts.join("\n");

@@ -1,4 +1,5 @@
 // The page: takes files, and shows one county, two, or many.
+import { takeCarried, unpackCarried } from "./carried.js";
 import { counted } from "./numbers.js";
 import { sortedOut } from "./counties.js";
 import { announce, h, replace } from "./dom.js";
@@ -176,13 +177,23 @@ function listen() {
 // What this page can't do without.
 const isAble = () => typeof WebAssembly === "object" && typeof DecompressionStream === "function" && typeof crypto.subtle === "object";
 
+// Compares the counties that the page carries.
+async function openCarried(carried) {
+  const { counties, masks } = await unpackCarried(carried);
+  setMasks(masks);
+  Object.assign(state, { counties });
+  show();
+}
+
 async function begin() {
+  const carried = takeCarried();
   listen();
   byId("unproved").hidden = IS_PROVED;
   if (!isAble()) return complain(NEEDED);
   byId("start").classList.add("ready");
   try {
     await engineModule();
+    if (carried) await openCarried(carried);
     document.body.dataset.ready = "yes";
   } catch (error) {
     complain(`The engine can't be started: ${error.message}. ${NEEDED}`);

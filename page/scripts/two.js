@@ -1,12 +1,13 @@
 // Two counties: whether they are one map; where they differ, or how their files differ although they are one map.
 import { badge, notesOf, Stages, troubleOf } from "./card.js";
+import { pageWith } from "./carried.js";
 import { CountyPanel } from "./county_panel.js";
 import { Differing } from "./differing.js";
-import { announce, copyButton, h, replace } from "./dom.js";
+import { announce, copyButton, h, replace, save } from "./dom.js";
 import { Assistant } from "./jobs.js";
 import { KIND_CLASSES } from "./kinds.js";
 import { flagsOf, leftOut } from "./manifests.js";
-import { baseOf, shownName } from "./names.js";
+import { baseOf, plainName, shownName } from "./names.js";
 import { counted } from "./numbers.js";
 import { OneMap } from "./one_map.js";
 
@@ -87,7 +88,20 @@ export class TwoCounties {
     const without = leftOut(this.masks);
     const what = without ? `all fields but ${without} (${flagsOf(this.masks).join(" ")})` : "all fields";
     const exchange = h("button", { type: "button", class: "quiet", onclick: () => this.exchange() }, "⇄ Exchange first and second");
-    return h("table", { class: "sets" }, h("tbody", {}, rows, h("tr", {}, h("th", { scope: "row" }, "compared"), h("td", {}, what), h("td", { colSpan: 2 }, exchange))));
+    const keep = h("button", { type: "button", class: "quiet", onclick: () => this.save() }, "Save this comparison");
+    return h("table", { class: "sets" }, h("tbody", {}, rows, h("tr", {}, h("th", { scope: "row" }, "compared"), h("td", {}, what), h("td", { colSpan: 2 }, exchange, keep))));
+  }
+
+  // Saves the page with both counties in it, which compares them wherever it is opened.
+  async save() {
+    const { counties, masks, panels } = this;
+    try {
+      const page = await pageWith(counties, panels.map(({ result }) => result.fingerprint), masks);
+      save(`${counties.map(({ stem }) => plainName(stem)).join("-")}.html`, page);
+      announce("Comparison saved");
+    } catch (error) {
+      this.sets.append(troubleOf(error.message));
+    }
   }
 
   // Compares them the other way round.

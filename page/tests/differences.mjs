@@ -1,27 +1,27 @@
-// Where two sets differ, as the page saves it:
-//
-//     node page/tests/differences.mjs out/page FIRST SECOND [--no-sources] [--no-reserved] [--all]
+// Where pairs of sets differ, as the page saves it: a line of JSON on standard input has two files and the flags, and a line of JSON on
+// standard output the differences.
 import { readFileSync } from "node:fs";
 import { webcrypto } from "node:crypto";
-import { resolve } from "node:path";
+import { createInterface } from "node:readline";
+import { engineBytes, take } from "./scripts.mjs";
 
-const [folder, ...words] = process.argv.slice(2);
-const take = (name) => import(`${resolve(folder, "scripts")}/${name}.js`);
 const engine = await take("engine");
 const { compareCounties, ownNumbers } = await take("matching");
 const { readCounty } = await take("records");
 const { geojson } = await take("geojson");
-const module = new WebAssembly.Module(readFileSync(resolve(folder, "engine.wasm")));
+const module = new WebAssembly.Module(engineBytes());
 
-const masks = { sources: words.includes("--no-sources"), reserved: words.includes("--no-reserved") };
-const names = words.filter((word) => !word.startsWith("--"));
-const files = names.map((name) => [new Uint8Array(readFileSync(name))]);
-const texts = files.map((parts) => engine.normalise(module, parts, masks).text);
-const hash = async (text) => engine.hexadecimal(new Uint8Array(await webcrypto.subtle.digest("SHA-256", text)));
-const sets = await Promise.all(names.map(async (name, place) => ({ name, fingerprint: await hash(texts[place]) })));
-const counties = texts.map((text) => readCounty(text));
-const found = compareCounties(...counties);
-const own = files.map((parts, place) => ownNumbers(readCounty(engine.respell(module, parts).text), counties[place], masks));
-const areOneMap = sets[0].fingerprint === sets[1].fingerprint;
-const leftOut = words.filter((word) => /^--no-/.test(word)).join(" ");
-process.stdout.write([...geojson(found, sets, areOneMap, leftOut, own, words.includes("--all"))].join(""));
+async function differences({ files, flags }) {
+  const masks = { sources: flags.includes("--no-sources"), reserved: flags.includes("--no-reserved") };
+  const parts = files.map((name) => [new Uint8Array(readFileSync(name))]);
+  const texts = parts.map((part) => engine.normalise(module, part, masks).text);
+  const hash = async (text) => engine.hexadecimal(new Uint8Array(await webcrypto.subtle.digest("SHA-256", text)));
+  const sets = await Promise.all(files.map(async (name, place) => ({ name, fingerprint: await hash(texts[place]) })));
+  const counties = texts.map((text) => readCounty(text));
+  const own = parts.map((part, place) => ownNumbers(readCounty(engine.respell(module, part).text), counties[place], masks));
+  const areOneMap = sets[0].fingerprint === sets[1].fingerprint;
+  const leftOut = flags.filter((flag) => flag.startsWith("--no-")).join(" ");
+  return JSON.parse([...geojson(compareCounties(...counties), sets, areOneMap, leftOut, own, flags.includes("--all"))].join(""));
+}
+
+for await (const line of createInterface({ input: process.stdin })) process.stdout.write(`${JSON.stringify(await differences(JSON.parse(line)))}\n`);

@@ -21,6 +21,7 @@ def room(tmp_path: Path, monkeypatch: pytest.MonkeyPatch) -> Path:
     """A folder for the test, in which it runs. Temporary files go to its folders tmp and shm."""
     monkeypatch.chdir(tmp_path)
     monkeypatch.delenv("TIGERCANON", raising=False)
+    monkeypatch.setenv("TIGERCANON_PAGE", str(FAKES / "page.html"))
     for variable, name in (("TMPDIR", "tmp"), ("TIGERCANON_SHM", "shm")):
         (tmp_path / name).mkdir()
         monkeypatch.setenv(variable, str(tmp_path / name))

@@ -8,10 +8,9 @@ from pathlib import Path
 
 import pytest
 from dev.testing import ROOT, TYPES
-from support import NAME, Ended, call, complete, packed, put, shell
+from support import FAKES, NAME, Ended, call, complete, packed, put, shell
 
 from tigercanon import commands
-from tigercanon.diff.page import ASSETS
 from tigercanon.errors import Failure
 from tigercanon.explanations import refusals_page
 from tigercanon.inputs import Inputs
@@ -49,11 +48,11 @@ IN_FOLDERS = {
 COMMANDS = {
     "-o": "fingerprint -o {output} {input}",
     "lock": "fingerprint -o {lock} {input}",
-    "page of the first": "diff --leaflet leaflet --page {output} {input} other",
-    "page of the second": "diff --leaflet leaflet --page {output} other {input}",
+    "page of the first": "diff --page {output} {input} other",
+    "page of the second": "diff --page {output} other {input}",
     "GeoJSON of the first": "diff --geojson {output} {input} other",
     "GeoJSON of the second": "diff --geojson {output} other {input}",
-    "both": "diff --leaflet leaflet --page page --geojson {output} {input} {input}",
+    "both": "diff --page page --geojson {output} {input} {input}",
     "table": "table -o {output} {input}",
 }
 """The outputs of commands. A lock is at the manifest's name with .lock."""
@@ -62,7 +61,7 @@ LINKS = ("its name", "another path", "a symbolic link", "a link to a link", "a h
 
 
 @pytest.fixture(autouse=True)
-def archive(room: Path, fake: Path) -> Path:
+def archive(room: Path, fake: Path, monkeypatch: pytest.MonkeyPatch) -> Path:
     """The counties, which are empty files and zips, since an empty file could be taken for a manifest or a lock."""
     county = (ROOT / "examples/autauga/canonical.txt").read_bytes()
     for name in ("all.txt", *NINE, *MIXED):
@@ -70,8 +69,7 @@ def archive(room: Path, fake: Path) -> Path:
     put("other", county)
     for name in ("zips/TGR01001.ZIP", "small/tgr01003.Zip"):
         put(name, packed({"TGR01001.RT1": county}))
-    for name in ("leaflet.js", "leaflet.css"):
-        put(f"leaflet/{name}")
+    monkeypatch.setenv("TIGERCANON_PAGE", shutil.copy(FAKES / "page.html", room))
     os.symlink("all.txt", "link.txt")
     os.symlink("in", "linked")
     return room
@@ -87,7 +85,7 @@ def output_by(link: str, file: str) -> str:
     if link == "its name":
         return file
     if link == "another path":
-        return os.path.join("leaflet", "..", file)
+        return os.path.join("in", "..", file)
     if link == "a hard link":
         os.link(file, "out-hard.lock")
         return "out-hard.lock"
@@ -130,18 +128,18 @@ def test_pages_of_changes(archive: Path) -> None:
         put(name, "".join(["# tigercanon form 1\n", *(f"{number:064}  {stem}\n" for stem in ("in/TGR01001", "all.txt"))]).encode())
     os.mkdir("pages")
     for page in ("index", "ALL", "TGR01001"):
-        for file, is_hard in product(("m", "n", "all.txt", NINE[8], "program", "leaflet/leaflet.css"), (True, False)):
+        for file, is_hard in product(("m", "n", "all.txt", NINE[8], "program", "page.html"), (True, False)):
             target = os.path.abspath(file), f"pages/{page}.html"
             os.link(*target) if is_hard else os.symlink(*target)
             before = files(archive)
             with pytest.raises(Failure, match=f"pages/{page}.html: can't be written: this command reads it"):
-                run_in_process("changes --leaflet leaflet --pages pages m n".split())
+                run_in_process("changes --pages pages m n".split())
             assert (files(archive), Path("calls").read_text()) == (before, "")
             os.unlink(f"pages/{page}.html")
 
 
 @pytest.mark.parametrize("file", ["all.txt", "small/tgr01003.Zip"])
-@pytest.mark.parametrize("option", ["--geojson", "--leaflet leaflet --page"])
+@pytest.mark.parametrize("option", ["--geojson", "--page"])
 def test_a_file_on_standard_input(archive: Path, option: str, file: str) -> None:
     before = files(archive)
     for link in LINKS[::2]:
@@ -152,12 +150,10 @@ def test_a_file_on_standard_input(archive: Path, option: str, file: str) -> None
         assert files(archive) == before
 
 
-@pytest.mark.parametrize(
-    "command", ["diff --leaflet leaflet --page {} other other", "diff --geojson {} --leaflet leaflet --page x other other"]
-)
+@pytest.mark.parametrize("command", ["diff --page {} other other", "diff --geojson {} --page x other other"])
 def test_what_else_is_read(archive: Path, command: str) -> None:
-    """The program, the files of Leaflet, and those of the package."""
-    for file in ("program", "leaflet/leaflet.js", "leaflet/leaflet.css", *ASSETS):
+    """The program, and the page without counties."""
+    for file in ("program", "page.html"):
         before = Path(file).read_bytes()
         with pytest.raises(Failure, match="this command reads it"):
             run_in_process(command.format(output_by("a symbolic link", os.path.abspath(file))).split())
@@ -204,7 +200,7 @@ def test_a_name_of_a_county(archive: Path) -> None:
     """No output replaces a county's file that isn't read, as when the output's own name was forgotten."""
     before = files(archive)
     for name in ("in/TGR01001.RT1", "in/TGR01003.RT1", "zips/TGR01001.ZIP", "x.zip", "x.rtz"):
-        for words in ("fingerprint -o", "diff --geojson", "diff --leaflet leaflet --page"):
+        for words in ("fingerprint -o", "diff --geojson", "diff --page"):
             with pytest.raises(Failure, match=f"{name}: can't be written: it has the name of a county's file"):
                 run_in_process([*words.split(), name, "other", "other"][: None if "diff" in words else -1])
     assert files(archive) == before
@@ -231,7 +227,7 @@ def test_files_that_are_not_read(archive: Path) -> None:
     for name in ("a", "b"):
         put(name, b"older")
         os.symlink(name, f"to-{name}")
-    assert run_in_process("diff --leaflet leaflet --page to-a --geojson to-b zips/TGR01001 other".split()) == 0
+    assert run_in_process("diff --page to-a --geojson to-b zips/TGR01001 other".split()) == 0
     assert (b"<html" in Path("a").read_bytes(), Path("b").read_bytes()[:7]) == (True, b'{"type"')
     assert run_in_process("fingerprint -o m zips".split()) == run_in_process("verify --quiet m".split()) == 0
     assert {name: Path(name).read_bytes() for name in inputs} == inputs

@@ -184,7 +184,6 @@ def add_other_commands(commands: Any) -> None:
     command.add_argument(
         "--root", metavar="FOLDER", help="with --pages or --stat: look for the names in the manifests below this folder"
     )
-    command.add_argument("--leaflet", metavar="FOLDER", help="with --pages: the folder that has leaflet.js and leaflet.css")
     command.add_argument(
         "--jobs",
         metavar="N",

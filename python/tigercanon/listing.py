@@ -36,8 +36,8 @@ def list_changes(options: argparse.Namespace, console: Console, resources: Resou
     found = changes(*options.manifests, editions=options.edition)
     if any((options.root, options.program, options.jobs)) and not (options.pages or options.stat):
         raise Failure("--root, --program and --jobs need --pages or --stat")
-    if (options.leaflet or options.force) and not options.pages:
-        raise Failure("--leaflet and --force need --pages")
+    if options.force and not options.pages:
+        raise Failure("--force needs --pages")
     if options.stat:
         list_counts(found, options, console, resources)
         return int(any(not each.is_same for each in found))
@@ -54,7 +54,7 @@ def list_changes(options: argparse.Namespace, console: Console, resources: Resou
 
 def list_pages(found: Sequence[History], options: argparse.Namespace, console: Console, resources: Resources) -> None:
     """Writes the pages of the option --pages."""
-    pages = Pages(found, options.pages, options.manifests, resources, options.root, options.leaflet, options.program, options.force)
+    pages = Pages(found, options.pages, options.manifests, resources, options.root, options.program, options.force)
     if pages.are_there:
         console.report(f"pages that are there already: {pages.are_there:,} of {len(pages.changes):,}")
     for change, why in pages.write(Progress(console, "page"), options.jobs):

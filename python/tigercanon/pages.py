@@ -5,7 +5,6 @@ from __future__ import annotations
 import html
 import json
 import os
-import re
 import sys
 from concurrent.futures import ThreadPoolExecutor
 from functools import partial
@@ -14,7 +13,7 @@ from typing import Iterator, NamedTuple, Sequence
 from urllib.parse import quote
 
 from .counties import Finder
-from .diff.page import ASSETS, find_leaflet
+from .diff.page import Carried, carried_by, find_page
 from .diff.words import SUBJECTS
 from .editions import History
 from .errors import printable, reported
@@ -28,7 +27,6 @@ from .storage import joined
 START = "import sys; sys.path[0] = sys.argv.pop(1); from tigercanon.__main__ import main; sys.exit(main())"
 PACKAGES = str(Path(__file__).resolve().parent.parent)
 NOT_THE_MAP = "on disk it isn't the map of the manifest any more"
-COUNTS = re.compile(r'"counts":(\{[^}]*\})')
 HEAD = """\
 <!DOCTYPE html>
 <html lang="en">
@@ -72,17 +70,10 @@ def changed(found: Sequence[History]) -> Iterator[Change]:
                 yield Change(each.county, names, old, new, f"{each.county}{suffix}.html".replace("/", "_"))
 
 
-def counts_in(page: Path, change: Change) -> dict[str, list[int]] | None:
-    """How many things differ, if the page is there and shows these two maps."""
-    try:
-        text = page.read_text("utf-8")
-    except (OSError, UnicodeDecodeError):
-        return None
-    counts = COUNTS.search(text)
-    if counts and all(f'class="fingerprint">{line.fingerprint}<' in text for line in (change.old, change.new)):
-        found: dict[str, list[int]] = json.loads(counts[1])
-        return found
-    return None
+def carried_for(change: Change, folder: Path) -> Carried | None:
+    """Returns what the page of a change carries, if it is there and has these two maps."""
+    carried = carried_by(folder / change.page)
+    return carried if carried and carried.fingerprints == (change.old.fingerprint, change.new.fingerprint) else None
 
 
 class Comparing:
@@ -148,29 +139,25 @@ class Pages:
         manifests: Sequence[str],
         resources: Resources,
         root: str | None = None,
-        leaflet: str | None = None,
         program: str | None = None,
         is_forced: bool = False,
     ) -> None:
         """Raises Failure if a page can't be written, before one is."""
         self.folder, self.changes, self.resources = Path(folder), [*changed(found)], resources
         self.comparing = Comparing(manifests, root, program)
-        self.index, assets = str(self.folder / "index.html"), find_leaflet(leaflet)
-        self.words = ["--leaflet", leaflet] if leaflet else []
+        self.index, template = str(self.folder / "index.html"), find_page()
         finder = Finder()
         counties = [finder.of_name(name) for change in self.changes for name in self.comparing.names_of(change)]
         read = [file.place for county in counties for file in county.places]
-        self.inputs = resources.inputs([*manifests, *read, self.comparing.program, *assets.files, *ASSETS])
+        self.inputs = resources.inputs([*manifests, *read, self.comparing.program, str(template)])
         names = [self.index, *(str(self.folder / change.page) for change in self.changes)]
         self.inputs.spare_all(names)
         self.is_forced = is_forced
-        if is_forced:
-            self.words.append("--force")
-        else:
+        if not is_forced:
             refuse_other_files(names)
         with reported(folder):
             self.folder.mkdir(parents=True, exist_ok=True)
-        self.left = [change for change in self.changes if counts_in(self.folder / change.page, change) is None]
+        self.left = [change for change in self.changes if carried_for(change, self.folder) is None]
         self.reasons: dict[str, str] = {}
 
     @property
@@ -196,8 +183,8 @@ class Pages:
     def write_one(self, resources: Resources, change: Change) -> str:
         """Writes a page by a process of its own, and returns why there is none."""
         page = self.folder / change.page
-        _, why = self.comparing.run(change, ["--summary", "--page", str(page), *self.words], resources)
-        if not why and counts_in(page, change):
+        _, why = self.comparing.run(change, ["--summary", "--page", str(page), *["--force"] * self.is_forced], resources)
+        if not why and carried_for(change, self.folder):
             return ""
         if not what_begins(str(page)):
             page.unlink(missing_ok=True)  # it doesn't show these maps
@@ -211,15 +198,15 @@ def index(folder: Path, changes: Sequence[Change], reasons: dict[str, str]) -> I
     heads = "".join(f"<th>{subject}s</th>" for subject in SUBJECTS)
     yield f"<table>\n<thead><tr><th>County</th><th>Editions</th>{heads}</tr></thead>\n<tbody>\n"
     for change in changes:
-        counts = counts_in(folder / change.page, change)
+        carried = carried_for(change, folder)
         cells = (
-            "".join(f"<td>{' / '.join(f'{count:,}' for count in counts[subject][:3])}</td>" for subject in SUBJECTS)
-            if counts
+            "".join(f"<td>{' / '.join(f'{count:,}' for count in carried.counts[subject][:3])}</td>" for subject in SUBJECTS)
+            if carried
             else ""
         )
         cells = cells or f'<td class="why" colspan="{len(SUBJECTS)}">{html.escape(reasons.get(change.page, "no page"))}</td>'
         name = html.escape(printable(change.county))
-        link = f'<a href="{html.escape(quote(os.fsencode(change.page)))}">{name}</a>' if counts else name
+        link = f'<a href="{html.escape(quote(os.fsencode(change.page)))}">{name}</a>' if carried else name
         yield f"<tr><td>{link}</td><td>{html.escape(' to '.join(change.editions))}</td>{cells}</tr>\n"
     yield "</tbody>\n</table>\n"
     others = [f'<a href="{html.escape(quote(name))}">{html.escape(name)}</a>' for name in other_pages(folder, changes)]

@@ -2,7 +2,6 @@
 
 import json
 import re
-from itertools import accumulate
 from pathlib import Path
 from typing import Any
 
@@ -10,10 +9,9 @@ from dev.maps import Point
 from dev.testing import ROOT
 from support import Ended, built_program, call
 
-from .changes import SUBJECTS, Difference, Place
+from .changes import SUBJECTS, Difference
 
 EXAMPLE = ROOT / "examples/two-maps"
-LEAFLET = Path("/usr/share/javascript/leaflet")
 KINDS = ("only in the first", "only in the second", "changed")
 
 Feature = dict[str, Any]
@@ -84,25 +82,3 @@ def told_in_geojson(path: Path) -> set[Difference]:
 def micro(position: list[float]) -> Point:
     """A position as GeoJSON has it, in millionths of a degree."""
     return round(position[0] * 1e6), round(position[1] * 1e6)
-
-
-def page_data(path: Path) -> dict[str, Any]:
-    found = re.search(r'<script type="application/json" id="data">(.*?)</script>', path.read_text("utf-8"), re.DOTALL)
-    data: dict[str, Any] = json.loads(found[1]) if found else {}
-    return data
-
-
-def told_in_page(path: Path) -> set[Difference]:
-    """The differences in a page, without feature names and ties, which have no place."""
-    data = page_data(path)
-    found = set()
-    for entry in data["entries"]:
-        if entry["what"] in SUBJECTS:
-            place = line_of(entry["line"]) if "line" in entry else tuple(line_of(point)[0] for point in entry["points"])
-            fields = frozenset(data["labels"][row[0]][0] for row in entry["rows"] if row[3:] == [1])
-            found.add(Difference(entry["what"], data["kinds"][entry["kind"]], place, fields))
-    return found
-
-
-def line_of(distances: list[int]) -> Place:
-    return tuple(zip(accumulate(distances[::2]), accumulate(distances[1::2])))

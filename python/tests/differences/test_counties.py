@@ -16,8 +16,8 @@ from support import packed, put
 from tigercanon.diff.words import TIED
 
 from .changes import SUBJECTS, Changing, made_county, much_changed, split_maps
-from .reports import EXAMPLE, KINDS, LEAFLET, Feature, diff, differing, example_differences, features_in, in_words
-from .reports import micro, page_data, told_in_geojson, told_in_page, told_in_words
+from .reports import EXAMPLE, KINDS, Feature, diff, differing, example_differences, features_in, in_words
+from .reports import micro, told_in_geojson, told_in_words
 
 SIDES = ("first", "second")
 
@@ -73,17 +73,6 @@ def test_changed(changing: Changing, files: Files, room: Path) -> None:
     table = {kind: [*(f"{counts[what, kind]:,}" for what in SUBJECTS), count] for kind, count in of_names.items()}
     rows = {line[:19].strip(): line[19:].split() for line in text.splitlines()[3:8]}
     assert rows == {"": ["chains", "landmarks", "polygons", "feature", "names"], **table}
-
-
-@pytest.mark.skipif(not (LEAFLET / "leaflet.css").exists(), reason="libjs-leaflet isn't installed")
-def test_page(changing: Changing, files: Files, room: Path) -> None:
-    differing("--page", "page.html", *files)
-    assert told_in_page(room / "page.html") == changing.differences
-    data = page_data(room / "page.html")
-    names = [entry for entry in data["entries"] if entry["what"] == "feature name"]
-    assert {(data["kinds"][entry["kind"]], entry["title"]) for entry in names} == set(changing.names)
-    assert (data["verdict"], data["notes"]) == ("", [])
-    assert len(data["alike"]["chains"]) == data["counts"]["chain"][3]
 
 
 @pytest.mark.parametrize("flags, status", [((), 1), (("--no-reserved",), 1), (("--no-sources",), 0)])

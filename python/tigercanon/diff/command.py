@@ -16,7 +16,7 @@ from ..resources import STANDARD_OUTPUT, Kept, Resources, new_files
 from .differing import found_between
 from .geojson import features, head, write_geojson
 from .matching import Comparison
-from .page import ASSETS, find_leaflet, write_page
+from .page import find_page, write_page
 from .sets import Sets, found
 from .words import KINDS, SUBJECTS, told
 
@@ -63,11 +63,10 @@ def add_arguments(parser: argparse.ArgumentParser) -> None:
     add("--stem", action="store_true", help="use FIRST and SECOND as the beginnings of names, even if such files exist")
     add("--summary", action="store_true", help="print only how many of each kind differ")
     add("--json", action="store_true", help="print the differences as JSON, or with --summary how many there are")
-    about = "write a page with a map of the differences, which needs no network; - is standard output, without the report"
+    about = "write tigercanon.html with both counties in it, which any browser compares; - is standard output, without the report"
     add("--page", metavar="FILE", help=about)
     add("--geojson", metavar="FILE", help="write the differences as GeoJSON, for any GIS; - is standard output, without the report")
     add("--all", action="store_true", help="with --geojson: also write what is the same in both maps")
-    add("--leaflet", metavar="FOLDER", help="with --page: the folder that has leaflet.js and leaflet.css")
 
 
 def run(options: argparse.Namespace, console: Console, resources: Resources) -> int:
@@ -81,8 +80,6 @@ def outputs_of(options: argparse.Namespace) -> list[str]:
     outputs = [name for name in (options.page, options.geojson) if name is not None]
     if options.all and options.geojson is None:
         raise Failure("--all needs --geojson")
-    if options.leaflet is not None and options.page is None:
-        raise Failure("--leaflet needs --page")
     if len({"-" if name in STANDARD_OUTPUT else os.path.realpath(name) for name in outputs}) < len(outputs):
         raise Failure("--page and --geojson name the same file")
     if options.json and any(name in STANDARD_OUTPUT for name in outputs):
@@ -91,22 +88,22 @@ def outputs_of(options: argparse.Namespace) -> list[str]:
 
 
 def reported_difference(options: argparse.Namespace, outputs: list[str], console: Console, resources: Resources) -> int:
-    leaflet = find_leaflet(options.leaflet) if options.page is not None else None
+    template = find_page() if options.page is not None else None
     program, kept = find_program(options.program), Kept()
     with Steps(console) as steps:
         names = (options.first, options.second)
         counties = [found(name, options.stem) for name in names]
         read = [file.place for county in counties for file in county.places]
-        inputs = resources.inputs([*read, program, *(leaflet.files if leaflet else ()), *ASSETS])
+        inputs = resources.inputs([*read, program, *([str(template)] if template else [])])
         with new_files(outputs, inputs, resources, options.force) as files:
             page, geojson = (files.get(name, kept) if name else None for name in (options.page, options.geojson))
-            with_numbers = bool(page or geojson or options.json or not options.summary)
-            differing = found_between(counties, names, program, flags_of(options), resources, steps.at, with_numbers)
+            with_numbers = bool(geojson or options.json or not options.summary)
+            differing = found_between(counties, names, program, flags_of(options), resources, steps.at, with_numbers, bool(page))
             for note in differing.notes:
                 console.report(note)
-            if page and leaflet:
+            if page and template:
                 steps.at("writing the page")
-                write_page(page, differing.comparison, differing.sets, leaflet)
+                write_page(page, template, options.page, differing.packed, differing.comparison, differing.sets)
             if geojson:
                 steps.at("writing GeoJSON")
                 write_geojson(geojson, differing.comparison, differing.sets, options.all)

@@ -2,22 +2,24 @@
 
 from __future__ import annotations
 
-from typing import Callable, NamedTuple, Sequence
+from typing import Any, Callable, NamedTuple, Sequence
 
 from ..errors import printable
 from ..judge import County
 from ..resources import Resources
 from .matching import Comparison, compare, own_numbers
+from .page import packed
 from .reading import read_county
 from .sets import Canonical, Sets, opened, printed
 
 
 class Differing(NamedTuple):
-    """Two sets, where they differ, and notes about their files."""
+    """Two sets, where they differ, notes about their files, and the files packed for a page, if they were asked for."""
 
     sets: Sets
     comparison: Comparison
     notes: list[str]
+    packed: list[dict[str, Any]]
 
 
 Step = Callable[[str], None]
@@ -31,8 +33,10 @@ def found_between(
     resources: Resources,
     at: Step = lambda _: None,
     with_numbers: bool = True,
+    with_files: bool = False,
 ) -> Differing:
-    """Where these two counties differ. at is called before each step. With with_numbers the numbers in the user's files are found too."""
+    """Finds where two counties differ. at is called before each step. With with_numbers the numbers in the user's files are found too, and
+    with with_files the files are packed."""
     with resources.part() as part:
         opened_sets = [opened(name, county, part) for name, county in zip(names, counties)]
         sources, shown = [source for source, _ in opened_sets], list(map(printable, names))
@@ -48,4 +52,5 @@ def found_between(
             at("finding the sets' own numbers")
             texts = zip(printed(program, "respell", (), sources, part), (first, second))
             comparison.own = [own_numbers(read_county(text), county, masks) for text, county in texts]
-    return Differing(sets, comparison, notes)
+        files = [packed(source) for source in sources] if with_files else []
+    return Differing(sets, comparison, notes, files)

@@ -28,7 +28,7 @@ class Text(NamedTuple):
 
     plain: str
     exact: str
-    mark: Hashable
+    mark: str
 
 
 NOTHING = Text("", "", "")  # a field that isn't there
@@ -81,7 +81,7 @@ class Teller(NamedTuple):
     def place_texts(self, landmark: Landmark | None) -> list[Text]:
         """Polygons, as a landmark's records of type 8 name them."""
         named = [(file, key[:5].strip(), self.polygon_text(key)) for file, key in (landmark.places if landmark else ())]
-        return [Text(f"{text.plain} ({cenid})", file + text.exact, (file, text.mark)) for file, cenid, text in named]
+        return [Text(f"{text.plain} ({cenid})", file + text.exact, f"{file}|{text.mark}") for file, cenid, text in named]
 
 
 def text_fields(layout: Layout, content: str, suffix: str = "") -> Fields:
@@ -125,10 +125,10 @@ def landmark_rows(first: Teller, second: Teller, one: Landmark | None, other: La
     return rows(landmark_fields(bodies[0], places[0]) if one else None, landmark_fields(bodies[1], places[1]) if other else None)
 
 
-def aligned(first: Sequence[T], second: Sequence[T], mark: Callable[[T], Hashable]) -> Pair[list[T]]:
+def aligned(first: Sequence[T], second: Sequence[T], mark: Callable[[T], str]) -> Pair[list[T]]:
     """Both lists with what they have in common at their beginning, in one order."""
     pairs, ones, others = pair_by(first, second, mark)
-    pairs.sort(key=lambda pair: repr(mark(pair[0])))
+    pairs.sort(key=lambda pair: mark(pair[0]))
     return [one for one, _ in pairs] + ones, [other for _, other in pairs] + others
 
 

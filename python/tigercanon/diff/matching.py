@@ -147,12 +147,13 @@ def match_group(ones: list[Chain], others: list[Chain], first: Teller, second: T
     matched.second += others
 
 
-def says(chain: Chain, teller: Teller) -> tuple[Hashable, ...]:
-    """The content of a chain without its points and numbers."""
-    (left, right), (start, end) = chain.sides, chain.nodes
-    sides = left[:5], right[:5], teller.marks.get(left), teller.marks.get(right)
-    names = teller.county.name_bodies(chain) if chain.feats else ()
-    return chain.body, chain.topology_body, *sides, start.isspace(), end.isspace(), names, chain.ranges
+def says(chain: Chain, teller: Teller) -> str:
+    """Returns the content of a chain without its points and numbers, as one text."""
+    left, right = chain.sides
+    sides = left[:5], right[:5], teller.marks.get(left, "-"), teller.marks.get(right, "-")
+    nodes = ",".join("no" if node.isspace() else "yes" for node in chain.nodes)
+    names = "|".join(teller.county.name_bodies(chain)) if chain.feats else ""
+    return "\n".join((chain.body, chain.topology_body, *sides, nodes, names, "|".join(chain.ranges)))
 
 
 def is_own_reverse(chain: Chain) -> bool:
@@ -166,7 +167,7 @@ def turned(chain: Chain) -> Chain:
 
 def lesser_turn(chain: Chain, teller: Teller) -> Chain:
     """The end to read a chain from, if it is its own reverse: the one with the lesser content."""
-    return min(chain, turned(chain), key=lambda seen: repr(says(seen, teller)))
+    return min(chain, turned(chain), key=lambda seen: says(seen, teller))
 
 
 def match_polygons(first: County, second: County, certain: list[Pair[Chain]]) -> Matched[Polygon]:
