@@ -31,7 +31,11 @@ def autauga(name: str = "autauga") -> dict[str, bytes]:
 
 
 def fingerprints(page: Page) -> list[str]:
-    return list(page.browser.evaluate("Array.from(document.querySelectorAll('.fingerprint .digits, code.fingerprint'), (digits) => digits.textContent)"))
+    return list(
+        page.browser.evaluate(
+            "Array.from(document.querySelectorAll('.fingerprint .digits, code.fingerprint'), (digits) => digits.textContent)"
+        )
+    )
 
 
 def fingerprint(page: Page) -> str:
@@ -52,7 +56,12 @@ def try_drops(page: Page) -> None:
     for name, text in autauga().items():
         (folder / "below" / name).write_bytes(text)
     nine = sorted((folder / "below").iterdir())
-    for what, files in {"a file": [EXAMPLES / "autauga/all.txt"], "nine files": nine, "a zip": [zip_file], "a folder": [folder]}.items():
+    for what, files in {
+        "a file": [EXAMPLES / "autauga/all.txt"],
+        "nine files": nine,
+        "a zip": [zip_file],
+        "a folder": [folder],
+    }.items():
         page.browser.start_again()
         page.browser.drop(files)
         page.holds(f"{what} that was dropped has a result", page.browser.wait_for(RESULT), page.browser.text("main"))
@@ -152,7 +161,9 @@ def try_many(page: Page) -> None:
     lines = saved.decode().splitlines(keepends=True)
     lines[2] = "0" * 64 + lines[2][64:]
     changed = page.room / "changed"
-    comments = "# 12 2026-11-29T22:20:40.7Z, 3 ?  tiger/TGR01001\n# 5 2026-11-29T22:20:40Z  refused 4 BadNumber 1 4 6  tiger/TGR01006\n"
+    comments = (
+        "# 12 2026-11-29T22:20:40.7Z, 3 ?  tiger/TGR01001\n# 5 2026-11-29T22:20:40Z  refused 4 BadNumber 1 4 6  tiger/TGR01006\n"
+    )
     changed.write_text("".join(lines[:-1]) + f"{comments}{'1' * 64}  tiger/TGR01009\n")
     page.browser.give([changed])
     compared(page, changed, folder, "a manifest after the counties")
@@ -168,7 +179,11 @@ def try_many(page: Page) -> None:
     page.browser.give([masked])
     compared(page, masked, folder, "a manifest with a flag")
     is_fixed = [True, True]
-    page.equal("the box of its flag", is_fixed, page.browser.evaluate("['checked', 'disabled'].map((is) => document.getElementById('no-sources')[is])"))
+    page.equal(
+        "the box of its flag",
+        is_fixed,
+        page.browser.evaluate("['checked', 'disabled'].map((is) => document.getElementById('no-sources')[is])"),
+    )
     page.browser.start_again()
     page.equal("the box at a new start", False, page.browser.evaluate("document.getElementById('no-sources').checked"))
 
@@ -226,7 +241,9 @@ def try_one_after_another(page: Page) -> None:
     page.equal("a county after many", ["first.txt"], [stem for stem in states(page) if "/" not in stem])
     page.show([first])
     page.browser.give([second])
-    page.holds("the differences of both", page.browser.wait_for("document.querySelector('.differences li')"), page.browser.text("main"))
+    page.holds(
+        "the differences of both", page.browser.wait_for("document.querySelector('.differences li')"), page.browser.text("main")
+    )
     page.equal("both fingerprints", list(prints.values()), fingerprints(page))
     page.browser.click("#no-sources")
     page.browser.wait_for("document.querySelector('.differences li')")

@@ -84,7 +84,9 @@ def try_refusals(page: Page) -> None:
     )
     page.equal("a right value", "500".rjust(10), page.browser.evaluate("document.querySelector('.example').textContent"))
     section = (ROOT / "docs/refusals.md").read_text().partition("### `refused 4 BadNumber PART LINE COLUMN`")[2].strip()
-    page.holds("the text of the page on refusals", page.browser.text(".guide").startswith(section[:40]), page.browser.text(".guide"))
+    page.holds(
+        "the text of the page on refusals", page.browser.text(".guide").startswith(section[:40]), page.browser.text(".guide")
+    )
     for path in sorted((EXAMPLES / "refused").glob("*.txt")):
         page.show([path])
         page.equal(path.name, page.printed("check", path), page.browser.text(".refusal .line code"))
@@ -215,13 +217,4 @@ def try_names(page: Page) -> None:
         page.holds("an announcement", page.browser.wait_for("document.getElementById('announced').textContent"))
 
 
-CASES = (
-    try_one,
-    try_masks,
-    try_refusals,
-    try_same,
-    try_different,
-    try_names,
-    try_large,
-    try_network,
-)
+CASES = (try_one, try_masks, try_refusals, try_same, try_different, try_names, try_large, try_network)

@@ -6,14 +6,18 @@ import copy
 import json
 import random
 from pathlib import Path
-from typing import Any, Callable, Sequence
+from typing import Any, Callable, Iterator, NamedTuple, Sequence
 
-from dev import maps, random_counties
+from dev import maps
 from dev.random_counties import Maker
-from dev.testing import ROOT, run
+from tigercanon.diff.differing import Differing, found_between
+from tigercanon.diff.geojson import write_geojson
+from tigercanon.diff.page import find_page, write_page
+from tigercanon.diff.sets import found
+from tigercanon.errors import Failure
+from tigercanon.resources import Kept, Resources
 
-TOOLS = ROOT / "tigercanon-tools"
-FLAGS = ([], ["--all"], ["--no-sources", "--all"], ["--no-reserved"], ["--no-sources", "--no-reserved"])
+FLAGS: Sequence[list[str]] = ([], ["--all"], ["--no-sources", "--all"], ["--no-reserved"], ["--no-sources", "--no-reserved"])
 Edit = Callable[[Maker, maps.County], None]
 
 
@@ -69,10 +73,30 @@ def wet(maker: Maker, county: maps.County) -> None:
 EDITS: Sequence[Edit] = (lose, add, move, rename, join, mask, wet)
 
 
-def pair(folder: Path, seed: str) -> list[Path] | None:
-    """Two counties in files, or None if one of them couldn't be judged in a short time."""
-    maker = Maker(random.Random(seed))
-    county = maker.county()
+class Pair(NamedTuple):
+    """Two counties in files, the flags to compare them with, and where the tools find that they differ."""
+
+    files: list[Path]
+    flags: list[str]
+    differing: Differing
+
+    @property
+    def geojson(self) -> dict[str, Any]:
+        kept = Kept()
+        write_geojson(kept, self.differing.comparison, self.differing.sets, "--all" in self.flags)
+        made: dict[str, Any] = json.loads(b"".join(kept.pieces))
+        return made
+
+    @property
+    def page(self) -> bytes:
+        """The page with both counties, as diff --page writes it."""
+        kept = Kept()
+        write_page(kept, find_page(), "page", self.differing.packed, self.differing.comparison, self.differing.sets)
+        return b"".join(kept.pieces)
+
+
+def edited(maker: Maker, county: maps.County) -> maps.County:
+    """A county after up to five changes. Nothing lies in a polygon that no chain has on a side any more."""
     other = copy.deepcopy(county)
     for _ in range(maker.some([0, 1, 1, 2, 3, 5])):
         maker.some(EDITS)(maker, other)
@@ -80,17 +104,35 @@ def pair(folder: Path, seed: str) -> list[Path] | None:
     for number, polygon in enumerate(other.polygons):
         polygon.has_record = polygon.has_record and number in used
     for landmark in other.landmarks:
-        landmark.polygons, landmark.files = ([*kept] for kept in zip(*((each, file) for each, file in zip(landmark.polygons, landmark.files) if each in used))) if any(each in used for each in landmark.polygons) else ([], [])
-    files = []
-    for name, each in (("first", county), ("second", other)):
-        if random_counties.choices(each.chains) > 5040:
-            return None
-        files.append(folder / f"{name}-{seed}.txt")
-        files[-1].write_bytes(maps.written(each, maker.chance.randrange(1000)))
+        kept = [(each, file) for each, file in zip(landmark.polygons, landmark.files) if each in used]
+        landmark.polygons, landmark.files = [each for each, _ in kept], [file for _, file in kept]
+    return other
+
+
+def written(folder: Path, seed: str) -> list[Path]:
+    """Two counties in files."""
+    maker = Maker(random.Random(seed))
+    county = maker.county()
+    files = [folder / f"{name}-{seed}.txt" for name in ("first", "second")]
+    for file, each in zip(files, (county, edited(maker, county))):
+        file.write_bytes(maps.written(each, maker.chance.randrange(1000)))
     return files
 
 
-def by_tools(program: Path, files: Sequence[Path], flags: Sequence[str]) -> dict[str, Any] | None:
-    """The GeoJSON of the tools, or None if a set was refused."""
-    ended = run([TOOLS, "diff", "--program", program, "--geojson", "-", *flags, *files])
-    return json.loads(ended.out) if ended.status in (0, 1) else None
+def compared(program: Path, files: Sequence[Path], flags: Sequence[str]) -> Differing:
+    """Where the tools find that two sets differ. Raises Failure if one is refused."""
+    names, masks = list(map(str, files)), tuple(flag for flag in flags if flag.startswith("--no-"))
+    with Resources() as resources:
+        return found_between([found(name, False) for name in names], names, str(program), masks, resources, with_files=True)
+
+
+def pairs(program: Path, folder: Path, seed: int) -> Iterator[Pair]:
+    """Pairs of counties that are accepted, without an end."""
+    number = 0
+    while True:
+        number += 1
+        files, flags = written(folder, f"{seed}-{number}"), FLAGS[number % len(FLAGS)]
+        try:
+            yield Pair(files, flags, compared(program, files, flags))
+        except Failure:
+            continue

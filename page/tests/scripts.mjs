@@ -1,4 +1,4 @@
-// The page's scripts for tests in Node, from the folder that TIGERCANON_PAGE names, which page/assemble fills; by default out/page.
+// The page's scripts for tests in Node, from the folder that PAGE_FOLDER names, which page/assemble fills; by default out/page.
 import assert from "node:assert/strict";
 import { readFileSync } from "node:fs";
 import { dirname, resolve } from "node:path";
@@ -6,7 +6,7 @@ import { test } from "node:test";
 import { fileURLToPath } from "node:url";
 
 export const root = resolve(dirname(fileURLToPath(import.meta.url)), "../..");
-export const folder = resolve(process.env.TIGERCANON_PAGE ?? `${root}/out/page`);
+export const folder = resolve(process.env.PAGE_FOLDER ?? `${root}/out/page`);
 
 export const take = (name) => import(`${folder}/scripts/${name}.js`);
 export const engineBytes = () => new Uint8Array(readFileSync(`${folder}/engine.wasm`));

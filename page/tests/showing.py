@@ -58,7 +58,13 @@ def try_one_screen(page: Page) -> None:
     show_town(page)
     parts = ".map, .kinds, .filter input, .differences, .side .actions button, .sets, .verdict, footer"
     inside = "(each) => { const { left, top, right, bottom } = each.getBoundingClientRect(); return left >= 0 && top >= 0 && right <= 1280 && bottom <= 800; }"
-    page.equal("what isn't on the screen", [], page.browser.evaluate(f"[...document.querySelectorAll('{parts}')].filter((each) => !({inside})(each)).map((each) => each.className || each.tagName)"))
+    page.equal(
+        "what isn't on the screen",
+        [],
+        page.browser.evaluate(
+            f"[...document.querySelectorAll('{parts}')].filter((each) => !({inside})(each)).map((each) => each.className || each.tagName)"
+        ),
+    )
     fingerprints = [page.printed("fingerprint", file) for file in TOWN]
     lines = [text.split() for text in page.browser.texts(".sets tr")]
     page.equal("the first line", ["FIRST", "first.txt", fingerprints[0], "Copy"], lines[0])
@@ -105,7 +111,8 @@ def try_values(page: Page) -> None:
 def search(page: Page, text: str) -> list[str]:
     """The names of what the list has with these words."""
     page.browser.driver.execute_script(
-        "const [text] = arguments, box = document.getElementById('filter'); document.querySelector('.listed').textContent = ''; box.value = text; box.dispatchEvent(new Event('input'))", text
+        "const [text] = arguments, box = document.getElementById('filter'); document.querySelector('.listed').textContent = ''; box.value = text; box.dispatchEvent(new Event('input'))",
+        text,
     )
     page.browser.wait_for("document.querySelector('.listed').textContent")
     return page.browser.texts(".differences .name")
@@ -146,19 +153,23 @@ def coloured(page: Page, name: str) -> int:
 
 
 def switch(page: Page, label: str) -> None:
-    page.browser.driver.execute_script(
-        "document.querySelector(`.kinds input[aria-label^='${arguments[0]}']`).click()", label
-    )
+    page.browser.driver.execute_script("document.querySelector(`.kinds input[aria-label^='${arguments[0]}']`).click()", label)
     page.browser.wait_for(DRAWN)
 
 
 def try_kinds(page: Page) -> None:
     """Each kind has its form in the key, and each subject of it a switch for the map and the list."""
     show_town(page)
-    forms = page.browser.evaluate("[...document.querySelectorAll('.kinds .swatch')].map((each) => [each.querySelector('line').getAttribute('stroke-dasharray') !== '', each.querySelectorAll('line').length, each.textContent])")
+    forms = page.browser.evaluate(
+        "[...document.querySelectorAll('.kinds .swatch')].map((each) => [each.querySelector('line').getAttribute('stroke-dasharray') !== '', each.querySelectorAll('line').length, each.textContent])"
+    )
     page.equal("dash, edges and sign of each kind", [[True, 1, "−"], [False, 1, "+"], [False, 2, "≠"], [False, 1, ""]], forms)
     page.equal("switches", 11, len(page.browser.texts(".kinds input")))
-    for label, colour, left in (("chains only in the first", "first", 21), ("chains only in the second", "second", 17), ("chains changed", "changed", 6)):
+    for label, colour, left in (
+        ("chains only in the first", "first", 21),
+        ("chains only in the second", "second", 17),
+        ("chains changed", "changed", 6),
+    ):
         before = coloured(page, colour)
         switch(page, label)
         page.browser.wait_for(f"document.querySelectorAll('.differences li').length === {left}")
@@ -166,7 +177,9 @@ def try_kinds(page: Page) -> None:
         page.holds(f"the map without {label}", coloured(page, colour) < before / 2, coloured(page, colour))
     for label, left in (("landmarks changed", 5), ("polygons changed", 3), ("names only in the second", 2)):
         switch(page, label)
-        page.holds(f"the list without {label}", page.browser.wait_for(f"document.querySelectorAll('.differences li').length === {left}"))
+        page.holds(
+            f"the list without {label}", page.browser.wait_for(f"document.querySelectorAll('.differences li').length === {left}")
+        )
     page.equal("nothing changed is on the map", 0, coloured(page, "changed"))
     before = coloured(page, "alike")
     switch(page, "polygons alike")
@@ -180,10 +193,27 @@ def try_card(page: Page) -> None:
     page.browser.click(".differences li:nth-child(14) > button")
     page.holds("a card", page.browser.wait_for(CARD), page.browser.text(".chart"))
     text = page.browser.text(".place-card")
-    page.holds("the card's words", all(word in text for word in ("≠ chain changed", "Hickory Ave (A41)", "900", "998", "TLID 178 and 1977", "28 fields are the same")), text)
-    box, chart = page.browser.evaluate("['.place-card', '.chart'].map((each) => { const { left, top, right, bottom } = document.querySelector(each).getBoundingClientRect(); return [left, top, right, bottom]; })")
-    page.holds("the card is on the map", box[0] >= chart[0] and box[1] >= chart[1] and box[2] <= chart[2] and box[3] <= chart[3], [box, chart])
-    page.equal("the item of the list", "true", page.browser.evaluate("document.querySelector('.differences li:nth-child(14) > button').getAttribute('aria-current')"))
+    page.holds(
+        "the card's words",
+        all(
+            word in text
+            for word in ("≠ chain changed", "Hickory Ave (A41)", "900", "998", "TLID 178 and 1977", "28 fields are the same")
+        ),
+        text,
+    )
+    box, chart = page.browser.evaluate(
+        "['.place-card', '.chart'].map((each) => { const { left, top, right, bottom } = document.querySelector(each).getBoundingClientRect(); return [left, top, right, bottom]; })"
+    )
+    page.holds(
+        "the card is on the map",
+        box[0] >= chart[0] and box[1] >= chart[1] and box[2] <= chart[2] and box[3] <= chart[3],
+        [box, chart],
+    )
+    page.equal(
+        "the item of the list",
+        "true",
+        page.browser.evaluate("document.querySelector('.differences li:nth-child(14) > button').getAttribute('aria-current')"),
+    )
     page.holds("the chosen chain is marked", coloured(page, "chosen") > 50, coloured(page, "chosen"))
     page.browser.click(".place-card .close")
     page.equal("a closed card", True, page.browser.evaluate(CLOSED))
@@ -201,7 +231,9 @@ def try_click(page: Page) -> None:
     show_town(page)
     page.browser.click(".differences li:nth-child(14) > button")
     page.browser.wait_for(CARD)
-    x, y = page.browser.evaluate("(({ left, bottom, width }) => { const map = document.querySelector('.map').getBoundingClientRect(); return [left + width / 2 - map.left, bottom - map.top]; })(document.querySelector('.place-card').getBoundingClientRect())")
+    x, y = page.browser.evaluate(
+        "(({ left, bottom, width }) => { const map = document.querySelector('.map').getBoundingClientRect(); return [left + width / 2 - map.left, bottom - map.top]; })(document.querySelector('.place-card').getBoundingClientRect())"
+    )
     page.browser.click(".place-card .close")
     click_map(page, x - 4, y + 50)  # the chain begins below the card
     page.browser.wait_for("document.querySelector('.place-card .kind.changed')")
@@ -218,7 +250,9 @@ def try_click(page: Page) -> None:
 def try_rulers(page: Page) -> None:
     """The map's scale is in metres and in feet."""
     show_town(page)
-    found = page.browser.evaluate("[...document.querySelectorAll('.rulers div')].map((each) => [each.textContent, each.offsetWidth])")
+    found = page.browser.evaluate(
+        "[...document.querySelectorAll('.rulers div')].map((each) => [each.textContent, each.offsetWidth])"
+    )
     units = {"m": 1.0, "km": 1000.0, "ft": 0.3048, "mi": 1609.344}
     metres = [float(text.split()[0]) * units[text.split()[1]] / pixels for text, pixels in found]
     page.equal("units", ["m", "ft"], [text.split()[1] for text, _ in found])
@@ -230,7 +264,13 @@ def try_rulers(page: Page) -> None:
 def try_keyboard(page: Page) -> None:
     """The list is one stop of the tabulator key, arrow keys go along it, and chains can be reached on the map."""
     show_town(page)
-    page.equal("stops in the list", 1, page.browser.evaluate("document.querySelectorAll('.differences [tabindex=\"0\"], .differences button:not([tabindex])').length"))
+    page.equal(
+        "stops in the list",
+        1,
+        page.browser.evaluate(
+            "document.querySelectorAll('.differences [tabindex=\"0\"], .differences button:not([tabindex])').length"
+        ),
+    )
     focused = "[...document.querySelectorAll('.differences li')].indexOf(document.activeElement.parentElement)"
     page.browser.driver.execute_script("document.querySelector('.differences button[tabindex=\"0\"]').focus()")
     found = []
@@ -239,12 +279,18 @@ def try_keyboard(page: Page) -> None:
         found.append(page.browser.evaluate(focused))
     page.equal("the items that keys go to", [1, 2, 1, 24, 24, 0, 0], found)
     press(page, "Enter")
-    page.holds("a card by the keyboard", page.browser.wait_for("document.activeElement.closest('.place-card')"), page.browser.text(".chart"))
+    page.holds(
+        "a card by the keyboard",
+        page.browser.wait_for("document.activeElement.closest('.place-card')"),
+        page.browser.text(".chart"),
+    )
     press(page, "Escape")
     page.equal("back in the list", [0, True], page.browser.evaluate(f"[{focused}, {CLOSED}]"))
     page.browser.driver.execute_script("document.querySelector('.map').focus()")
     press(page, "Enter")
-    page.holds("a chain of the map", page.browser.wait_for("document.activeElement.closest('.place-card')"), page.browser.text(".chart"))
+    page.holds(
+        "a chain of the map", page.browser.wait_for("document.activeElement.closest('.place-card')"), page.browser.text(".chart")
+    )
     press(page, "Escape")
     page.equal("a closed card", True, page.browser.evaluate(CLOSED))
 
@@ -253,7 +299,9 @@ def try_exchange(page: Page) -> None:
     """First and second can be exchanged."""
     show_town(page)
     counts = page.browser.texts(".kinds td:not(:first-child)")
-    page.browser.driver.execute_script("[...document.querySelectorAll('.sets button')].find((each) => each.innerText.includes('Exchange')).click()")
+    page.browser.driver.execute_script(
+        "[...document.querySelectorAll('.sets button')].find((each) => each.innerText.includes('Exchange')).click()"
+    )
     page.browser.wait_for("document.querySelector('.sets .name')?.innerText === 'second.txt'")
     page.browser.wait_for(LISTED)
     page.equal("the names", ["second.txt", "first.txt"], page.browser.texts(".sets .name"))
@@ -314,10 +362,16 @@ def try_one_map(page: Page) -> None:
     page.browser.wait_for("document.querySelectorAll('.ways dd').length > 3")
     ways = dict(zip(page.browser.texts(".ways dt"), page.browser.texts(".ways dd")))
     # examples/README.md has the counts.
-    page.equal("numbers", "other numbers for 7 of 7 chains (TLID), 2 of 2 names (FEAT), 3 of 3 landmarks (LAND), 3 of 3 polygons (POLYID)", ways.get("Numbers"))
+    page.equal(
+        "numbers",
+        "other numbers for 7 of 7 chains (TLID), 2 of 2 names (FEAT), 3 of 3 landmarks (LAND), 3 of 3 polygons (POLYID)",
+        ways.get("Numbers"),
+    )
     page.equal("direction", "4 of 7 chains run the other way", ways.get("Direction"))
     page.holds("order", ways.get("Order", "").startswith("another order of chains"), ways)
-    page.holds("spelling", ways.get("Spelling", "").startswith("lines end in LF in the first and in LF and CR LF in the second"), ways)
+    page.holds(
+        "spelling", ways.get("Spelling", "").startswith("lines end in LF in the first and in LF and CR LF in the second"), ways
+    )
 
 
 PRINTED = "dispatchEvent(new Event('beforeprint'))"
@@ -326,7 +380,11 @@ VISIBLE_BUTTONS = "[...document.querySelectorAll('button')].filter((each) => eac
 
 def luminance(colour: str) -> float:
     """The relative luminance of a colour as a browser gives it: rgb(..) or #rrggbb."""
-    numbers = [int(part, 16) for part in re.findall("[0-9a-f]{2}", colour[1:])] if colour.startswith("#") else [int(part) for part in re.findall(r"\d+", colour)[:3]]
+    numbers = (
+        [int(part, 16) for part in re.findall("[0-9a-f]{2}", colour[1:])]
+        if colour.startswith("#")
+        else [int(part) for part in re.findall(r"\d+", colour)[:3]]
+    )
     red, green, blue = [each / 255 / 12.92 if each <= 10 else ((each / 255 + 0.055) / 1.055) ** 2.4 for each in numbers]
     return 0.2126 * red + 0.7152 * green + 0.0722 * blue
 
@@ -349,7 +407,9 @@ def on_paper(page: Page, name: str) -> None:
     page.equal(f"buttons of {name} on paper", [], page.browser.evaluate(VISIBLE_BUTTONS))
     ink, paper = page.browser.evaluate("[getComputedStyle(document.body).color, getComputedStyle(document.body).backgroundColor]")
     page.holds(f"dark ink for {name} on white paper", contrast(ink, paper) > 10 and luminance(paper) == 1, [ink, paper])
-    top, bottom = page.browser.evaluate("[document.querySelector('footer').getBoundingClientRect().top, document.querySelector('#results').getBoundingClientRect().bottom]")
+    top, bottom = page.browser.evaluate(
+        "[document.querySelector('footer').getBoundingClientRect().top, document.querySelector('#results').getBoundingClientRect().bottom]"
+    )
     page.holds(f"{name} ends above the footer", bottom <= top, [bottom, top])
     # Grey lines and marks would be light on paper if they were drawn for a dark screen.
     page.holds(f"the map of {name} in colours for paper", coloured(page, "map-road" if name == "one county" else "alike") > 100)
@@ -365,11 +425,19 @@ def try_printing(page: Page) -> None:
     media(page, "", "dark")
     show_town(page)
     on_paper(page, "two counties")
-    page.equal("what is printed", "Printed: all 25 differences, and of each at most three fields. The saved GeoJSON has all differences and all fields.", page.browser.text(".printed"))
+    page.equal(
+        "what is printed",
+        "Printed: all 25 differences, and of each at most three fields. The saved GeoJSON has all differences and all fields.",
+        page.browser.text(".printed"),
+    )
     off_paper(page)
     search(page, "hickory")
     media(page, "print")
-    page.holds("what is printed of a part", page.browser.text(".printed").startswith("Printed: the 2 of 25 differences that were listed,"), page.browser.text(".printed"))
+    page.holds(
+        "what is printed of a part",
+        page.browser.text(".printed").startswith("Printed: the 2 of 25 differences that were listed,"),
+        page.browser.text(".printed"),
+    )
     media(page, "", "dark")
     resize(page, LAPTOP)
     page.show(TOWN[:1])
@@ -403,15 +471,29 @@ def try_phone(page: Page) -> None:
     other = page.room / "same.txt"
     other.write_bytes((EXAMPLES / "autauga-renumbered/all.txt").read_bytes())
     autauga = EXAMPLES / "autauga/all.txt"
-    for files, until in ((TOWN[:1], RESULT), ([EXAMPLES / "broken.txt"], RESULT), ([autauga, other], DRAWN), ([autauga, other, TOWN[0], EXAMPLES / "broken.txt"], "document.querySelector('.many .actions button')"), (TOWN, LISTED)):
+    for files, until in (
+        (TOWN[:1], RESULT),
+        ([EXAMPLES / "broken.txt"], RESULT),
+        ([autauga, other], DRAWN),
+        ([autauga, other, TOWN[0], EXAMPLES / "broken.txt"], "document.querySelector('.many .actions button')"),
+        (TOWN, LISTED),
+    ):
         resize(page, PHONE)
         page.show(files, until)
-        page.equal(f"the width with {len(files)} files", 390, page.browser.evaluate("Math.max(document.documentElement.scrollWidth, innerWidth)"))
+        page.equal(
+            f"the width with {len(files)} files",
+            390,
+            page.browser.evaluate("Math.max(document.documentElement.scrollWidth, innerWidth)"),
+        )
     page.browser.command("Emulation.setTouchEmulationEnabled", enabled=True)
     page.browser.driver.execute_script("document.querySelector('.map').scrollIntoView({ block: 'center' })")
     before = page.browser.evaluate("scrollY")
     drag(page, [(190, 480)], lambda step: [(190, 480 - 12 * step)])
-    page.holds("a finger scrolls past the map", page.browser.wait_for(f"scrollY > {before + 50}"), [before, page.browser.evaluate("scrollY")])
+    page.holds(
+        "a finger scrolls past the map",
+        page.browser.wait_for(f"scrollY > {before + 50}"),
+        [before, page.browser.evaluate("scrollY")],
+    )
     page.equal("a hint", "Two fingers move the map", page.browser.text(".tip"))
     page.browser.driver.execute_script("document.querySelector('.map').scrollIntoView({ block: 'center' })")
     rulers = page.browser.texts(".rulers div")
@@ -419,33 +501,65 @@ def try_phone(page: Page) -> None:
     page.holds("two fingers zoom it", page.browser.texts(".rulers div") != rulers, rulers)
     page.browser.command("Emulation.setTouchEmulationEnabled", enabled=False)
     page.browser.click(".differences li:nth-child(14) > button")
-    page.holds("the fields below an item of the list", page.browser.wait_for("document.querySelector('.differences .inside tr')"), page.browser.text(".list"))
+    page.holds(
+        "the fields below an item of the list",
+        page.browser.wait_for("document.querySelector('.differences .inside tr')"),
+        page.browser.text(".list"),
+    )
 
 
 def try_likely_cause(page: Page) -> None:
     """A missing file comes first, if what is refused is that records aren't there."""
     stem = EXAMPLES / "autauga/TGR01001"
     resize(page, LAPTOP)
-    for kinds, name, missing in (("1245678P", "14 LinkMissing", ".RTI"), ("124678IP", "17 NameUnknown", ".RT5"), ("124568IP", "19 LandUnknown", ".RT7")):
+    for kinds, name, missing in (
+        ("1245678P", "14 LinkMissing", ".RTI"),
+        ("124678IP", "17 NameUnknown", ".RT5"),
+        ("124568IP", "19 LandUnknown", ".RT7"),
+    ):
         page.show([stem.with_suffix(f".RT{kind}") for kind in kinds])
         first = page.browser.text(".refusal > :first-child")
         page.holds(f"the refusal without {missing}", name in page.browser.text(".refusal .line"), page.browser.text(".refusal"))
-        page.equal(f"the likely cause without {missing}", f"The likely cause: there is no {missing}. Add what belongs to the county, and try again.", first)
+        page.equal(
+            f"the likely cause without {missing}",
+            f"The likely cause: there is no {missing}. Add what belongs to the county, and try again.",
+            first,
+        )
 
 
 def try_contrast(page: Page) -> None:
     """Borders of what can be used, and what is drawn on maps, stand out from what is behind them."""
-    names = ["edge", "first", "second", "changed", "alike", "chosen", "map-highway", "map-main", "map-road", "map-rail", "map-water", "map-boundary", "map-other", "map-landmark"]
+    names = [
+        "edge",
+        "first",
+        "second",
+        "changed",
+        "alike",
+        "chosen",
+        "map-highway",
+        "map-main",
+        "map-road",
+        "map-rail",
+        "map-water",
+        "map-boundary",
+        "map-other",
+        "map-landmark",
+    ]
     for scheme in ("light", "dark"):
         media(page, "", scheme)
-        styles = page.browser.evaluate("arguments[0].map((name) => getComputedStyle(document.documentElement).getPropertyValue('--' + name).trim())", [*names, "paper", "raised", "ground"])
+        styles = page.browser.evaluate(
+            "arguments[0].map((name) => getComputedStyle(document.documentElement).getPropertyValue('--' + name).trim())",
+            [*names, "paper", "raised", "ground"],
+        )
         behind = styles[len(names) :]
         for name, colour in zip(names, styles):
             least = min(contrast(colour, each) for each in (behind if name == "edge" else behind[:1]))
             page.holds(f"the contrast of {name}, {scheme}", least >= LEAST_CONTRAST, f"{least:.2f}")
     media(page)
     show_town(page)
-    edge = page.browser.evaluate("['.filter input', '.side .actions button:not(.main)', '.chart', '.differences'].map((each) => getComputedStyle(document.querySelector(each)).borderTopColor)")
+    edge = page.browser.evaluate(
+        "['.filter input', '.side .actions button:not(.main)', '.chart', '.differences'].map((each) => getComputedStyle(document.querySelector(each)).borderTopColor)"
+    )
     page.equal("borders", [], [colour for colour in edge if contrast(colour, "#f4f6f8") < LEAST_CONTRAST])
 
 
@@ -476,7 +590,13 @@ def try_readers(page: Page) -> None:
         page.browser.wait_for(DRAWN)
         said = page.browser.evaluate("window.said")
         page.equal(f"announcements of {verdict}", 1, len([text for text in dict.fromkeys(said) if verdict in text]))
-        page.equal("live regions with the verdict", 1, page.browser.evaluate(f"[...document.querySelectorAll('[aria-live], [role=status], [role=alert]')].filter((each) => each.textContent.includes('{verdict}')).length"))
+        page.equal(
+            "live regions with the verdict",
+            1,
+            page.browser.evaluate(
+                f"[...document.querySelectorAll('[aria-live], [role=status], [role=alert]')].filter((each) => each.textContent.includes('{verdict}')).length"
+            ),
+        )
         page.equal("identifiers that are there twice", [], page.browser.evaluate(IDENTIFIERS))
 
 

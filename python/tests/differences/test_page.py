@@ -95,7 +95,10 @@ def test_a_page_that_would_be_too_large(room: Path, program: str, monkeypatch: p
     monkeypatch.setattr(pages, "LARGEST_PAGE", size - 1)
     with pytest.raises(pages.Failure) as failed:
         commands.perform(options, Console(), Resources(prints=True))
-    assert str(failed.value) == f"page.html: can't be written: the page would have {size:,} bytes, more than {size - 1:,}: use --geojson"
+    assert (
+        str(failed.value)
+        == f"page.html: can't be written: the page would have {size:,} bytes, more than {size - 1:,}: use --geojson"
+    )
     assert not os.path.exists("page.html") and not os.path.exists("map.geojson")
     monkeypatch.setattr(pages, "LARGEST_PAGE", size)
     assert commands.perform(options, Console(), Resources(prints=True)) == 1

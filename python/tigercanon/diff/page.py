@@ -25,7 +25,9 @@ PACKAGE = Path(__file__).resolve().parent.parent
 PLACES = (PACKAGE, PACKAGE.parent.parent / "out/page", PACKAGE.parent.parent / "prebuilt", PACKAGE.parent.parent)
 """Where the page is: in an installed package, built here, in a clone, and in a release."""
 EMPTY = '<script type="application/json" id="counties"></script>'
-CARRIED = re.compile(r'<script type="application/json" id="counties">\{"fingerprints": \["(\w{64})", "(\w{64})"\], "counts": (\{[^}]*\})')
+CARRIED = re.compile(
+    r'<script type="application/json" id="counties">\{"fingerprints": \["(\w{64})", "(\w{64})"\], "counts": (\{[^}]*\})'
+)
 END = b"</html>\n"
 HEAD = 4096  # bytes of a page that have its fingerprints and counts in them
 LARGEST_PAGE = 60_000_000
@@ -61,15 +63,21 @@ def packed(source: Source) -> dict[str, Any]:
     return {"name": printable(source.name), "files": files}
 
 
-def write_page(file: Writable, page: Path, name: str, counties: Sequence[dict[str, Any]], comparison: Comparison, sets: Sets) -> None:
+def write_page(
+    file: Writable, page: Path, name: str, counties: Sequence[dict[str, Any]], comparison: Comparison, sets: Sets
+) -> None:
     """Writes the page with these counties. Raises Failure if it would be too large."""
     counts = {subject: part.counts for subject, part in zip(SUBJECTS, comparison.parts)}
     fingerprints = [sets.first.fingerprint, sets.second.fingerprint]
     # JSON in which no letter begins a tag, whatever the input says.
-    text = json.dumps({"fingerprints": fingerprints, "counts": counts, "masks": sets.masks, "counties": counties}).replace("<", "\\u003c")
+    text = json.dumps({"fingerprints": fingerprints, "counts": counts, "masks": sets.masks, "counties": counties}).replace(
+        "<", "\\u003c"
+    )
     filled = page.read_text("utf-8").replace(EMPTY, EMPTY.replace("><", f">{text}<"), 1).encode()
     if len(filled) > LARGEST_PAGE:
-        raise Failure(f"{name}: can't be written: the page would have {len(filled):,} bytes, more than {LARGEST_PAGE:,}: use --geojson")
+        raise Failure(
+            f"{name}: can't be written: the page would have {len(filled):,} bytes, more than {LARGEST_PAGE:,}: use --geojson"
+        )
     file.write(filled)
 
 
