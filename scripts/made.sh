@@ -121,7 +121,8 @@ prove_program() {
     CDPATH="" cd -- "$root/crates" && attend setsid rt all check --jobs "${jobs:-1}" >&2 &&
         cd tigercanon_main && attend setsid rt run -- respell /dev/null >&2 || stop "the program isn't proved"
     built="$root/crates/tigercanon_main/out/tigercanon_main"
-    cp -- "$built" "$stage/tigercanon" && cp -- "$built.o" "$stage/tigercanon.o" || stop "$root/out can't be written"
+    cp -- "$built" "$stage/tigercanon" || stop "$root/out can't be written"
+    if [ -e "$built.o" ]; then cp -- "$built.o" "$stage/tigercanon.o" || stop "$root/out can't be written"; fi
     [ "$(hash_of_sources)" = "$sources" ] || stop "a source was edited meanwhile, so the program isn't that of the sources as they are"
     keep "$stage" "$root/out" "$sources" || stop "$root/out can't be written"
 }
