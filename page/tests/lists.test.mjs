@@ -2,6 +2,7 @@
 import { engineBytes, equal, example, take } from "./scripts.mjs";
 
 const engine = await take("engine");
+const { LANDMARK } = await take("contents");
 const { fileDifferences } = await take("file_differences");
 const { Findings } = await take("findings");
 const { ALIKE, CHANGED, FIRST, keyOfKind, SECOND } = await take("kinds");
@@ -9,7 +10,9 @@ const { isShownAtFirst } = await take("kinds_table");
 const { leftOut } = await take("manifests");
 const { compareCounties, ownNumbers } = await take("matching");
 const { shownName } = await take("names");
+const { POINT_WIDTH } = await take("points");
 const { readCounty } = await take("records");
+const { tiedPoint } = await take("ties");
 const { sentenceOf } = await take("two");
 
 equal("what is shown at first", [true, true, false, true, false, true, false], [["chain", ALIKE, 1e6], ["landmark", ALIKE, 500], ["landmark", ALIKE, 501], ["polygon", CHANGED, 5000], ["polygon", CHANGED, 5001], ["chain", FIRST, 9e9], ["polygon", ALIKE, 1]].map((each) => isShownAtFirst(...each)));
@@ -85,3 +88,11 @@ equal("a node that is two in the second map", [1, 1, "tie", true], [tied.summary
 equal("what differs is how they are joined", "All chains, landmarks, polygons and feature names are alike", tied.summary().verdict.split(".")[0]);
 equal("found by where it is", [1, 0], [tied.list({ text: "one node in the first", hidden: [], from: 0 }).count, tied.list({ text: "polygon", hidden: [], from: 0 }).count]);
 equal("one map has no ties", [0, 0], (({ ties, total }) => [ties, total])(joined(text, text).summary()));
+
+// A landmark's place is its own point, in its first record; a chain's is the end that is meant, or else its middle.
+const pointed = counties[0].landmarks.filter(({ bodies: [body] }) => LANDMARK.value(body, "LALONG, LALAT").trim());
+const two = pointed.slice(0, 2).map(({ bodies }) => bodies[0]);
+equal("the place of a landmark", LANDMARK.value(two[0], "LALONG, LALAT"), tiedPoint({ landmark: { bodies: two } }));
+const chain = counties[0].chains.find(({ points }) => points.length === 5 * POINT_WIDTH);
+const places = ["start", "end", "left side"].map((place) => tiedPoint({ chain, place }));
+equal("the places of a chain", [0, 4, 2].map((at) => chain.points.slice(at * POINT_WIDTH, (at + 1) * POINT_WIDTH)), places);

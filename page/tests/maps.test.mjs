@@ -5,6 +5,7 @@ const { CLASSES, classOf } = await take("classes");
 const { boundsOf, byStyle, chainNear, draw, specksOf, Squares, strokesOf } = await take("drawing");
 const { ALIKE, CHANGED, FIRST, KIND_LINES, SECOND } = await take("kinds");
 const { drawMark } = await take("marks");
+const { Shapes } = await take("shapes");
 const { View } = await take("view");
 
 // The classes of roads are those of the CFCC: A1 has limited access, A2 and A3 are main roads, A4 and more are others.
@@ -93,6 +94,17 @@ const thinned = recorder();
 await draw(thinned, view, { ...dense, bounds: boundsOf(dense).bounds }, [[ALIKE, [0, 1, 2]]], styles, () => false, () => {}, Infinity);
 equal("of two small chains of a place one is drawn, and the long one", 2, thinned.calls.filter(([name]) => name === "moveTo").length);
 
+// A map across the line of 180 degrees is moved to one side; one on one side isn't.
+const crossing = (longitudes) => {
+  const made = new Shapes(1, longitudes.length);
+  for (const longitude of longitudes) made.add(longitude, 1);
+  made.endChain(4);
+  const { places, shift, starts, classes } = made.sent();
+  return [[...places].filter((_, at) => at % 2 === 0), shift, [...starts], [...classes]];
+};
+equal("a map across the line of 180 degrees", [[-180_000_001, -179_999_999, -180_500_000], 360_000_000, [0, 3], [4]], crossing([179_999_999, -179_999_999, 179_500_000]));
+equal("a map on one side of it", [[-86_000_000, -85_000_000], 0, [0, 2], [4]], crossing([-86_000_000, -85_000_000]));
+
 const near = (x, y, isShown = () => true) => chainNear(view, layer, x, y, 8, isShown);
 equal("the chain at a place", 0, near(view.x(250), view.y(250) + 3));
 equal("no chain within reach", -1, near(view.x(900), view.y(100)));
@@ -104,6 +116,11 @@ const marked = (mark) => {
   drawMark(context, 10, 20, mark, "paper");
   return context.calls;
 };
+const rounded = (calls, name) => calls.filter(([each]) => each === name).map(([, ...place]) => place.map((value) => Math.round(value * 100) / 100));
+const signOf = (sign) => ["moveTo", "lineTo"].map((name) => rounded(marked({ color: "ink", radius: 10, sign }), name));
+equal("the sign for less", [[[4.5, 20]], [[15.5, 20]]], signOf("−"));
+equal("the sign for more", [[[4.5, 20], [10, 14.5]], [[15.5, 20], [10, 25.5]]], signOf("+"));
+equal("the sign for another", [[[4.5, 17.8], [4.5, 22.2], [7.25, 25.5]], [[15.5, 17.8], [15.5, 22.2], [12.75, 14.5]]], signOf("≠"));
 equal("a circle with the sign for more", ["arc", 2], [marked({ color: "ink", radius: 7, sign: "+" })[1][0], marked({ color: "ink", radius: 7, sign: "+" }).filter(([name]) => name === "lineTo").length]);
 equal("a square for a polygon", ["rect", 3, 13, 14, 14], marked({ color: "ink", radius: 7, sign: "≠", isSquare: true })[1]);
 equal("a filled mark", ["ink", "paper"], (({ fillStyle, strokeStyle }) => [fillStyle ?? "", strokeStyle])(marked({ color: "ink", radius: 7, sign: "−" }).find(([name]) => name === "stroke")[1]));
