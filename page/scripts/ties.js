@@ -46,7 +46,7 @@ export function eachTied(chain, twin, first, second, add) {
     const mark = first.marks.get(one);
     if (mark !== undefined && mark === second.marks.get(other)) add("polygon", one, other, place);
   }
-  if (!chain.feats.length || chain.feats.length !== twin.feats.length) return;
+  if (!chain.feats.length) return;
   if (first.county.nameBodies(chain).join("\n") !== second.county.nameBodies(twin).join("\n")) return;
   chain.feats.forEach((feat, at) => add("feature name", feat, twin.feats[at], `further name ${at + 1}`));
 }

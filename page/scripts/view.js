@@ -8,17 +8,14 @@ const LARGEST_SCALE = 2; // pixels for a millionth of a degree
 
 export class View {
   constructor(bounds) {
-    this.bounds = bounds;
+    Object.assign(this, { bounds, isWhole: true });
     const middle = (bounds[1] + bounds[3]) / 2e6;
     this.squeeze = Math.max(0.05, Math.cos((middle * Math.PI) / 180));
-    [this.width, this.height] = [1, 1];
-    this.showWhole();
   }
 
   resize(width, height) {
-    const isFirst = this.width === 1;
     Object.assign(this, { width, height });
-    if (isFirst || this.isWhole) this.showWhole();
+    if (this.isWhole) this.showWhole();
   }
 
   showWhole() {

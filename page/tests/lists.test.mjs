@@ -39,6 +39,14 @@ equal("other numbers", "other numbers for 7 of 7 chains (TLID), 2 of 2 names (FE
 equal("other directions", "4 of 7 chains run the other way", renumbered.Direction);
 equal("other records", "the shape points or names of 6 of 7 chains are divided differently among records", renumbered.Division);
 equal("a file and itself", { Numbers: "the same", Order: "the same", Direction: "the same", Division: "the same" }, (({ Spelling, ...rest }) => rest)(ways("autauga/all.txt", "autauga/all.txt")));
+const canonicalText = respelled("autauga/all.txt").text;
+const respelt = { parts: [canonicalText], text: canonicalText };
+const cut = Buffer.from(canonicalText).toString("latin1").split("\n").slice(0, -1).map((line, place) => (place % 10 === 3 ? line.replace(/^(.)2006/, "$1  06") : line));
+const other = { parts: [cut.slice(0, 9), cut.slice(9)].map((each) => new Uint8Array(Buffer.from(`${each.join("\r\n")}\r\n`, "latin1"))), text: canonicalText };
+const respeltCounty = canonical("autauga/all.txt");
+const spelling = (...files) => fileDifferences(files, respeltCounty, masks).find(({ label }) => label === "Spelling").text;
+equal("lines that aren't in canonical spelling", "lines end in CR LF in the first and in LF in the second; 3 of 33 lines of the first aren't in canonical spelling", spelling(other, respelt));
+equal("lines that are", "the same", spelling(respelt, respelt));
 const spelled = ways("types-1-and-I.txt", "other-spelling.txt");
 equal("another spelling", ["the same", "the same", "the same", "the same"], [spelled.Numbers, spelled.Order, spelled.Direction, spelled.Division]);
 equal("its line endings", "lines end in LF in the first and in CR LF in the second", spelled.Spelling.split(";")[0]);
@@ -80,13 +88,26 @@ const joined = (first, second) => {
   return new Findings(compareCounties(...both), both);
 };
 const text = engine.normalise(module, partsOf("autauga/all.txt"), masks).text;
-const untied = new TextDecoder("windows-1252").decode(text).split("\n");
-const [row, node] = [untied.findIndex((line) => line[0] === "I"), 20];
-untied[row] = `${untied[row].slice(0, node)}${"999".padStart(10)}${untied[row].slice(node + 10)}`;
-const tied = joined(text, new Uint8Array(Buffer.from(untied.join("\n"), "latin1")));
+const lines = new TextDecoder("windows-1252").decode(text).split("\n");
+// The text with another value in these columns of the first line of a type.
+const changed = (type, from, value) => {
+  const row = lines.findIndex((line) => line[0] === type);
+  const line = `${lines[row].slice(0, from)}${value}${lines[row].slice(from + value.length)}`;
+  return new Uint8Array(Buffer.from(lines.with(row, line).join("\n"), "latin1"));
+};
+const tied = joined(text, changed("I", 20, "999".padStart(10)));
 equal("a node that is two in the second map", [1, 1, "tie", true], [tied.summary().ties, tied.entries.length, tied.entries[0].what, tied.details(0).groups.length === 2]);
 equal("what differs is how they are joined", "All chains, landmarks, polygons and feature names are alike", tied.summary().verdict.split(".")[0]);
 equal("found by where it is", [1, 0], [tied.list({ text: "one node in the first", hidden: [], from: 0 }).count, tied.list({ text: "polygon", hidden: [], from: 0 }).count]);
+// What a single field changes: [type, columns from, value, fields that differ].
+for (const [type, from, value, fields] of [
+  ["I", 20, " ".repeat(10), ["start node"]],
+  ["I", 30, " ".repeat(10), ["end node"]],
+  ["1", 55, "A99", ["CFCC"]],
+]) {
+  const piece = joined(text, changed(type, from, value)).list({ text: "", hidden: [], from: 0 }).piece.filter(({ what }) => what === "chain");
+  equal(`a chain with another ${fields}`, [fields], piece.map(({ changes }) => changes.map(({ label }) => label)));
+}
 equal("one map has no ties", [0, 0], (({ ties, total }) => [ties, total])(joined(text, text).summary()));
 
 // A landmark's place is its own point, in its first record; a chain's is the end that is meant, or else its middle.

@@ -58,6 +58,16 @@ equal("the scale after that", 0.4, view.scale);
 view.move(10, -20);
 equal("a place after the map was moved", [134, 204], [view.x(0), view.y(0)].map(Math.round));
 view.showWhole();
+const resized = (change) => {
+  const made = new View([0, 0, 1000, 1000]);
+  made.resize(448, 248);
+  change(made);
+  const { scale } = made;
+  made.resize(848, 848);
+  return made.scale === scale;
+};
+const changes = [(made) => made.zoom(2), (made) => made.move(1, 1), (made) => made.show([0, 0, 10, 10]), (made) => made.showWhole()];
+equal("a new size keeps what was chosen to be shown, or shows all", [true, true, true, false], changes.map(resized));
 const wide = new View([0, 0, 10_000_000, 1_000_000]);
 wide.resize(448, 248);
 equal("rulers in kilometres and miles", [["200 km"], ["100 mi"]], wide.rulers(110).map(({ text }) => [text]));
