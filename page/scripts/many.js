@@ -9,7 +9,7 @@ import { shownName } from "./names.js";
 import { Queue, weightOf } from "./queue.js";
 
 const SHOWN_DIGITS = 16;
-const KINDS_OF_STATES = { OK: "accepted", NEW: "busy", FAILED: "refused", MISSING: "refused" };
+const KINDS_OF_STATES = { OK: "accepted", NEW: "busy", REFUSED: "busy", ACCEPTED: "busy", FAILED: "refused", MISSING: "refused" };
 
 const digitsOf = (fingerprint) => h("code", { title: fingerprint }, `${fingerprint.slice(0, SHOWN_DIGITS)}…`);
 
@@ -119,7 +119,7 @@ export class ManyCounties {
   }
 
   verify() {
-    const judged = this.queue.tasks.map(({ county, result }) => ({ stem: county.stem, fingerprint: result?.fingerprint }));
+    const judged = this.queue.tasks.map(({ county, result }) => ({ stem: county.stem, fingerprint: result?.fingerprint, isRefused: result && !result.isAccepted }));
     const { isByName, lines } = verified(this.manifest, judged);
     const counts = new Map();
     for (const { stem, state, isOtherMap, wanted } of lines) {

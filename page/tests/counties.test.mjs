@@ -1,0 +1,158 @@
+// Which counties there are among dropped files, as the tools find them in folders, and how their parts are read.
+import assert from "node:assert/strict";
+import { File } from "node:buffer";
+import { test } from "node:test";
+import { gzipSync } from "node:zlib";
+import { example, take } from "./scripts.mjs";
+
+const { packedSize, sortedOut } = await take("counties");
+const { chosenFiles, droppedFiles, TooManyFiles } = await take("dropping");
+const { beginsWithRecord, isRecord } = await take("first_line");
+const { partsOf } = await take("sets");
+const { byBytes, canonicalName, endingOf, keyOf, plainName } = await take("names");
+const { LARGEST, Unreadable } = await take("zips");
+
+const record = Buffer.from(example("autauga/all.txt")).toString("latin1").split("\n")[0];
+const given = (path, text = "1") => ({ path, file: new File([text], path.split("/").at(-1)) });
+const none = () => {};
+
+// The counties among files, each by its stem with its kinds or its trouble, and what else is there.
+async function found(...files) {
+  const { counties, manifests, skipped } = await sortedOut(files.map((file) => (typeof file === "string" ? given(file) : file)));
+  const told = counties.map(({ stem, files: singles, zip, whole, trouble }) => [stem, trouble ?? (singles ? Object.keys(singles).join("") : zip ? "zip" : whole && "whole")]);
+  return { counties: Object.fromEntries(told), manifests: manifests.map(({ path }) => path), skipped: Object.fromEntries(skipped) };
+}
+
+test("single files of one stem are a county, in any case of their names", async () => {
+  const { counties } = await found("in/TGR01001.RT1", "in/tgr01001.rt2", "in/TGR01003.RT1", "TGR01001.RTP", "other/TGR01001.rti");
+  assert.deepEqual(counties, { TGR01001: "P", "in/TGR01001": "12", "in/TGR01003": "1", "other/TGR01001": "I" });
+  assert.deepEqual(Object.keys(counties), ["TGR01001", "in/TGR01001", "in/TGR01003", "other/TGR01001"]);
+});
+
+test("a county with two files of a type, or two zips, has a trouble that names them", async () => {
+  assert.deepEqual((await found("A.RT1", "A.RT2", "a.rt1")).counties, { A: "there are 2 files of type 1: A.RT1, a.rt1" });
+  assert.deepEqual((await found("a.zip", "A.ZIP", "A.Zip")).counties, { A: "there are 3 zips: A.ZIP, A.Zip, a.zip" });
+});
+
+test("single files go before a zip, and a note says so", async () => {
+  const { counties } = await sortedOut([given("A.ZIP"), given("A.RT1"), given("a.zip")]);
+  assert.deepEqual([counties.length, Object.keys(counties[0].files), counties[0].notes], [1, ["1"], ["its single files are read, and not A.ZIP, a.zip"]]);
+  assert.deepEqual((await found("in/A.ZIP")).counties, { "in/A": "zip" });
+});
+
+test("in folders a file is a county if its first line is a record, and others are counted", async () => {
+  const packed = gzipSync(`${record}\r\n`);
+  const { counties, skipped } = await found(
+    given("in/all.txt", `${record}\n`), given("in/all.txt.gz", packed), given("in/TGR01001.RT1.gz", packed), "in/read.me", "in/b.me",
+    given("in/archive.tar.gz", gzipSync("nothing")), "in/TGR01001.RT3", "in/none",
+  );
+  assert.deepEqual(counties, { "in/all.txt": "whole", "in/all.txt.gz": "whole" });
+  assert.deepEqual(skipped, { ".gz": 1, ".me": 2, ".tar.gz": 1, ".RT3": 1, "without an ending": 1 });
+});
+
+test("a file that the user named is a county, whatever is in it", async () => {
+  assert.deepEqual((await found("read.me", "TGR01001.RT3")), { counties: { "read.me": "whole" }, manifests: [], skipped: { ".RT3": 1 } });
+});
+
+test("what a Mac leaves and hidden folders are left out", async () => {
+  const files = ["in/._TGR01001.RT1", "in/__MACOSX/TGR01001.RT1", "__MACOSX/A.ZIP", ".DS_Store", "in/.DS_Store", "in/.git/A.RT1", "._A.ZIP"];
+  assert.deepEqual(await found(...files), { counties: {}, manifests: [], skipped: {} });
+  assert.deepEqual((await found(".in/A.RT1")).counties, { ".in/A": "1" });
+});
+
+test("manifests are found by their beginning, in folders too", async () => {
+  const line = `${"0".repeat(64)}  in/TGR01001\n`;
+  const { manifests, counties } = await found(
+    given("m", `# tigercanon form 1\n${line}`), given("in/n", line), given("o", `# --no-sources\n${line}`), given("p", line.replace("  ", " ")),
+    given("q", line.replaceAll("0", "A")), given("r", "# notes\n"),
+  );
+  assert.deepEqual(manifests, ["m", "in/n", "o", "q"]);
+  assert.deepEqual(counties, { p: "whole", r: "whole" });
+});
+
+test("a file that can't be read is a county with a trouble", async () => {
+  const file = { slice: () => { throw new Error("gone"); }, size: 3, name: "a" };
+  assert.deepEqual((await found({ path: "in/a", file })).counties, { "in/a": "it can't be read: it was moved, changed or is locked" });
+});
+
+test("a record is known by its type and by what that type requires", async () => {
+  assert.ok(isRecord(record) && isRecord(record.replace("+32464118", " 32464118")));
+  for (const line of ["", "1", `3${record.slice(1)}`, record.slice(0, 209), `${record.slice(0, 5)}          ${record.slice(15)}`, record.replace("-86477532", "x86477532")]) {
+    assert.equal(isRecord(line), false, line);
+  }
+  assert.ok(await beginsWithRecord(new File([`${record}\r\nmore`], "a")));
+  assert.equal(await beginsWithRecord(new File([`${record}x`], "a")), true);
+  assert.equal(await beginsWithRecord(new File([`\n${record}`], "a")), false);
+});
+
+test("names for files to save, keys and endings", () => {
+  assert.deepEqual(["in/a.txt", "b", "…/"].map(plainName), ["a", "b", "county"]);
+  assert.deepEqual(["in/a.txt", "b"].map(canonicalName), ["a-canonical.txt", "b.txt"]);
+  assert.deepEqual(["x/tgr01001", "TGR01001.txt", "tgr01001.txt.gz", ".b", "a.b.c"].map(keyOf), ["TGR01001", "TGR01001", "TGR01001", ".B", "A.B"]);
+  assert.deepEqual(["a.TAR.GZ", "a.b.c", ".b", "in.x/b", "b."].map(endingOf), [".tar.gz", ".c", "without an ending", "without an ending", "."]);
+  assert.deepEqual(["b", "a\u{10000}", "a\uffff", "a", "B"].sort(byBytes), ["B", "a", "a\uffff", "a\u{10000}", "b"]);
+});
+
+test("the nine parts in their order, with their names and what is missing", async () => {
+  const { counties } = await sortedOut([given("A.RT2", "22"), given("A.RT1", ""), given("A.RTP", "333")]);
+  const stages = [];
+  const { parts, names, notes } = await partsOf(counties[0], (stage) => stages.push(stage));
+  assert.deepEqual(parts.map(({ length }) => length), [0, 2, 0, 0, 0, 0, 0, 0, 3]);
+  assert.deepEqual(names, ["A.RT1", "A.RT2", ".RT4", ".RT5", ".RT6", ".RT7", ".RT8", ".RTI", "A.RTP"]);
+  assert.deepEqual(notes, ["no .RT4 .RT5 .RT6 .RT7 .RT8 .RTI", "empty .RT1"]);
+  assert.deepEqual([stages[0], stages.at(-1)], [{ stage: "reading", done: 0, total: 5 }, { stage: "reading", done: 5, total: 5 }]);
+  assert.equal(packedSize(counties[0]), 5);
+  await assert.rejects(partsOf({ trouble: "there are 2 zips: a, b" }, none), new Unreadable("there are 2 zips: a, b"));
+});
+
+// A file of this size whose stream has other bytes.
+const changing = (size, pieces, name = "a.txt") => ({ name, size, slice: () => new File([""], "a"), stream: () => new Blob(pieces).stream() });
+
+test("a file that changes while it is read isn't judged", async () => {
+  for (const pieces of [["1"], ["12", "34"], []]) {
+    await assert.rejects(partsOf({ whole: changing(3, pieces), notes: [] }, none), new Unreadable("a.txt changed while it was read"));
+    await assert.rejects(partsOf({ files: { 1: changing(3, pieces) }, notes: [] }, none), new Unreadable("a.txt changed while it was read"));
+  }
+});
+
+test("no county of more bytes than the page takes is read", async () => {
+  const files = (last) => ({ 1: changing(LARGEST - 1, [], "A.RT1"), 2: changing(last, [], "A.RT2") });
+  const tooLarge = new Unreadable("the files have 1,000,000,001 bytes, and this page takes at most 1,000,000,000: use the program");
+  await assert.rejects(partsOf({ files: files(2), notes: [] }, none), tooLarge);
+  await assert.rejects(partsOf({ files: files(1), notes: [] }, none), (error) => error.message !== tooLarge.message);
+  const whole = new Unreadable("the file has 1,000,000,001 bytes, and this page takes at most 1,000,000,000: use the program");
+  await assert.rejects(partsOf({ whole: changing(LARGEST + 1, []), notes: [] }, none), whole);
+});
+
+// What a browser gives for a drop: handles, as Chromium has them, or entries, as others have.
+const handleOf = (name, children) => (children ? { kind: "directory", name, async *values() { yield* children; } } : { kind: "file", name, getFile: async () => new File([name], name) });
+
+function entryOf(name, children) {
+  if (!children) return { isFile: true, name, file: (resolve) => resolve(new File([name], name)) };
+  const pieces = [children.slice(0, 1), children.slice(1), []];
+  return { isFile: false, name, createReader: () => ({ readEntries: (resolve) => resolve(pieces.shift()) }) };
+}
+
+for (const [what, make, itemOf] of [
+  ["handles", handleOf, (dropped) => ({ kind: "file", getAsFileSystemHandle: async () => dropped, webkitGetAsEntry: () => assert.fail("an entry") })],
+  ["entries", entryOf, (dropped) => ({ kind: "file", webkitGetAsEntry: () => dropped })],
+]) {
+  test(`dropped files and folders, by ${what}`, async () => {
+    const dropped = [make("a", [make("b"), make("c", [make("d")])]), make("e")];
+    const files = await droppedFiles({ items: [{ kind: "string" }, ...dropped.map(itemOf)], files: [] });
+    assert.deepEqual(files.map(({ path, file }) => [path, file.name]), [["a/b", "b"], ["a/c/d", "d"], ["e", "e"]]);
+  });
+  test(`too many dropped files, by ${what}`, async () => {
+    const file = make("b");
+    const drop = (count) => droppedFiles({ items: [itemOf(make("a", new Array(count).fill(file)))], files: [] }, 3);
+    await assert.rejects(drop(4), new TooManyFiles("There are more than 3 files. Drop fewer at once, or use tigercanon-tools."));
+    assert.equal((await drop(3)).length, 3);
+  });
+}
+
+test("files that a browser gives without items, and chosen folders", async () => {
+  const file = new File([""], "a");
+  assert.deepEqual(await droppedFiles({ items: [], files: [file] }), [{ path: "a", file }]);
+  const inside = Object.assign(new File([""], "a"), { webkitRelativePath: "in/a" });
+  assert.deepEqual(chosenFiles([inside]), [{ path: "in/a", file: inside }]);
+});
