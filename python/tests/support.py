@@ -86,9 +86,9 @@ def call(*words: object, **options: Any) -> Ended:
     return end(begin(*words, **options))
 
 
-def shell(command: str) -> Ended:
+def shell(command: str, server: str = "") -> Ended:
     """Runs a command of bash, which has `tigercanon-tools`, what else fakes/commands defines, and $REAL, the program."""
-    env = {"ROOT": str(ROOT), "PYTHON": sys.executable, "REAL": PROGRAM}
+    env = {"ROOT": str(ROOT), "PYTHON": sys.executable, "REAL": PROGRAM, "SERVER": server}
     return end(begin("-c", f'. "$0"\n{command}', FAKES / "commands", program=["bash"], env=env))
 
 

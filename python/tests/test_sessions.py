@@ -16,7 +16,7 @@ def files(room: Path) -> dict[Path, object]:
 
 
 @pytest.mark.parametrize("session", SESSIONS, ids=[session.name for session in SESSIONS])
-def test_session(room: Path, fake: Path, session: Session) -> None:
+def test_session(room: Path, fake: Path, server: str, session: Session) -> None:
     """Each line on standard error begins with the name of the tools, and no other one does. No command leaves a temporary folder behind,
     and one that ends with status 2 changes no file."""
     if not shutil.which("zip") and any("zip -" in step.command for step in session.steps):
@@ -25,7 +25,7 @@ def test_session(room: Path, fake: Path, session: Session) -> None:
         built_program()
     for step in session.steps:
         before = files(room)
-        ended = shell(step.command)
+        ended = shell(step.command, server)
         fault = step.fault(ended.status, ended.out + ended.err, room)
         assert not fault, fault
         errors = [line for line in (ended.out + ended.err).splitlines() if line.startswith("tigercanon-tools")]

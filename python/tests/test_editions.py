@@ -1,0 +1,160 @@
+"""Counties through editions, and the index of the pages about their changes. Manifests are written here by hand."""
+
+from __future__ import annotations
+
+from pathlib import Path
+
+import pytest
+from support import put
+
+import tigercanon
+from tigercanon.errors import Failure
+from tigercanon.listing import table
+from tigercanon.manifests import Line
+from tigercanon.pages import Change, changed, index
+
+REFUSED = "refused 14 LinkMissing 7"
+FAILED = "failed: the zip is cut off"
+
+
+def edition(name: str, *counties: tuple[str, object], flags: str = "") -> str:
+    """A manifest: of each county the number of its map, or why it has none."""
+    lines = [f"# tigercanon form 1 {flags}".strip()]
+    for stem, state in counties:
+        lines.append(f"{state:064}  {stem}" if isinstance(state, int) else f"# 1 2006-01-01T00:00:00Z  {state}  {stem}")
+    return str(put(name, "".join(f"{line}\n" for line in lines).encode()))
+
+
+def histories(*states: dict[str, object]) -> dict[str, list[str]]:
+    """The steps of each county through editions 1, 2 and so on."""
+    names = [
+        edition(str(place), *((f"{place}/{name}", state) for name, state in each.items())) for place, each in enumerate(states, 1)
+    ]
+    return {each.county: each.steps for each in tigercanon.changes(*names)}
+
+
+@pytest.fixture(autouse=True)
+def folder(room: Path) -> Path:
+    return room
+
+
+def test_three_editions() -> None:
+    """Each way in which a county can go through three editions."""
+    one: dict[str, object] = {"SAME": 1, "BACK": 2, "GONE": 3, "AGAIN": 4, "REFUSED": REFUSED, "MENDED": FAILED, "WORSE": 5}
+    two: dict[str, object] = {"SAME": 1, "BACK": 22, "REFUSED": REFUSED, "MENDED": 7, "WORSE": REFUSED, "NEW": 8}
+    three: dict[str, object] = {"SAME": 1, "BACK": 2, "AGAIN": 44, "REFUSED": REFUSED, "MENDED": 7, "WORSE": FAILED, "NEW": 88}
+    assert histories(one, two, three) == {
+        "AGAIN": ["removed", "added"],
+        "BACK": ["changed", "changed"],
+        "GONE": ["removed", ""],
+        "MENDED": ["accepted", "same"],
+        "NEW": ["added", "changed"],
+        "REFUSED": ["refused", "refused"],
+        "SAME": ["same", "same"],
+        "WORSE": ["refused", "failed"],
+    }
+    words = {each.county: each.verdict for each in tigercanon.changes("1", "2", "3")}
+    assert words == {
+        "AGAIN": "removed in 2, added again in 3",
+        "BACK": "changed in 2, back in 3 as in 1",
+        "GONE": "removed in 2",
+        "MENDED": "accepted in 2",
+        "NEW": "added in 2, changed in 3",
+        "REFUSED": "still refused in 2, still refused in 3",
+        "SAME": "same since 1",
+        "WORSE": "refused in 2, failed in 3",
+    }
+    assert [line.split()[:4] for line in table(tigercanon.changes("1", "2", "3"))] == [
+        ["county", "1", "2", "3"],
+        ["AGAIN", "1", "-", "2"],
+        ["BACK", "1", "2", "1"],
+        ["GONE", "1", "-", "-"],
+        ["MENDED", "failed", "1", "1"],
+        ["NEW", "-", "1", "2"],
+        ["REFUSED", "refused", "refused", "refused"],
+        ["SAME", "1", "1", "1"],
+        ["WORSE", "1", "refused", "failed"],
+    ]
+
+
+def test_renamed_counties() -> None:
+    """A county is renamed if its old name is gone and its map is under a new one. Each old name is renamed once, and refused ones never."""
+    assert histories({"A": 1, "B": 1}, {"A": 1, "C": 1}) == {"A": ["same"], "C": ["renamed"]}
+    assert histories({"A": 1}, {"A": 1, "B": 1}) == {"A": ["same"], "B": ["added"]}
+    assert histories({"A": 1, "B": 1, "C": 1}, {"D": 1}) == {"D": ["renamed"], "B": ["removed"], "C": ["removed"]}
+    assert histories({"A": 1}, {"B": 1, "C": 1}) == {"B": ["renamed"], "C": ["added"]}
+    assert histories({"A": REFUSED}, {"B": REFUSED}) == {"A": ["removed"], "B": ["added"]}
+    assert histories({"A": 1}, {"B": 1}, {"A": 1}) == {"A": ["renamed", "renamed"]}
+
+
+def test_a_name_twice() -> None:
+    """Of two counties of one name the one with a fingerprint counts; two with one can't be matched."""
+    edition("1", ("in/A", 1))
+    edition("2", ("in/A", 1), ("in/A.txt", FAILED))
+    edition("3", ("in/A.txt", FAILED), ("in/A", 1), ("in/a.txt", REFUSED))
+    assert [each.verdict for each in tigercanon.changes("1", "2", "3")] == ["same since 1"]
+    edition("4", ("in/A", 1), ("in/A.txt", 1))
+    with pytest.raises(Failure, match="4: in/A and in/A.txt have the same name"):
+        tigercanon.changes("1", "4")
+
+
+@pytest.mark.parametrize("place", range(3))
+def test_flags_of_each_manifest(place: int) -> None:
+    """They are the same in all manifests, also in the third; the mark of an unproved program doesn't matter."""
+    for number in range(3):
+        edition(str(number), ("in/A", 1), flags="--no-sources" if number == place else "")
+    with pytest.raises(Failure, match="their fingerprints can't be compared"):
+        tigercanon.changes("0", "1", "2")
+    for number in range(3):
+        edition(str(number), ("in/A", 1), flags="unproved --no-sources" if number == place else "--no-sources")
+    assert tigercanon.changes("0", "1", "2")[0].is_same
+
+
+def test_one_manifest_with_all_editions() -> None:
+    name = edition("all", *((f"x/{folder}/TGR{county}", folder) for folder in (1, 2) for county in (1, 2)))
+    assert [each.editions for each in tigercanon.changes(name)] == [("1", "2")] * 2
+    assert [each.steps for each in tigercanon.changes(name, editions=["x/2", "x/1/"])] == [["changed"]] * 2
+    with pytest.raises(Failure, match="all: has no county below x/3"):
+        tigercanon.changes(name, editions=["x/1", "x/3"])
+    with pytest.raises(Failure, match="one: has one edition"):
+        tigercanon.changes(edition("one", ("x/1/TGR1", 1), ("x/1/TGR2", 1)))
+    with pytest.raises(Failure, match="mixed: has one edition"):
+        tigercanon.changes(edition("mixed", ("x/1/TGR1", 1), ("x/TGR2", 1)))
+
+
+def changes_of(*states: dict[str, object]) -> list[Change]:
+    histories(*states)
+    return [*changed(tigercanon.changes(*map(str, range(1, 1 + len(states)))))]
+
+
+def test_names_of_pages() -> None:
+    """Of two editions a page has the county's name, of several that of the change too. A county without a map in both has none."""
+    assert [change.page for change in changes_of({"A": 1, "B": 1, "C": REFUSED}, {"A": 2, "B": 1, "C": 3})] == ["A.html"]
+    three = changes_of({"A": 1, "B": 5}, {"A": 2, "B": REFUSED}, {"A": 1, "B": 6})
+    assert [(change.page, change.editions, change.old, change.new) for change in three] == [
+        ("A.1-2.html", ("1", "2"), Line(f"{1:064}", "1/A"), Line(f"{2:064}", "2/A")),
+        ("A.2-3.html", ("2", "3"), Line(f"{2:064}", "2/A"), Line(f"{1:064}", "3/A")),
+    ]
+
+
+PAGE = '<meta name="generator" content="tigercanon"><b class="fingerprint">{}</b><b class="fingerprint">{}</b>"counts":{}'
+COUNTS = '{"chain":[1,2,3000],"landmark":[4,5,6],"polygon":[7,8,9],"feature name":[0,0,0]}'
+
+
+def test_the_index_of_pages() -> None:
+    """It links to pages that show these maps, with escaped names, and has the reason of each that isn't there. Other pages come last."""
+    changes = changes_of({"A&B": 1, "C": 3, "D": 5}, {"A&B": 2, "C": 4, "D": 6})
+    put("A&B.html", PAGE.format(*(line.fingerprint for line in (changes[0].old, changes[0].new)), COUNTS).encode())
+    put("C.html", PAGE.format(f"{3:064}", f"{5:064}", COUNTS).encode())
+    put("OLD.html", PAGE.format(1, 2, COUNTS).encode())
+    put("MINE.html", b"<!DOCTYPE html>")
+    text = "".join(index(Path("."), changes, {"D.html": "why & how"}))
+    rows = [line for line in text.splitlines() if line.startswith("<tr><td>")]
+    assert rows == [
+        '<tr><td><a href="A%26B.html">A&amp;B</a></td><td>1 to 2</td>'
+        "<td>1 / 2 / 3,000</td><td>4 / 5 / 6</td><td>7 / 8 / 9</td><td>0 / 0 / 0</td></tr>",
+        '<tr><td>C</td><td>1 to 2</td><td class="why" colspan="4">no page</td></tr>',
+        '<tr><td>D</td><td>1 to 2</td><td class="why" colspan="4">why &amp; how</td></tr>',
+    ]
+    assert '<p>Of other manifests: <a href="OLD.html">OLD.html</a></p>' in text and "MINE" not in text
+    assert "<p>3 changes." in text and 'content="tigercanon' in text

@@ -1,0 +1,176 @@
+"""Manifests: which of several lines counts, what --update notices, locks, and outputs of which one isn't whole."""
+
+from __future__ import annotations
+
+import fcntl
+import os
+import tempfile
+import threading
+import time
+from pathlib import Path
+from typing import Iterator
+
+import pytest
+from dev.testing import await_that
+from support import Four, complete, digest, left_behind, listed, manifest, put, zip_up
+
+import tigercanon
+from tigercanon import judge, manifests, resources
+from tigercanon.errors import Failure
+from tigercanon.inputs import Inputs
+from tigercanon.judging import Verified
+from tigercanon.manifests import Line, lock_held, lock_of, parsed, take_lock
+from tigercanon.resources import Resources, new_files, remove_stale_folders
+
+COMMENT = "# 1 2006-01-01T00:00:00Z  {}\n"
+
+
+def lines_of(text: str) -> list[Line]:
+    put("m", text.encode())
+    return parsed("m")[1]
+
+
+def test_several_lines_for_a_county(room: Path) -> None:
+    """The last one counts, whether it is a fingerprint, a refusal or a failure; the sources stand before their fingerprint."""
+    one, two = f"{1:064}  a\n", f"{2:064}  a\n"
+    refused, failed = COMMENT.format("refused 14 LinkMissing 7  a"), COMMENT.format("failed: the zip is cut off  a")
+    assert lines_of(one + two) == [Line(f"{2:064}", "a")]
+    assert lines_of(one + refused) == [Line("", "a", "1 2006-01-01T00:00:00Z", "refused 14 LinkMissing 7")]
+    assert lines_of(refused + failed) == [Line("", "a", "1 2006-01-01T00:00:00Z", "failed: the zip is cut off")]
+    assert lines_of(failed + one) == [Line(f"{1:064}", "a")]
+    assert lines_of(COMMENT.format("a") + one + COMMENT.format("b")) == [Line(f"{1:064}", "a", "1 2006-01-01T00:00:00Z")]
+    assert [line.stem for line in lines_of(one + f"{3:064}  b\n" + two)] == ["b", "a"]
+
+
+@pytest.mark.parametrize("reason", ["it isn't a zip", "rejected by --strict: no .RT2 .RT4", "x" * 500])
+def test_lines_are_read_as_they_are_written(room: Path, reason: str) -> None:
+    for line in (
+        Line(f"{1:064}", "a  b", "1 t, ? -"),
+        Line("", "in/a b", "1 t", f"failed: {reason}"),
+        Line("", "a", "? -", "refused 8 Device"),
+    ):
+        assert lines_of(line.entry) == [line]
+
+
+def test_names_that_differ_in_case(four: Four) -> None:
+    """They are one county, with its last line, and it isn't judged again."""
+    put("m", (manifest(four) + f"{9:064}  in/B\n").encode())
+    assert [*tigercanon.manifest("in", output="m")] == []
+    assert [(line.stem, line.fingerprint[-1]) for line in parsed("m")[1] if line.stem.upper() == "IN/B"] == [("in/B", "9")]
+    assert [line.stem for line in parsed("m")[1]] == ["in/-d", "in/B", "in/a a", "in/c"]
+
+
+def test_update_looks_at_each_file(four: Four) -> None:
+    """Another size or time of a county's last file has it judged again."""
+    assert len([*tigercanon.manifest("in", output="m")]) == 4
+    put("in/b.RTP", b"y\n")
+    os.utime("in/c.RT2", (0, 0))
+    assert sorted(each.county for each in tigercanon.manifest("in", output="m", update=True)) == ["in/b", "in/c"]
+    assert [*tigercanon.manifest("in", output="m", update=True)] == []
+
+
+def test_sizes_and_times_are_taken_before_judging(room: Path, fake: Path) -> None:
+    """A file that changes while its county is judged is judged again by the next update."""
+    complete("in/a", b"waits\n")
+    put("waits")
+    judged: list[object] = []
+    thread = threading.Thread(target=lambda: judged.extend(tigercanon.manifest("in", output="m")))
+    thread.start()
+    assert await_that(lambda: Path("calls").read_text())
+    os.utime("in/a.RT4", (0, 0))
+    os.unlink("waits")
+    thread.join()
+    assert len(judged) == 1 and len([*tigercanon.manifest("in", output="m", update=True)]) == 1
+
+
+def test_a_large_zip_is_not_unpacked(room: Path, fake: Path, monkeypatch: pytest.MonkeyPatch) -> None:
+    """Its directory has its size."""
+    complete("in/a", b"x" * 1000)
+    zip_up("in/a")
+
+    def pieces(*_: object) -> Iterator[bytes]:
+        pytest.fail("it is unpacked")
+        yield b""
+
+    monkeypatch.setattr(judge, "pieces_of", pieces)
+    monkeypatch.setattr(Resources, "place", lambda *_: pytest.fail("it is unpacked"))
+    (judged,) = tigercanon.manifest("in", largest=1000)
+    assert judged.reason == "the zip unpacks to 1016 bytes, more than --largest 1000"
+
+
+def test_a_failure_loses_no_fingerprint(four: Four) -> None:
+    """Without update a listed county keeps its line, also if it can't be read now; and what failed is tried again each time."""
+    assert len([*tigercanon.manifest("in", output="m")]) == 4
+    os.rename("in/b.RT1", "in/kept")
+    os.symlink("nowhere", "in/b.RT1")
+    (judged,) = tigercanon.manifest("in", output="m")
+    assert (judged.county, judged.fingerprint, listed("m")) == ("in/b", None, manifest(four))
+    (judged,) = tigercanon.manifest("in", output="m", update=True)
+    assert "in/b" not in listed("m") and Line("", "in/b", "? -", f"failed: {judged.reason}") in parsed("m")[1]
+    assert [*tigercanon.verify("m")][0] == Verified("in/b", "FAILED", judged.reason or "")
+    os.rename("in/kept", "in/b.RT1")
+    assert [each.county for each in tigercanon.manifest("in", output="m")] == ["in/b"]
+    assert listed("m") == manifest(four)
+
+
+def test_a_lock_whose_name_leads_elsewhere(room: Path) -> None:
+    put("mine", b"process 1 on a machine\n")
+    os.symlink("mine", "m.lock")
+    with pytest.raises(Failure, match="m.lock: can't be written"):
+        take_lock("m")
+    assert Path("mine").read_bytes() == b"process 1 on a machine\n"
+
+
+def test_a_lock_that_was_removed_meanwhile(room: Path, monkeypatch: pytest.MonkeyPatch) -> None:
+    """Another run takes its file away between opening and locking: a new file is made and locked."""
+    real = manifests.lock
+
+    def late(name: str, handle: int, how: int, patience: float) -> None:
+        monkeypatch.setattr(manifests, "lock", real)
+        os.unlink(lock_of("m"))
+        real(name, handle, how, patience)
+
+    monkeypatch.setattr(manifests, "lock", late)
+    with lock_held("m"):
+        with open("m.lock") as other, pytest.raises(BlockingIOError):
+            fcntl.flock(other, fcntl.LOCK_EX | fcntl.LOCK_NB)
+        assert Path("m.lock").read_text().startswith(f"process {os.getpid()} on ")
+    assert not os.path.exists("m.lock")
+
+
+@pytest.mark.parametrize("bad", ["first", "second"])
+def test_of_two_outputs_one_is_not_whole(room: Path, monkeypatch: pytest.MonkeyPatch, bad: str) -> None:
+    """None of them takes its place, and nothing is left behind."""
+    put("first", b"old")
+    real = resources.NewFile.finish
+
+    def finish(file: resources.NewFile) -> None:
+        if file.name == bad:
+            raise Failure("a disk is full")
+        real(file)
+
+    monkeypatch.setattr(resources.NewFile, "finish", finish)
+    before = sorted(os.listdir("."))
+    with pytest.raises(Failure), Resources() as run, new_files(["first", "second"], Inputs([]), run) as files:
+        for file in files.values():
+            file.write(b"new")
+    assert (sorted(os.listdir(".")), Path("first").read_bytes()) == (before, b"old")
+
+
+def test_folders_that_are_removed(room: Path, monkeypatch: pytest.MonkeyPatch) -> None:
+    """Those of runs that were killed: old, of this user, held by nobody, and without other files."""
+    monkeypatch.setattr(tempfile, "tempdir", f"{room}/tmp")
+    for name in ("old", "young", "held", "other", "theirs"):
+        put(f"tmp/tigercanon-{name}.tmp/county.RT1")
+        os.utime(f"tmp/tigercanon-{name}.tmp", (0, 0))
+    put("tmp/tigercanon-other.tmp/mine")
+    os.utime("tmp/tigercanon-other.tmp", (0, 0))
+    now = time.time()
+    os.utime("tmp/tigercanon-young.tmp", (now, now))
+    left = {"young", "held", "other"}
+    if os.geteuid() == 0:
+        os.chown("tmp/tigercanon-theirs.tmp", 65534, 65534)
+        left.add("theirs")
+    with resources.locked("tmp/tigercanon-held.tmp", fcntl.LOCK_EX):
+        remove_stale_folders()
+    assert {Path(path).name[len("tigercanon-") : -len(".tmp")] for path in left_behind()} == left
