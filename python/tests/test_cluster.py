@@ -119,7 +119,60 @@ def test_on_this_machine(archive: Archive) -> None:
     tried = rules["8 Device"]  # the others are in the manifest as refused
     words = f"{count} in the manifest already, {refused - tried} refused before, 0 new, {tried} refused, "
     assert f"{COUNTIES} counties: {words}" in call(*FINGERPRINT).err
-    assert call("verify", "--quiet", "m").out == ""
+    verified = call("verify", "--quiet", "m").out.splitlines()
+    assert len(verified) == refused and all(": REFUSED (refused " in line for line in verified)
+
+
+def change(archive: Archive, count: int) -> dict[str, list[str]]:
+    """Does to some zips what happens to files in a year: the names of counties by that."""
+    zips = {
+        line[66:]: path
+        for line in archive.lines[1:]
+        for path in map(Path, (f"{line[66:]}.ZIP", f"{line[66:]}.zip"))
+        if path.exists()
+    }
+    ways = ("gone", "emptied", "cut", "moved", "unreadable")
+    chosen = {way: [*zips][place::7][:count] for place, way in enumerate(ways)}
+    for way, stems in chosen.items():
+        for path in (zips[stem] for stem in stems):
+            text = path.read_bytes()
+            path.unlink()
+            if way == "moved":
+                put(f"in/moved/{path.name}", text)
+            elif way == "unreadable":
+                path.symlink_to("nowhere")
+            elif way != "gone":
+                put(path, text[: len(text) // 2 if way == "cut" else 0])
+    return chosen
+
+
+def test_a_second_year(archive: Archive) -> None:
+    """What has happened to zips is reported, the manifest follows the disk, and nothing is missing from the counts."""
+    assert call(*FINGERPRINT).status == 1
+    chosen = change(archive, 8)
+    ended = call(*FINGERPRINT, "--update")
+    failed = {*chosen["emptied"], *chosen["cut"], *chosen["unreadable"]}
+    moved = {stem: f"in/moved/{os.path.basename(stem)}" for stem in chosen["moved"]}
+    kept = [line for line in archive.lines[1:] if line[66:] not in failed]
+    expected = sorted((f"{line[:66]}{moved.get(line[66:], line[66:])}" for line in kept), key=lambda line: line[66:])
+    assert (ended.status, listed("m").splitlines()[1:]) == (1, expected)
+    assert {stem for stem in failed if stem not in ended.reports} == set()
+    assert {f"{new}: moved from {old}" for old, new in moved.items()} <= {*ended.lines}
+    assert {f"{stem}: gone; --prune takes its line out" for stem in chosen["gone"]} <= {*ended.lines}
+    numbers = {
+        noun: int(count)
+        for count, noun in re.findall(
+            r"(\d+) ([a-z]+)", next(line for line in ended.lines if " gone; " in line and "failed" in line)
+        )
+    }
+    assert (numbers["counties"], numbers["gone"], numbers["new"], numbers["failed"]) == (COUNTIES - 8, 8, 8, 24)
+    assert numbers["in"] + numbers["new"] + numbers["refused"] + numbers["failed"] <= COUNTIES
+    verdicts = Counter(line.split(": ")[1].split(" ")[0] for line in call("verify", "m", "in").out.splitlines())
+    refused = COUNTIES - len(archive.lines) + 1
+    assert verdicts == {"OK": len(archive.lines) - 1 - 32, "FAILED": 24, "MISSING": 8, "REFUSED": refused}
+    pruned = call(*FINGERPRINT, "--update", "--prune")
+    assert {line[66:] for line in listed("m").splitlines()[1:]} == {line[66:] for line in expected} - {*chosen["gone"]}
+    assert {f"{stem}: gone, and taken out" for stem in chosen["gone"]} <= {*pruned.lines}
 
 
 class Engine:
@@ -176,7 +229,8 @@ class TestDask:
             assert ended.status == 1, ended.err
         assert_all_done(archive)
         checked = call("verify", *SCHEDULER, "m")
-        assert (checked.status, checked.out.count(": OK\n")) == (0, len(archive.lines) - 1)
+        assert (checked.status, checked.out.count(": OK\n")) == (1, len(archive.lines) - 1)
+        assert checked.out.count("\n") == COUNTIES
 
     def test_workers_are_killed(self, archive: Archive, slow: None, engine: Engine, run: Process) -> None:
         """Two of three workers: nothing is missing, and no county is blamed."""

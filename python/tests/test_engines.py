@@ -8,6 +8,7 @@ import pytest
 from support import Four, complete, manifest, put, zip_up
 
 from tigercanon import commands, engines
+from tigercanon.judge import Answer, Kind
 from tigercanon.progress import Console
 from tigercanon.resources import Resources
 
@@ -85,6 +86,42 @@ def test_limits(four: Four, run: Any, where: str) -> None:
     status, out, reports = run(f"fingerprint {where} --largest 116 more")
     assert (status, [line[66:] for line in out.splitlines()[1:]]) == (1, ["more/no-7", "more/zip"])
     assert sorted(reports[:2]) == ["more/limited: refused 1 Limit unlimited", "more/no-7: no .RT7"]
+
+
+def test_faults(four: Four, run: Any, monkeypatch: pytest.MonkeyPatch) -> None:
+    """What check shows of a refused county comes from a worker as from this machine, and so do notes, failures and time limits."""
+    monkeypatch.setenv("REFUSAL", "refused 4 BadNumber 1 1 6")
+    put("in/b.RT1", b"1         x\n")
+    put("in/c.RT7").unlink()
+    put("in/empty.ZIP")
+    local, distant = (run(f"check {where} in") for where in ("--jobs 1", "--scheduler there:1"))
+    assert local[1] == distant[1] and "in/b.RT1, line 1, columns 6 to 15, TLID" in local[1]
+    assert (local[0], sorted(local[2][:-1])) == (1, sorted(distant[2][:-1]))
+    put("waits")
+    put("in/b.RT1", b"waits\n")
+    limited = run("fingerprint --scheduler there:1 --seconds 1 in/b")
+    assert limited[2][0] == "in/b: it takes longer than --seconds 1"
+
+
+class Lost:
+    """A future whose worker ends with an error of this name."""
+
+    def __init__(self, name: str) -> None:
+        self.error = type(name, (Exception,), {})("why")
+
+    def result(self) -> Any:
+        raise self.error
+
+
+def test_workers_that_end(monkeypatch: pytest.MonkeyPatch) -> None:
+    """A county isn't blamed for a worker that ended, and has failed if its judging did; without its scheduler the engine is gone."""
+    monkeypatch.setattr(engines, "client_of", lambda *_: Client(0))
+    engine = engines.DaskEngine("there:1")
+    assert engine.answer(Lost("KilledWorker")) == Answer(Kind.MEMORY, "every worker that judged it ended")
+    assert engine.answer(Lost("ValueError")) == Answer(Kind.FAILED, "its judging ended with ValueError: why")
+    for name in engines.SCHEDULER_ENDED:
+        with pytest.raises(engines.Gone, match="the scheduler at there:1 is gone"):
+            engine.answer(Lost(name))
 
 
 @pytest.mark.parametrize("count", range(5))

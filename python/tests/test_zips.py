@@ -12,7 +12,7 @@ from types import SimpleNamespace
 from typing import Iterator
 
 import pytest
-from support import call, complete, left_behind, manifest, members, packed, put
+from support import call, complete, left_behind, listed, manifest, members, packed, put
 
 from tigercanon import storage
 from tigercanon.errors import Unreadable
@@ -117,9 +117,34 @@ def test_a_server(url: str, room: Path, fake: Path) -> None:
         assert re.fullmatch(rf"can't be read: {why} \(three attempts\)", ended.reports[f"{url}/in/{name}"])
     assert {name: Server.asked.count(f"/in/{name}.ZIP") for name in attempts} == attempts
     names = ("TGR00001", "TGR00005", "once")
-    assert Path("m").read_text() == manifest({f"{url}/in/{name}": TEXT for name in names})
-    assert call("verify", "m").out == "".join(f"{url}/in/{name}: OK\n" for name in names)
+    assert listed("m") == manifest({f"{url}/in/{name}": TEXT for name in names})
+    verdicts = call("verify", "m").out.replace(f"{url}/in/", "")
+    assert re.sub(r" \(.*\)", "", verdicts).splitlines() == [
+        "TGR00001: OK",
+        "TGR00005: OK",
+        "always: FAILED",
+        "failing: FAILED",
+        "once: OK",
+    ]
     assert left_behind() == []
+
+
+@pytest.mark.cluster
+def test_a_server_that_is_down(room: Path, fake: Path) -> None:
+    """Its counties have failed, for the server's reason. Those that a server says it doesn't have are missing."""
+    for module in ("aiohttp", "requests"):
+        pytest.importorskip(module)
+    server = ThreadingHTTPServer(("127.0.0.1", 0), partial(Server, directory=str(room)))
+    name = f"http://127.0.0.1:{server.server_port}/in/TGR00001"
+    put("m", manifest({name: TEXT, "in/TGR00001": TEXT}).encode())
+    threading.Thread(target=server.serve_forever, daemon=True).start()
+    assert call("verify", "m").out == f"{name}: MISSING\nin/TGR00001: MISSING\n"
+    server.shutdown()
+    server.server_close()
+    ended = call("verify", "m")
+    assert re.fullmatch(rf"{name}: FAILED \(can't be read: .*[Cc]onnect.*\)\nin/TGR00001: MISSING\n", ended.out), ended
+    ended = call("fingerprint", "--update", "--prune", "-o", "m", f"{name}.ZIP")
+    assert (ended.status, Path("m").read_text().count(name)) == (1, 1), ended
 
 
 @pytest.mark.parametrize("short", [0, 1, 2, 3])

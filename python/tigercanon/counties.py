@@ -320,5 +320,5 @@ def probed(path: str) -> list[Entry]:
         except Exception as error:
             troubles += [] if is_absent(error) else [error]
     if troubles and not found:
-        raise troubles[0]
+        raise troubles[0].__cause__ or troubles[0]
     return found
