@@ -137,16 +137,23 @@ def test_names_of_pages() -> None:
     ]
 
 
-PAGE = '<meta name="generator" content="tigercanon"><b class="fingerprint">{}</b><b class="fingerprint">{}</b>"counts":{}'
-COUNTS = '{"chain":[1,2,3000],"landmark":[4,5,6],"polygon":[7,8,9],"feature name":[0,0,0]}'
+COUNTS = '{"chain": [1, 2, 3000], "landmark": [4, 5, 6], "polygon": [7, 8, 9], "feature name": [0, 0, 0]}'
+
+
+def page(old: int, new: int, end: str = "</html>\n") -> bytes:
+    """A page that shows two maps, as far as the index looks at it."""
+    fingerprints = f'"fingerprints": ["{old:064}", "{new:064}"], "counts": {COUNTS}'
+    script = f'<script type="application/json" id="counties">{{{fingerprints}}}</script>'
+    return f'<!DOCTYPE html><meta name="generator" content="tigercanon">{script}{end}'.encode()
 
 
 def test_the_index_of_pages() -> None:
     """It links to pages that show these maps, with escaped names, and has the reason of each that isn't there. Other pages come last."""
-    changes = changes_of({"A&B": 1, "C": 3, "D": 5}, {"A&B": 2, "C": 4, "D": 6})
-    put("A&B.html", PAGE.format(*(line.fingerprint for line in (changes[0].old, changes[0].new)), COUNTS).encode())
-    put("C.html", PAGE.format(f"{3:064}", f"{5:064}", COUNTS).encode())
-    put("OLD.html", PAGE.format(1, 2, COUNTS).encode())
+    changes = changes_of({"A&B": 1, "C": 3, "D": 5, "E": 7}, {"A&B": 2, "C": 4, "D": 6, "E": 8})
+    put("A&B.html", page(1, 2))
+    put("C.html", page(3, 5))
+    put("E.html", page(7, 8, end=""))
+    put("OLD.html", page(1, 2))
     put("MINE.html", b"<!DOCTYPE html>")
     text = "".join(index(Path("."), changes, {"D.html": "why & how"}))
     rows = [line for line in text.splitlines() if line.startswith("<tr><td>")]
@@ -155,6 +162,7 @@ def test_the_index_of_pages() -> None:
         "<td>1 / 2 / 3,000</td><td>4 / 5 / 6</td><td>7 / 8 / 9</td><td>0 / 0 / 0</td></tr>",
         '<tr><td>C</td><td>1 to 2</td><td class="why" colspan="4">no page</td></tr>',
         '<tr><td>D</td><td>1 to 2</td><td class="why" colspan="4">why &amp; how</td></tr>',
+        '<tr><td>E</td><td>1 to 2</td><td class="why" colspan="4">no page</td></tr>',
     ]
     assert '<p>Of other manifests: <a href="OLD.html">OLD.html</a></p>' in text and "MINE" not in text
-    assert "<p>3 changes." in text and 'content="tigercanon' in text
+    assert "<p>4 changes." in text and 'content="tigercanon' in text
