@@ -6,7 +6,7 @@ import { numberOf } from "./records.js";
 import { BLANK, KINDS, NONE } from "./tables.js";
 import { tieLine, tiedPlace, tiePoints } from "./ties.js";
 
-const ABOUT = "Where two maps differ, found by tigercanon.html: an aid, and not proved.";
+const ABOUT = "Where two maps differ, found by tigercanon.html. This list isn't proved.";
 const SIDES = ["first", "second"];
 
 // The pieces of the file. `sets` are the two sets' names and fingerprints, `own` the numbers in both sets' files.

@@ -47,7 +47,7 @@ thead th { position: sticky; top: 0; background: #fff; border-bottom: 2px solid 
 <body>
 <h1>Counties that changed</h1>
 """
-ABOUT = "<p>%s. In each cell: only in the first map, only in the second, changed. The lists are an aid, and not proved.</p>\n"
+ABOUT = "<p>%s. In each cell: only in the first map, only in the second, changed. The lists aren't proved.</p>\n"
 
 
 class Change(NamedTuple):

@@ -16,7 +16,7 @@ from .words import KINDS, Thing, things, tie_line, tied_place, verdict
 
 Properties = dict[str, Any]
 BothOwn = Sequence[OwnNumbers]
-ABOUT = "Where two maps differ, found by tigercanon-tools diff: an aid, and not proved."
+ABOUT = "Where two maps differ, found by tigercanon-tools diff. This list isn't proved."
 SIDES = ("first", "second")
 
 
