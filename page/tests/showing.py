@@ -4,7 +4,6 @@ from __future__ import annotations
 
 import re
 import time
-from pathlib import Path
 from typing import Any, Callable
 
 from dev.testing import run
@@ -78,7 +77,7 @@ def try_masks(page: Page) -> None:
     """The verdict and the third line name what is left out."""
     show_town(page)
     page.browser.click("#no-sources")
-    page.browser.wait_for(f"document.querySelector('.verdict h2')?.textContent.includes('leaving')")
+    page.browser.wait_for("document.querySelector('.verdict h2')?.textContent.includes('leaving')")
     page.equal("the verdict without sources", "Different maps, leaving out sources", page.browser.text(".verdict h2"))
     page.holds("the third line", "all fields but sources (--no-sources)" in page.browser.text(".sets"), page.browser.text(".sets"))
     page.browser.click("#no-sources")

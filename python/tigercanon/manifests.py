@@ -234,6 +234,8 @@ def written(name: str, flags: Flags, inputs: Inputs, resources: Resources) -> It
     folder = os.path.dirname(os.path.realpath(name))
     if not os.path.isdir(folder):
         raise Failure(f"{name}: can't be written: there is no folder {folder}")
+    if os.path.exists(name) and not os.path.isfile(name) and not os.path.isdir(name):  # beside a device no lock can be made
+        raise Failure(f"{name}: not a manifest: it isn't a regular file")
     with resources.part() as part:
         part.keep(lock_held(name))
         manifest = Manifest(name, flags, inputs, part)
