@@ -58,7 +58,7 @@ const counties = town.map(canonical);
 const findings = new Findings(compareCounties(...counties), counties);
 const summary = findings.summary();
 equal("the counts", { chain: [4, 4, 11, 207], landmark: [1, 1, 1, 9], polygon: [0, 0, 2, 78], "feature name": [0, 1, 0, 2] }, summary.counts);
-equal("how many there are", 25, summary.total);
+equal("how many there are", [25, false], [summary.total, summary.areOneMap]);
 equal("the chains of the map, those that differ last", [207, 226, ALIKE, FIRST, CHANGED], [summary.shapes.firstEntry, summary.shapes.chains.classes.length, summary.shapes.chains.classes[206], summary.shapes.chains.classes[207], summary.shapes.chains.classes[225]]);
 equal("the points of the map, those that are alike first", [ALIKE, ALIKE, FIRST], [0, 1, summary.shapes.points.findIndex(({ kind }) => kind !== ALIKE)].map((at) => summary.shapes.points[at].kind));
 equal("points that differ lead to their entries", true, summary.shapes.points.filter(({ kind }) => kind !== ALIKE).every(({ entry, kind, subject }) => findings.entries[entry].kind === kind && findings.entries[entry].what === subject));

@@ -315,7 +315,11 @@ def try_third(page: Page) -> None:
     page.browser.give([EXAMPLES / "autauga/all.txt"])
     page.browser.wait_for("document.getElementById('fingerprint')")
     notice = page.browser.text("#notice")
-    page.equal("what a third county does", "The comparison of first.txt and second.txt was closed, since two counties are compared at a time. Back to them.", notice)
+    page.equal(
+        "what a third county does",
+        "The comparison of first.txt and second.txt was closed, since two counties are compared at a time. Back to them.",
+        notice,
+    )
     page.browser.click("#notice button")
     page.holds("back", page.browser.wait_for(LISTED), page.browser.text("main"))
     page.equal("the notice is gone", "", page.browser.text("#notice:not([hidden])"))
@@ -337,7 +341,9 @@ def try_table(page: Page) -> None:
     page.equal("by name, the other way round", ["second.txt", "first.txt", "broken.txt", "all.txt"], found[1])
     page.equal("by result", "broken.txt", found[2][-1])
     page.equal("the sorted column", ["Result"], page.browser.texts(".counties [aria-sort='ascending']"))
-    page.browser.driver.execute_script("const box = document.getElementById('county-filter'); box.value = 'accepted s'; box.dispatchEvent(new Event('input'))")
+    page.browser.driver.execute_script(
+        "const box = document.getElementById('county-filter'); box.value = 'accepted s'; box.dispatchEvent(new Event('input'))"
+    )
     page.equal("a filter of two words", ["first.txt", "second.txt"], sorted(page.browser.texts(names)))
     page.equal("how many there are", "2 of 4", page.browser.text(".county-table .listed"))
     manifest = page.room / "wanted.manifest"
@@ -346,8 +352,16 @@ def try_table(page: Page) -> None:
     page.browser.give([manifest])
     page.holds("compared", page.browser.wait_for("document.querySelector('.verified')"), page.browser.text("main"))
     rows = {text.split()[0]: text for text in page.browser.texts(".counties tbody tr")}
-    page.holds("a failed county's wanted fingerprint", "FAILED" in rows["second.txt"] and f"in the manifest: {'a' * 16}" in rows["second.txt"], rows)
-    page.holds("a refused county's wanted fingerprint", "FAILED" in rows["broken.txt"] and f"in the manifest: {'b' * 16}" in rows["broken.txt"], rows)
+    page.holds(
+        "a failed county's wanted fingerprint",
+        "FAILED" in rows["second.txt"] and f"in the manifest: {'a' * 16}" in rows["second.txt"],
+        rows,
+    )
+    page.holds(
+        "a refused county's wanted fingerprint",
+        "FAILED" in rows["broken.txt"] and f"in the manifest: {'b' * 16}" in rows["broken.txt"],
+        rows,
+    )
     page.equal("failed ones first", ["broken.txt", "second.txt"], page.browser.texts(names)[:2])
 
 
