@@ -70,6 +70,11 @@ equal("all words must be there", [1, 2, 0, 25], [list("hickory 998"), list("Hick
 equal("of what changed only the fields that differ are sought", 0, list("maple 36067 fename").count);
 equal("hidden ones", [14, 24], [[keyOfKind("chain", CHANGED)], [keyOfKind("feature name", SECOND)]].map((hidden) => list("", hidden).count));
 equal("a piece of the list", [25, [3, 4, 5]], (({ count, piece }) => [count, piece.map(({ number }) => number)])(list("", [], 3, 3)));
+const abouts = (word) => list(word).piece.map(({ about }) => about);
+equal("where a chain is", "4 points, from 32.460317° N, 86.477954° W to 32.460467° N, 86.476508° W", abouts("jackson")[0]);
+equal("where a landmark is", "at 32.457196° N, 86.469284° W", abouts("madison oak")[0]);
+equal("whose number a polygon has", ["CENID 06001", "CENID 06001"], abouts("polygon changed cenid").slice(-2));
+equal("what a name is of", true, /^FILE 01001, a further name of \d+ chains?$/.test(abouts("name only in the second").at(-1)));
 const harrison = list("harrison").piece[0];
 equal("three of the fields that changed", [["range 1", "FRADDL of range 1", "TOADDL of range 1"], 4, "no", "yes"], [harrison.changes.map(({ label }) => label), harrison.more, harrison.changes[0].first, harrison.changes[0].second]);
 equal("without numbers at first", ["", 0], [harrison.numbers, list("TLID 1977").count]);

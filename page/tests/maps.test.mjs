@@ -41,6 +41,8 @@ const chains = {
 const { bounds, all } = boundsOf(chains);
 equal("the bounds of all chains", [0, 0, 5010, 5000], all);
 equal("the bounds of each chain", [0, 0, 1000, 1000, 500, 400, 502, 402, 100, 900, 100, 900, 5000, 5000, 5010, 5000], [...bounds]);
+const bent = boundsOf({ starts: Uint32Array.of(0, 4), places: Int32Array.of(-15, 5, -20, 7, -10, 9, -12, 3) });
+equal("the bounds of a bent chain", [[-20, 3, -10, 9], [-20, 3, -10, 9]], [[...bent.bounds], bent.all]);
 equal("the bounds of no chains", [-1, -1, 1, 1], boundsOf({ starts: Uint32Array.of(0), places: Int32Array.of() }).all);
 equal("chains by their style", [[ALIKE, [0]], [SECOND, [3]], [FIRST, [2]], [CHANGED, [1]]], byStyle(chains.classes, [ALIKE, SECOND, FIRST, CHANGED]));
 
@@ -106,14 +108,18 @@ equal("of two small chains of a place one is drawn, and the long one", 2, thinne
 
 // A map across the line of 180 degrees is moved to one side; one on one side isn't.
 const crossing = (longitudes) => {
-  const made = new Shapes(1, longitudes.length);
-  for (const longitude of longitudes) made.add(longitude, 1);
+  const made = new Shapes(2, longitudes.length + 5);
+  longitudes.forEach((longitude, at) => made.add(longitude, at + 50));
   made.endChain(4);
+  made.add(longitudes[0], 7);
+  made.endChain(2);
   const { places, shift, starts, classes } = made.sent();
-  return [[...places].filter((_, at) => at % 2 === 0), shift, [...starts], [...classes]];
+  return [[...places], shift, [...starts], [...classes]];
 };
-equal("a map across the line of 180 degrees", [[-180_000_001, -179_999_999, -180_500_000], 360_000_000, [0, 3], [4]], crossing([179_999_999, -179_999_999, 179_500_000]));
-equal("a map on one side of it", [[-86_000_000, -85_000_000], 0, [0, 2], [4]], crossing([-86_000_000, -85_000_000]));
+const across = [-180_000_001, 50, -179_999_999, 51, -180_500_000, 52, -180_000_001, 7];
+equal("a map across the line of 180 degrees", [across, 360_000_000, [0, 3, 4], [4, 2]], crossing([179_999_999, -179_999_999, 179_500_000]));
+equal("a map on one side of it", [[-86_000_000, 50, -85_000_000, 51, -86_000_000, 7], 0, [0, 2, 3], [4, 2]], crossing([-86_000_000, -85_000_000]));
+equal("a map on the eastern side", [[144_000_000, 50, 145_000_000, 51, 144_000_000, 7], 0, [0, 2, 3], [4, 2]], crossing([144_000_000, 145_000_000]));
 
 const near = (x, y, isShown = () => true) => chainNear(view, layer, x, y, 8, isShown);
 equal("the chain at a place", 0, near(view.x(250), view.y(250) + 3));
