@@ -15,7 +15,7 @@ ROOT = Path(__file__).resolve().parent.parent
 sys.path.insert(0, str(ROOT / "python"))
 
 from tigercanon import explanations, hints, layout, manifests  # noqa: E402
-from tigercanon.diff import columns, fields, words  # noqa: E402
+from tigercanon.diff import columns, wording  # noqa: E402
 
 SECTION = re.compile(r"(?ms)^## Record type (.): .*? \((\d+) bytes\)$(.*?)(?=^## |\Z)")
 ROW = re.compile(r"(?m)^\| ([0-9][0-9, -]*) \|([^|]*)\|([^|]*)\|([^|]*)\|")
@@ -112,11 +112,15 @@ def tables() -> dict[str, Any]:
         "LENGTHS": columns.LENGTHS,
         "REQUIRED": required(),
         "HINTS": [[list(beginning), text] for beginning, text in hints.BEGINNINGS],
-        "KINDS": words.KINDS,
-        "ONE_MAP": words.ONE_MAP,
-        "TIED": words.TIED,
-        "NONE": fields.NONE,
-        "BLANK": fields.BLANK,
+        "KINDS": wording.KINDS,
+        "ONE_MAP": wording.ONE_MAP,
+        "TIED": wording.TIED,
+        "NONE": wording.NONE,
+        "BLANK": wording.BLANK,
+        "YES": wording.YES,
+        "NO": wording.NO,
+        "FIELDS": wording.FIELDS,
+        "PHRASES": wording.PHRASES,
         "FORM": manifests.FORM,
         "FLAGS": manifests.FLAGS,
         "UNPROVED": manifests.UNPROVED,

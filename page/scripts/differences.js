@@ -5,32 +5,33 @@ import { counted } from "./numbers.js";
 import { rowsOfChain, rowsOfLandmark, rowsOfPolygon } from "./matching.js";
 import { degrees, eachPoint, NO_POINT } from "./points.js";
 import { BLANK, KINDS, ONE_MAP, TIED } from "./tables.js";
+import { phrase } from "./wording.js";
 
 // Each thing has a title, what follows the title, its points, the field with its number, and its fields in both maps. Of what one map
 // has alone, the other one is undefined.
 export const MAKERS = {
   chain(found, one, other) {
     const points = eachPoint((one ?? other).points);
-    const about = `${points.length} points, from ${degrees(points[0])} to ${degrees(points[points.length - 1])}`;
+    const about = phrase("chain", points.length, degrees(points[0]), degrees(points[points.length - 1]));
     return { title: chainTitle(one ?? other), about, points, numberField: "TLID", rows: () => rowsOfChain(found, one, other) };
   },
   landmark(found, one, other) {
     const points = landmarkPoints(one ?? other, (one ? found.first : found.second).county);
-    const more = points.length > 1 ? ` and ${counted(points.length - 1)} more` : "";
-    const about = points.length ? `at ${degrees(points[0])}${more}` : "without a place";
+    const name = points.length > 1 ? "place and more" : points.length ? "place" : "without a place";
+    const about = phrase(name, ...points.slice(0, 1).map(degrees), counted(points.length - 1));
     return { title: landmarkTitle(one ?? other), about, points, numberField: "LAND", rows: () => rowsOfLandmark(found, one, other) };
   },
   polygon(found, one, other) {
     const either = one ?? other;
     const points = either.point === NO_POINT ? [] : [either.point];
-    const about = `CENID ${either.cenid.trim() || BLANK}`;
+    const about = phrase("office", either.cenid.trim() || BLANK);
     return { title: polygonWords(either.body), about, points, numberField: "POLYID", rows: () => rowsOfPolygon(one, other) };
   },
   "feature name"(found, one, other) {
     const { body, uses } = one ?? other;
     const file = NAME.value(body, "FILE").trim() || BLANK;
-    const chains = `${uses ? counted(uses) : "no"} chain${uses === 1 ? "" : "s"}`;
-    return { title: nameText(NAME, body) || BLANK, about: `FILE ${file}, a further name of ${chains}`, points: [], rows: () => [] };
+    const about = phrase(uses === 1 ? "name of one" : "name of several", file, uses ? counted(uses) : "no");
+    return { title: nameText(NAME, body) || BLANK, about, points: [], rows: () => [] };
   },
 };
 

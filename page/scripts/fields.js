@@ -5,10 +5,9 @@
 import { CHAIN, LANDMARK, NAME, POLYGON, RANGE, TOPOLOGY } from "./contents.js";
 import { degrees, NO_POINT } from "./points.js";
 import { isBlank } from "./records.js";
-import { BLANK, NONE } from "./tables.js";
+import { BLANK, NO, NONE, YES } from "./tables.js";
+import { fieldWords, phrase } from "./wording.js";
 
-export const YES = "yes";
-const NO = "no";
 const NOTHING = { plain: "", exact: "", mark: "" };
 const THERE = { plain: YES, exact: YES, mark: YES };
 
@@ -52,14 +51,14 @@ export class Teller {
     const fields = new Fields();
     fields.addContent(CHAIN, chain.body);
     this.county.nameBodies(chain).forEach((body, place) => {
-      fields.add(`further name ${place + 1}`, "a further name of the chain", { plain: nameText(NAME, body) || BLANK, exact: body, mark: body });
+      fields.add(...fieldWords("further name", place + 1), { plain: nameText(NAME, body) || BLANK, exact: body, mark: body });
     });
     chain.ranges.forEach((content, place) => {
-      fields.add(`range ${place + 1}`, "whether there is a further address range", THERE, "flag");
-      fields.addContent(RANGE, content, ` of range ${place + 1}`);
+      fields.add(...fieldWords("range", place + 1), THERE, "flag");
+      fields.addContent(RANGE, content, phrase("of range", place + 1));
     });
     ["start", "end"].forEach((end, place) => {
-      fields.add(`${end} node`, `whether the ${end} has a node`, isBlank(chain.nodes[place]) ? NOTHING : THERE, "flag");
+      fields.add(...fieldWords("node", end, end), isBlank(chain.nodes[place]) ? NOTHING : THERE, "flag");
     });
     ["left", "right"].forEach((hand, place) => this.addSide(fields, hand, chain.sides[place]));
     fields.addContent(TOPOLOGY, chain.topologyBody, " of type I");
@@ -67,8 +66,8 @@ export class Teller {
   }
 
   addSide(fields, hand, side) {
-    fields.add(`CENID${hand[0].toUpperCase()}`, `office of the polygon on the ${hand}`, textOf(side.slice(0, 5)));
-    if (!isBlank(side.slice(5))) fields.add(`${hand} polygon`, `the polygon on the ${hand}, by what its record says`, this.polygonText(side));
+    fields.add(...fieldWords("side's office", hand[0].toUpperCase(), hand), textOf(side.slice(0, 5)));
+    if (!isBlank(side.slice(5))) fields.add(...fieldWords("side", hand, hand), this.polygonText(side));
   }
 
   // A polygon, as something else names it.
@@ -88,8 +87,8 @@ export class Teller {
 
 export function polygonFields(polygon) {
   const fields = new Fields();
-  fields.add("CENID", "the office that numbers polygons", textOf(polygon.cenid));
-  fields.add("type P", "whether the polygon has a record of type P", polygon.body ? THERE : NOTHING, "flag");
+  fields.add(...fieldWords("office"), textOf(polygon.cenid));
+  fields.add(...fieldWords("record of type P"), polygon.body ? THERE : NOTHING, "flag");
   if (polygon.body) fields.addContent(POLYGON, polygon.body);
   return fields;
 }
@@ -99,10 +98,10 @@ function landmarkFields(bodies, places) {
   const fields = new Fields();
   bodies.forEach((body, place) => {
     const number = place + 1;
-    if (number > 1) fields.add(`record ${number}`, "whether there is a further record of type 7", THERE, "flag");
-    fields.addContent(LANDMARK, body, number > 1 ? ` of record ${number}` : "");
+    if (number > 1) fields.add(...fieldWords("record of type 7", number), THERE, "flag");
+    fields.addContent(LANDMARK, body, number > 1 ? phrase("of record", number) : "");
   });
-  places.forEach((text, place) => fields.add(`polygon ${place + 1}`, "a polygon that the landmark lies in", text));
+  places.forEach((text, place) => fields.add(...fieldWords("area", place + 1), text));
   return fields;
 }
 
@@ -170,9 +169,9 @@ function shown(name, text, other) {
 
 // A polygon by its record of type P: where it lies.
 export function polygonWords(body) {
-  if (!body) return "without a record of type P";
+  if (!body) return phrase("without a record");
   const point = POLYGON.value(body, "POLYLONG, POLYLAT");
-  return point === NO_POINT ? "without a point" : `at ${degrees(point)}`;
+  return point === NO_POINT ? phrase("without a point") : phrase("place", degrees(point));
 }
 
 // The feature name in a record of type 1 or 5: the direction before it, the name, its type and the direction after it.
@@ -183,11 +182,11 @@ export function nameText(layout, content) {
 
 const titled = (name, cfcc) => (cfcc.trim() ? `${name} (${cfcc.trim()})` : name);
 
-export const chainTitle = (chain) => titled(nameText(CHAIN, chain.body) || "unnamed", CHAIN.value(chain.body, "CFCC"));
+export const chainTitle = (chain) => titled(nameText(CHAIN, chain.body) || phrase("unnamed chain"), CHAIN.value(chain.body, "CFCC"));
 
 export function landmarkTitle(landmark) {
   const body = landmark.bodies[0];
-  return titled(LANDMARK.value(body, "LANAME").trim() || "unnamed landmark", LANDMARK.value(body, "CFCC"));
+  return titled(LANDMARK.value(body, "LANAME").trim() || phrase("unnamed landmark"), LANDMARK.value(body, "CFCC"));
 }
 
 // Where a landmark lies: its own points, or else the internal points of its polygons.

@@ -1,9 +1,8 @@
 // Writes where two maps differ as GeoJSON (RFC 7946), so that any GIS shows it.
 import { nameOf, things, verdictOf } from "./differences.js";
-import { YES } from "./fields.js";
 import { decimal } from "./points.js";
 import { numberOf } from "./records.js";
-import { BLANK, KINDS, NONE } from "./tables.js";
+import { BLANK, KINDS, NONE, YES } from "./tables.js";
 import { tieLine, tiedPlace, tiePoints } from "./ties.js";
 
 const ABOUT = "Where two maps differ, found by tigercanon.html. This list isn't proved.";

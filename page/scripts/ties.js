@@ -4,6 +4,7 @@ import { LANDMARK } from "./contents.js";
 import { chainTitle, landmarkTitle, pairBy } from "./fields.js";
 import { degrees, eachPoint, NO_POINT } from "./points.js";
 import { isBlank } from "./records.js";
+import { phrase } from "./wording.js";
 
 const SUBJECTS_OF_TIES = ["node", "polygon", "feature name"];
 const ENDS = ["start", "end"];
@@ -102,10 +103,10 @@ export const tiePoints = (tie) => [...new Set(tie.groups.flat().map(tiedPoint))]
 
 export function tieLine(tie) {
   const [one, several] = tie.isOneInFirst ? ["first", "second"] : ["second", "first"];
-  return `one ${tie.subject} in the ${one}, ${tie.groups.length} in the ${several}`;
+  return phrase("tie", tie.subject, one, tie.groups.length, several);
 }
 
 export function tiedPlace(at) {
   const [title, point] = [at.landmark ? landmarkTitle(at.landmark) : chainTitle(at.chain), tiedPoint(at)];
-  return `${at.place} of ${title}${point === NO_POINT ? "" : `, ${degrees(point)}`}`;
+  return `${phrase("place of", at.place, title)}${point === NO_POINT ? "" : `, ${degrees(point)}`}`;
 }

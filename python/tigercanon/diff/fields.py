@@ -8,8 +8,10 @@ from typing import Callable, Hashable, Iterable, NamedTuple, Sequence, TypeVar
 
 from .columns import CHAIN, LANDMARK, NAME, POLYGON, RANGE, TOPOLOGY, Layout
 from .reading import NO_POINT, POINT_WIDTH, Chain, County, Landmark, Polygon, PolygonKey
-
-NONE, BLANK, YES, NO = "(none)", "(blank)", "yes", "no"
+from .wording import BLANK as BLANK
+from .wording import FIELDS, NO, PHRASES
+from .wording import NONE as NONE
+from .wording import YES as YES
 
 T = TypeVar("T")
 Pair = tuple[T, T]
@@ -21,6 +23,12 @@ class FieldName(NamedTuple):
     label: str
     holds: str
     kind: str = "text"
+
+
+def named(name: str, of: object = "", on: str = "", kind: str = "text") -> FieldName:
+    """Returns the name of a field that isn't a column: of the number or side that it is of, on a side."""
+    label, holds = FIELDS[name]
+    return FieldName(label.format(of), holds.format(on), kind)
 
 
 class Text(NamedTuple):
@@ -58,18 +66,16 @@ class Teller(NamedTuple):
     def chain(self, chain: Chain) -> Fields:
         fields = text_fields(CHAIN, chain.body)
         for place, body in enumerate(self.county.name_bodies(chain), 1):
-            name = FieldName(f"further name {place}", "a further name of the chain")
-            fields[name] = Text(name_text(NAME, body) or BLANK, body, body)
+            fields[named("further name", place)] = Text(name_text(NAME, body) or BLANK, body, body)
         for place, content in enumerate(chain.ranges, 1):
-            fields[FieldName(f"range {place}", "whether there is a further address range", "flag")] = THERE
-            fields.update(text_fields(RANGE, content, f" of range {place}"))
+            fields[named("range", place, kind="flag")] = THERE
+            fields.update(text_fields(RANGE, content, PHRASES["of range"].format(place)))
         for end, node in zip(("start", "end"), chain.nodes):
-            fields[FieldName(f"{end} node", f"whether the {end} has a node", "flag")] = NOTHING if node.isspace() else THERE
+            fields[named("node", end, end, "flag")] = NOTHING if node.isspace() else THERE
         for hand, side in zip(("left", "right"), chain.sides):
-            fields[FieldName(f"CENID{hand[0].upper()}", f"office of the polygon on the {hand}")] = text_of(side[:5])
+            fields[named("side's office", hand[0].upper(), hand)] = text_of(side[:5])
             if not side[5:].isspace():
-                name = FieldName(f"{hand} polygon", f"the polygon on the {hand}, by what its record says")
-                fields[name] = self.polygon_text(side)
+                fields[named("side", hand, hand)] = self.polygon_text(side)
         fields.update(text_fields(TOPOLOGY, chain.topology_body, " of type I"))
         return fields
 
@@ -100,9 +106,8 @@ def field_names(layout: Layout, suffix: str) -> list[FieldName]:
 
 
 def polygon_fields(polygon: Polygon) -> Fields:
-    office = FieldName("CENID", "the office that numbers polygons")
-    record = FieldName("type P", "whether the polygon has a record of type P", "flag")
-    told = {office: text_of(polygon.cenid), record: THERE if polygon.body else NOTHING}
+    record = THERE if polygon.body else NOTHING
+    told = {named("office"): text_of(polygon.cenid), named("record of type P", kind="flag"): record}
     return {**told, **text_fields(POLYGON, polygon.body)} if polygon.body else told
 
 
@@ -111,10 +116,10 @@ def landmark_fields(bodies: Sequence[str], places: Sequence[Text]) -> Fields:
     fields: Fields = {}
     for number, body in enumerate(bodies, 1):
         if number > 1:
-            fields[FieldName(f"record {number}", "whether there is a further record of type 7", "flag")] = THERE
-        fields.update(text_fields(LANDMARK, body, f" of record {number}" if number > 1 else ""))
+            fields[named("record of type 7", number, kind="flag")] = THERE
+        fields.update(text_fields(LANDMARK, body, PHRASES["of record"].format(number) if number > 1 else ""))
     for number, place in enumerate(places, 1):
-        fields[FieldName(f"polygon {number}", "a polygon that the landmark lies in")] = place
+        fields[named("area", number)] = place
     return fields
 
 
@@ -176,9 +181,9 @@ def shown(name: FieldName, text: Text, other: Text) -> str:
 def polygon_words(body: str) -> str:
     """A polygon by its record of type P: where it lies."""
     if not body:
-        return "without a record of type P"
+        return PHRASES["without a record"]
     point = POLYGON.value(body, "POLYLONG, POLYLAT")
-    return "without a point" if point == NO_POINT else f"at {degrees(point)}"
+    return PHRASES["without a point"] if point == NO_POINT else PHRASES["place"].format(degrees(point))
 
 
 def name_text(layout: Layout, content: str) -> str:
@@ -188,12 +193,12 @@ def name_text(layout: Layout, content: str) -> str:
 
 
 def chain_title(chain: Chain) -> str:
-    return titled(name_text(CHAIN, chain.body) or "unnamed", CHAIN.value(chain.body, "CFCC"))
+    return titled(name_text(CHAIN, chain.body) or PHRASES["unnamed chain"], CHAIN.value(chain.body, "CFCC"))
 
 
 def landmark_title(landmark: Landmark) -> str:
     body = landmark.bodies[0]
-    return titled(LANDMARK.value(body, "LANAME").strip() or "unnamed landmark", LANDMARK.value(body, "CFCC"))
+    return titled(LANDMARK.value(body, "LANAME").strip() or PHRASES["unnamed landmark"], LANDMARK.value(body, "CFCC"))
 
 
 def titled(name: str, cfcc: str) -> str:

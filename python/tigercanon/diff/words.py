@@ -10,13 +10,10 @@ from .fields import polygon_fields, polygon_words, rows
 from .matching import Comparison, Tie, Tied
 from .reading import NO_POINT, Landmark, each_point
 from .sets import Sets
-
-KINDS = ("only in the first", "only in the second", "changed", "alike")
-ONE_MAP = "No differences: the two are one map."
-TIED = (
-    "All chains, landmarks, polygons and feature names are alike. What differs is how they are joined: which ends of chains are one "
-    "node, which sides are one polygon, which chains share a feature name, or which polygons a landmark lies in."
-)
+from .wording import KINDS as KINDS
+from .wording import ONE_MAP as ONE_MAP
+from .wording import PHRASES
+from .wording import TIED as TIED
 
 
 class Thing(NamedTuple):
@@ -49,7 +46,7 @@ def own_words(found: Comparison, field: str, one: Any, other: Any) -> str:
 
 def chain(found: Comparison, kind: str, one: Any, other: Any) -> Thing:
     title, points = chain_title(one or other), each_point((one or other).points)
-    about = f"{len(points)} points, from {degrees(points[0])} to {degrees(points[-1])}"
+    about = PHRASES["chain"].format(len(points), degrees(points[0]), degrees(points[-1]))
     first, second = found.first.chain, found.second.chain
     numbers = own_words(found, "TLID", one, other)
     return Thing(
@@ -59,8 +56,8 @@ def chain(found: Comparison, kind: str, one: Any, other: Any) -> Thing:
 
 def landmark(found: Comparison, kind: str, one: Any, other: Any) -> Thing:
     points = landmark_points(one or other, (found.first if one else found.second).county)
-    more = f" and {len(points) - 1:,} more" if len(points) > 1 else ""
-    about = f"at {degrees(points[0])}{more}" if points else "without a place"
+    phrase = PHRASES["place and more" if len(points) > 1 else "place" if points else "without a place"]
+    about = phrase.format(*map(degrees, points[:1]), f"{len(points) - 1:,}")
     table = partial(landmark_rows, found.first, found.second, one, other)
     numbers = own_words(found, "LAND", one, other)
     return Thing("landmark", kind, one, other, landmark_title(one or other), about, points, "LAND", numbers, table)
@@ -69,7 +66,7 @@ def landmark(found: Comparison, kind: str, one: Any, other: Any) -> Thing:
 def polygon(found: Comparison, kind: str, one: Any, other: Any) -> Thing:
     either, told = one or other, polygon_fields
     place = [either.point] if either.point != NO_POINT else []
-    title, about = polygon_words(either.body), f"CENID {either.cenid.strip() or BLANK}"
+    title, about = polygon_words(either.body), PHRASES["office"].format(either.cenid.strip() or BLANK)
     numbers = own_words(found, "POLYID", one, other)
     return Thing(
         "polygon", kind, one, other, title, about, place, "POLYID", numbers, lambda: rows(one and told(one), other and told(other))
@@ -79,7 +76,7 @@ def polygon(found: Comparison, kind: str, one: Any, other: Any) -> Thing:
 def feature_name(_: Comparison, kind: str, one: Any, other: Any) -> Thing:
     body, uses = (one or other).body, (one or other).uses
     file = NAME.value(body, "FILE").strip() or BLANK
-    about = f"FILE {file}, a further name of {f'{uses:,}' if uses else 'no'} chain{'' if uses == 1 else 's'}"
+    about = PHRASES["name of one" if uses == 1 else "name of several"].format(file, f"{uses:,}" if uses else "no")
     return Thing("feature name", kind, one, other, name_text(NAME, body) or BLANK, about, [])
 
 
@@ -161,9 +158,9 @@ def differing(rows: list[Row]) -> Iterator[str]:
 
 def tie_line(tie: Tie) -> str:
     one, several = ("first", "second") if tie.is_one_in_first else ("second", "first")
-    return f"one {tie.subject} in the {one}, {len(tie.groups)} in the {several}:"
+    return f"{PHRASES['tie'].format(tie.subject, one, len(tie.groups), several)}:"
 
 
 def tied_place(at: Tied) -> str:
     title = landmark_title(at.owner) if isinstance(at.owner, Landmark) else chain_title(at.owner)
-    return f"{at.place} of {title}{'' if at.point == NO_POINT else f', {degrees(at.point)}'}"
+    return f"{PHRASES['place of'].format(at.place, title)}{'' if at.point == NO_POINT else f', {degrees(at.point)}'}"
