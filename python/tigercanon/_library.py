@@ -124,14 +124,14 @@ def place_of_library() -> tuple[str, str]:
     places = [package, root / "lib"]
     if not (root / FINDER).is_file():
         places.append(root / "out/library/lib")
-    found = os.environ.get(VARIABLE, "") or next((str(place / NAME) for place in places if (place / NAME).exists()), "")
-    if not found and (root / FINDER).is_file():
+    path = os.environ.get(VARIABLE, "") or next((str(place / NAME) for place in places if (place / NAME).exists()), "")
+    if not path and (root / FINDER).is_file():
         # In a clone it is the library that was built from the sources as they are, or is prebuilt from them.
         asks = [str(root / FINDER), NAME]
         ended = subprocess.run(asks, stdin=subprocess.DEVNULL, stdout=subprocess.PIPE, stderr=subprocess.PIPE)
-        found, why = (os.fsdecode(text).rstrip("\n") for text in (ended.stdout, ended.stderr))
-        return found, why
-    return found or NAME, ""
+        path, why = (os.fsdecode(text).rstrip("\n") for text in (ended.stdout, ended.stderr))
+        return path, why
+    return path or NAME, ""
 
 
 @functools.lru_cache(maxsize=None)

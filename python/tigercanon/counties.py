@@ -38,7 +38,7 @@ class Finder:
 
     def once(self, counties: Iterable[County], is_known: Callable[[County], bool] = lambda _: False) -> tuple[list[County], int]:
         """Of these counties those that aren't known, each once; and how many are known."""
-        found: dict[str, County] = {}
+        counted: dict[str, County] = {}
         places: dict[str, str] = {}
         known: set[str] = set()
         for county in counties:
@@ -47,11 +47,11 @@ class Finder:
                 continue
             # A name that its files have whichever links lead to them.
             first = places.setdefault(real(county.places[0].place), county.stem) if county.places else county.stem
-            if first != county.stem and county.stem not in found:
+            if first != county.stem and county.stem not in counted:
                 self.same.append((county.stem, first))
             else:
-                found.setdefault(county.stem, county)
-        return list(found.values()), len(known)
+                counted.setdefault(county.stem, county)
+        return list(counted.values()), len(known)
 
     def counties(self, sources: Iterable[str], is_known: Callable[[County], bool] = lambda _: False) -> tuple[list[County], int]:
         """The counties of all sources that aren't known, each once; and how many are known."""
@@ -82,17 +82,17 @@ class Finder:
             return
         seen.add(real(folder or "."))
         try:
-            found = self.entries_in(folder)
+            listed = self.entries_in(folder)
         except Exception as error:
             yield County(folder, trouble=f"can't be listed: {reason(error)}")
             return
         walked.add(folder)
-        for names in names_among(found).values():
+        for names in names_among(listed).values():
             yield county_of(folder, names)
-        for entry in found:
+        for entry in listed:
             if not entry.is_folder and kind_of(entry.name) not in KINDS:
                 yield from self.whole(folder, entry)
-        for entry in found:
+        for entry in listed:
             if entry.is_folder:
                 yield from self.below(joined(folder, entry.name), seen, walked)
 
@@ -125,10 +125,10 @@ class Finder:
         for folder, entry in self.matches(root, words):
             path = joined(folder, entry.name)
             if entry.is_folder:
-                found = self.below(path, set(), self.walked)
+                counties = self.below(path, set(), self.walked)
             else:
-                found = iter([self.of_name(path)]) if kind_of(path) else self.whole(folder, entry)
-            for county in found:
+                counties = iter([self.of_name(path)]) if kind_of(path) else self.whole(folder, entry)
+            for county in counties:
                 count += 1
                 yield county
         if count == 0:
@@ -174,14 +174,14 @@ class Finder:
             return County(path, trouble=f"can't be read: {reason(error)}")
         by_key = self.by_key(folder) if listed and not is_url(path) else keyed(listed)
         alike = [entry for key in dict.fromkeys((folded(stem_of(name)), key_of(name))) for entry in by_key.get(key, [])]
-        itself = [entry for entry in alike if entry.name == name]
-        names = names_among(itself if is_exact and kind_of(name) == "ZIP" and itself else alike)
+        exact = [entry for entry in alike if entry.name == name]
+        names = names_among(exact if is_exact and kind_of(name) == "ZIP" and exact else alike)
         if folded(stem_of(name)) in names:
             return county_of(folder, names[folded(stem_of(name))])
-        if kind_of(name) and itself:
+        if kind_of(name) and exact:
             return County(path, trouble="isn't one of a county's nine files")
-        if itself and not itself[0].is_folder:
-            return whole_county(folder, itself[0])
+        if exact and not exact[0].is_folder:
+            return whole_county(folder, exact[0])
         if not kind_of(name):
             if key_of(name) in names:
                 return county_of(folder, names[key_of(name)])
@@ -208,18 +208,18 @@ class Finder:
         return listed if listed or not is_url(path) else probed(path)
 
 
-def keyed(found: Iterable[Entry]) -> dict[str, list[Entry]]:
+def keyed(listed: Iterable[Entry]) -> dict[str, list[Entry]]:
     """The entries of a folder by their names without case and ending."""
     groups: dict[str, list[Entry]] = {}
-    for entry in found:
+    for entry in listed:
         groups.setdefault(key_of(entry.name), []).append(entry)
     return groups
 
 
-def names_among(found: Iterable[Entry]) -> dict[str, Names]:
+def names_among(listed: Iterable[Entry]) -> dict[str, Names]:
     """The counties in a folder with these entries, by their stems without case."""
     grouped: dict[str, Names] = {}
-    for entry in found:
+    for entry in listed:
         if kind_of(entry.name) in KINDS and not entry.is_folder:
             grouped.setdefault(folded(stem_of(entry.name)), {}).setdefault(kind_of(entry.name), []).append(entry)
     return grouped
@@ -259,9 +259,9 @@ def county_in(folder: str, entry: Entry, is_listed: bool = False) -> County | No
     return whole_county(folder, entry) if is_county else None
 
 
-def wholes_among(folder: str, found: Iterable[Entry]) -> list[County]:
+def wholes_among(folder: str, listed: Iterable[Entry]) -> list[County]:
     """The counties with all records in one file each. If some begin with a record, those."""
-    counties = [county for county in (county_in(folder, entry) for entry in found if not entry.is_folder) if county]
+    counties = [county for county in (county_in(folder, entry) for entry in listed if not entry.is_folder) if county]
     sure = (
         [county for county in counties if county.whole and is_record(first_line(county.whole.place))] if len(counties) > 1 else []
     )
@@ -313,12 +313,12 @@ def doubles_among(counties: Sequence[County]) -> dict[str, str]:
 
 def probed(path: str) -> list[Entry]:
     """The files of a county at a URL that are there, each asked for by its name. Raises the first error of a server that doesn't answer."""
-    stem, found, troubles = stem_of(path), list[Entry](), list[Exception]()
+    stem, there, troubles = stem_of(path), list[Entry](), list[Exception]()
     for name in dict.fromkeys((path, *(stem + ending for ending in (".ZIP", ".zip", *(f".RT{kind}" for kind in TYPES))))):
         try:
-            found.append(entry_of(name))
+            there.append(entry_of(name))
         except Exception as error:
             troubles += [] if is_absent(error) else [error]
-    if troubles and not found:
+    if troubles and not there:
         raise troubles[0].__cause__ or troubles[0]
-    return found
+    return there

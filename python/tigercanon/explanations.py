@@ -36,7 +36,7 @@ def page() -> str:
 
 def sections(text: str) -> dict[int, str]:
     """The sections of the refusals by their numbers, each with its heading."""
-    return {int(found[1]): found[0] for found in re.finditer(r"(?ms)^### `refused (\d+) .*?(?=^#|\Z)", text)}
+    return {int(section[1]): section[0] for section in re.finditer(r"(?ms)^### `refused (\d+) .*?(?=^#|\Z)", text)}
 
 
 def explained(line: str, text: str) -> list[str]:

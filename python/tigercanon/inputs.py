@@ -28,9 +28,9 @@ class Inputs:
         """Raises Failure if one of these streams goes to one of the files. Then nothing more is written to it."""
         self.names: dict[Identity, str] = {}
         for name in names:
-            found = identity(path_of(name))
-            if found:
-                self.names.setdefault(found, name)
+            file = identity(path_of(name))
+            if file:
+                self.names.setdefault(file, name)
         for stream, shown in streams.items():
             try:
                 self.spare(shown, stream)

@@ -33,28 +33,28 @@ def list_duplicates(options: argparse.Namespace, console: Console, resources: Re
 
 def list_changes(options: argparse.Namespace, console: Console, resources: Resources) -> int:
     resources.inputs(options.manifests)
-    found = changes(*options.manifests, editions=options.edition)
+    histories = changes(*options.manifests, editions=options.edition)
     if any((options.root, options.program, options.jobs)) and not (options.pages or options.stat):
         raise Failure("--root, --program and --jobs need --pages or --stat")
     if options.force and not options.pages:
         raise Failure("--force needs --pages")
     if options.stat:
-        list_counts(found, options, console, resources)
-        return int(any(not each.is_same for each in found))
-    shown = [each for each in found if not (options.quiet and each.is_same)]
+        list_counts(histories, options, console, resources)
+        return int(any(not each.is_same for each in histories))
+    shown = [each for each in histories if not (options.quiet and each.is_same)]
     if options.json:
         print_lines(map(as_json, map(row_of, shown)))
     else:
-        print_lines(of_two(shown) if found and len(found[0].editions) == 2 else table(shown))
-    report_counts(found, console)
+        print_lines(of_two(shown) if histories and len(histories[0].editions) == 2 else table(shown))
+    report_counts(histories, console)
     if options.pages:
-        list_pages(found, options, console, resources)
-    return int(any(not each.is_same for each in found))
+        list_pages(histories, options, console, resources)
+    return int(any(not each.is_same for each in histories))
 
 
-def list_pages(found: Sequence[History], options: argparse.Namespace, console: Console, resources: Resources) -> None:
+def list_pages(histories: Sequence[History], options: argparse.Namespace, console: Console, resources: Resources) -> None:
     """Writes the pages of the option --pages."""
-    pages = Pages(found, options.pages, options.manifests, resources, options.root, options.program, options.force)
+    pages = Pages(histories, options.pages, options.manifests, resources, options.root, options.program, options.force)
     if pages.are_there:
         console.report(f"pages that are there already: {pages.are_there:,} of {len(pages.changes):,}")
     for change, why in pages.write(Progress(console, "page"), options.jobs):
@@ -63,11 +63,15 @@ def list_pages(found: Sequence[History], options: argparse.Namespace, console: C
     console.report(f"{counted(len(pages.changes) - len(pages.reasons), 'page')} and index.html are in {options.pages}")
 
 
-def list_counts(found: Sequence[History], options: argparse.Namespace, console: Console, resources: Resources) -> None:
+def list_counts(histories: Sequence[History], options: argparse.Namespace, console: Console, resources: Resources) -> None:
     """Prints how many things differ in each county that changed."""
     counts = [
         *counts_of(
-            found, Comparing(options.manifests, options.root, options.program), resources, Progress(console, "county"), options.jobs
+            histories,
+            Comparing(options.manifests, options.root, options.program),
+            resources,
+            Progress(console, "county"),
+            options.jobs,
         )
     ]
     if options.json:
@@ -75,7 +79,7 @@ def list_counts(found: Sequence[History], options: argparse.Namespace, console: 
         print_lines(as_json({**key, "counts": each.counts or None, "reason": each.why or None}) for key, each in zip(keys, counts))
     else:
         print_lines(table_of_counts(counts))
-    report_counts(found, console)
+    report_counts(histories, console)
 
 
 def table_of_counts(counts: Sequence[Counts]) -> Iterator[str]:
@@ -90,20 +94,20 @@ def table_of_counts(counts: Sequence[Counts]) -> Iterator[str]:
         yield "  ".join(f"{cell:{width}}" for cell, width in zip(row, widths)).rstrip()
 
 
-def of_two(found: Sequence[History]) -> Iterator[str]:
+def of_two(histories: Sequence[History]) -> Iterator[str]:
     """A line for each county of two editions: how it changed, and its name in the later one."""
-    for each in found:
+    for each in histories:
         (step,), old = each.steps, each.lines[0]
         before = f"  was {old.stem}" if step == "renamed" and old else ""
         yield f"{step}  {each.last.stem}{before}"
 
 
-def table(found: Sequence[History]) -> Iterator[str]:
+def table(histories: Sequence[History]) -> Iterator[str]:
     """A line for each county: the number of its map in each edition, and how it changed."""
-    if not found:
+    if not histories:
         return
-    rows = [("county", found[0].editions, "")]
-    for each in found:
+    rows = [("county", histories[0].editions, "")]
+    for each in histories:
         cells = tuple(
             "-" if line is None else line.state if line.refusal else str(number) for line, number in zip(each.lines, each.maps)
         )
@@ -133,10 +137,10 @@ def row_of(each: History) -> dict[str, Any]:
     }
 
 
-def report_counts(found: Sequence[History], console: Console) -> None:
+def report_counts(histories: Sequence[History], console: Console) -> None:
     """How many counties there are of each kind, in each edition after the first."""
-    editions = found[0].editions if found else ()
+    editions = histories[0].editions if histories else ()
     for place, edition in enumerate(editions[1:], 1):
-        counts = Counter(each.step(place) for each in found)
+        counts = Counter(each.step(place) for each in histories)
         line = ", ".join(f"{counts[kind]:,} {kind}" for kind in KINDS if counts[kind] or kind in KINDS[:4])
         console.report(line if len(editions) == 2 else f"{edition}: {line}")

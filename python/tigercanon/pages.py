@@ -60,8 +60,8 @@ class Change(NamedTuple):
     page: str
 
 
-def changed(found: Sequence[History]) -> Iterator[Change]:
-    for each in found:
+def changed(histories: Sequence[History]) -> Iterator[Change]:
+    for each in histories:
         for place, step in enumerate(each.steps, 1):
             old, new = each.lines[place - 1 : place + 1]
             if step == "changed" and old and new and old.fingerprint:
@@ -106,7 +106,7 @@ class Counts(NamedTuple):
 
 
 def counts_of(
-    found: Sequence[History], comparing: Comparing, resources: Resources, tally: Tally, jobs: int | None = None
+    histories: Sequence[History], comparing: Comparing, resources: Resources, tally: Tally, jobs: int | None = None
 ) -> Iterator[Counts]:
     """Counts what differs in each change, several at a time."""
 
@@ -118,7 +118,7 @@ def counts_of(
             why = NOT_THE_MAP
         return Counts(change, {} if why else answer["counts"], why)
 
-    changes = [*changed(found)]
+    changes = [*changed(histories)]
     tally.start(len(changes), 0)
     with ThreadPoolExecutor(jobs or len(os.sched_getaffinity(0))) as threads:
         for counts in threads.map(counted, changes):
@@ -134,7 +134,7 @@ class Pages:
 
     def __init__(
         self,
-        found: Sequence[History],
+        histories: Sequence[History],
         folder: str,
         manifests: Sequence[str],
         resources: Resources,
@@ -143,7 +143,7 @@ class Pages:
         is_forced: bool = False,
     ) -> None:
         """Raises Failure if a page can't be written, before one is."""
-        self.folder, self.changes, self.resources = Path(folder), [*changed(found)], resources
+        self.folder, self.changes, self.resources = Path(folder), [*changed(histories)], resources
         self.comparing = Comparing(manifests, root, program)
         self.index, template = str(self.folder / "index.html"), find_page()
         finder = Finder()

@@ -37,10 +37,10 @@ def find_program(named: str | os.PathLike[str] | None = None) -> str:
         Path(sysconfig.get_path("scripts")),
         *([command.resolve().parent] if command.is_file() else []),
     ]
-    found = next(filter(None, (shutil.which("tigercanon", path=str(folder)) for folder in beside)), on_path("tigercanon"))
-    if not found:
+    path = next(filter(None, (shutil.which("tigercanon", path=str(folder)) for folder in beside)), on_path("tigercanon"))
+    if not path:
         raise Failure(f"there is no program tigercanon here: {ADVICE}")
-    return checked(found)
+    return checked(path)
 
 
 def program_of_clone(root: Path) -> str:

@@ -68,19 +68,19 @@ def entries(folder: str) -> list[Entry]:
         system, path = system_of(folder)
         named = [(item["name"].rstrip("/"), item) for item in system.ls(path, detail=True)]
         others = [(name.rpartition("/")[2], item) for name, item in named if name != path.rstrip("/")]
-        found = [Entry(name, item["type"] == "directory", item.get("size")) for name, item in others]
+        listed = [Entry(name, item["type"] == "directory", item.get("size")) for name, item in others]
     else:
-        found = [local_entry(item) for item in os.scandir(folder or ".")]
-    return sorted(found, key=lambda entry: os.fsencode(entry.name))
+        listed = [local_entry(item) for item in os.scandir(folder or ".")]
+    return sorted(listed, key=lambda entry: os.fsencode(entry.name))
 
 
 def entry_of(url: str) -> Entry:
     """The file at a URL. Raises what fsspec raises, or OSError if it isn't a file."""
     system, path = system_of(url)
-    found = system.info(path)
-    if found.get("type") == "directory":
+    facts = system.info(path)
+    if facts.get("type") == "directory":
         raise IsADirectoryError(url)
-    return Entry(parted(url)[1], False, found.get("size"))
+    return Entry(parted(url)[1], False, facts.get("size"))
 
 
 def stamp(path: str) -> str:
@@ -89,9 +89,9 @@ def stamp(path: str) -> str:
     with suppress(Exception):
         if is_url(path):
             system, inner = system_of(path)
-            found = system.info(path=inner)
-            known = (found.get(key) for key in ("mtime", "LastModified", "last_modified", "created"))
-            size, time_of_change = str(found.get("size", "?")), str(next(filter(None, known), "-")).replace(" ", "T")
+            facts = system.info(path=inner)
+            known = (facts.get(key) for key in ("mtime", "LastModified", "last_modified", "created"))
+            size, time_of_change = str(facts.get("size", "?")), str(next(filter(None, known), "-")).replace(" ", "T")
         else:
             status = os.stat(path)
             seconds, rest = divmod(status.st_mtime_ns, 10**9)
@@ -228,10 +228,10 @@ def members_of(archive: zipfile.ZipFile) -> dict[str, zipfile.ZipInfo]:
         names = ", ".join(sorted(ascii(name)[1:-1] for name in counties)[:3])
         raise Unreadable(f"the zip has {len(counties)} counties in it: {names}")
     county = counties.popitem()[1]
-    for kind, found in county.items():
-        if len(found) > 1:
-            raise Unreadable(f"the zip has {len(found)} files .RT{kind}")
-        if found[0].flag_bits & 1:
+    for kind, entries in county.items():
+        if len(entries) > 1:
+            raise Unreadable(f"the zip has {len(entries)} files .RT{kind}")
+        if entries[0].flag_bits & 1:
             raise Unreadable("the zip is locked with a password")
     return {kind: county[kind][0] for kind in ["", *TYPES] if kind in county}
 
