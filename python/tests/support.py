@@ -26,7 +26,9 @@ PROGRAM = os.path.abspath(os.environ.get("TIGERCANON") or usual_program())
 
 NAME = "tigercanon-tools: "
 HEAD = "# tigercanon form 1\n"
-PROGRESS = re.compile(r"tigercanon-tools: ((normalising|reading|comparing|finding|writing) |[\d,]+ of [\d,]+ counties, ).*\n")
+PROGRESS = re.compile(
+    r"tigercanon-tools: ((normalising|reading|comparing|finding|writing) .*|[\d,]+ of [\d,]+ (county|counties|pages?)(, .*)?)\n"
+)
 PR_SET_PDEATHSIG = 1
 
 Process = subprocess.Popen[bytes]
