@@ -377,13 +377,13 @@ def try_one_map(page: Page) -> None:
     # examples/README.md has the counts.
     page.equal(
         "numbers",
-        "other numbers for 7 of 7 chains (TLID), 2 of 2 names (FEAT), 3 of 3 landmarks (LAND), 3 of 3 polygons (POLYID)",
+        "Other numbers for 7 of 7 chains (TLID), 2 of 2 names (FEAT), 3 of 3 landmarks (LAND), 3 of 3 polygons (POLYID)",
         ways.get("Numbers"),
     )
     page.equal("direction", "4 of 7 chains run the other way", ways.get("Direction"))
-    page.holds("order", ways.get("Order", "").startswith("another order of chains"), ways)
+    page.holds("order", ways.get("Order", "").startswith("Another order of chains"), ways)
     page.holds(
-        "spelling", ways.get("Spelling", "").startswith("lines end in LF in the first and in LF and CR LF in the second"), ways
+        "spelling", ways.get("Spelling", "").startswith("Lines end in LF in the first and in LF and CR LF in the second"), ways
     )
 
 
