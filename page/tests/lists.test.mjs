@@ -38,6 +38,7 @@ const renumbered = ways("autauga/all.txt", "autauga-renumbered/all.txt");
 equal("other numbers", "other numbers for 7 of 7 chains (TLID), 2 of 2 names (FEAT), 3 of 3 landmarks (LAND), 3 of 3 polygons (POLYID)", renumbered.Numbers);
 equal("other directions", "4 of 7 chains run the other way", renumbered.Direction);
 equal("other records", "the shape points or names of 6 of 7 chains are divided differently among records", renumbered.Division);
+equal("line endings of both kinds", "lines end in LF in the first and in LF and CR LF in the second", renumbered.Spelling.split(";")[0]);
 equal("a file and itself", { Numbers: "the same", Order: "the same", Direction: "the same", Division: "the same" }, (({ Spelling, ...rest }) => rest)(ways("autauga/all.txt", "autauga/all.txt")));
 const canonicalText = respelled("autauga/all.txt").text;
 const respelt = { parts: [canonicalText], text: canonicalText };

@@ -2,7 +2,7 @@
 import { equal, take } from "./scripts.mjs";
 
 const { CLASSES, classOf } = await take("classes");
-const { boundsOf, byStyle, chainNear, draw, specksOf, Squares, strokesOf } = await take("drawing");
+const { boundsOf, byStyle, chainNear, draw, drawOne, specksOf, Squares, strokesOf } = await take("drawing");
 const { ALIKE, CHANGED, FIRST, KIND_LINES, SECOND } = await take("kinds");
 const { drawMark } = await take("marks");
 const { Shapes } = await take("shapes");
@@ -99,6 +99,10 @@ equal("the order in which kinds are drawn", ["color 3", "color 1", "color 0", "c
 equal("the chains in view begin at", [[124, 224], [144, 44], [224, 144]], canvas.calls.filter(([name]) => name === "moveTo").map(([, x, y]) => [Math.round(x), Math.round(y)]));
 equal("small chains with a sign", [[FIRST, 100, 900], [CHANGED, 501, 401], [SECOND, 5005, 5000]].sort(), specksOf(view, layer, groups, styles).map(({ kind, place }) => [kind, ...place.map(Math.round)]).sort());
 
+const single = recorder();
+drawOne(single, view, layer, 0, { color: "chosen", width: 15 });
+equal("a single chain", [["moveTo", "lineTo", "stroke"], "chosen", 15], (([calls, [, { strokeStyle, lineWidth }]]) => [calls, strokeStyle, lineWidth])([single.calls.map(([name]) => name).filter((name) => name !== "beginPath"), single.calls.at(-1)]));
+
 const squares = new Squares(3);
 equal("a square is taken once", [true, false, true, true], [squares.take(1, 1), squares.take(2.9, 0), squares.take(3, 1), squares.take(1, 3)]);
 const dense = { starts: Uint32Array.from([0, 2, 4, 6]), places: Int32Array.from([0, 0, 2, 2, 1, 1, 3, 3, 0, 0, 500, 0]), classes: Uint8Array.of(ALIKE, ALIKE, ALIKE) };
@@ -139,5 +143,7 @@ equal("the sign for more", [[[4.5, 20], [10, 14.5]], [[15.5, 20], [10, 25.5]]], 
 equal("the sign for another", [[[4.5, 17.8], [4.5, 22.2], [7.25, 25.5]], [[15.5, 17.8], [15.5, 22.2], [12.75, 14.5]]], signOf("≠"));
 equal("a circle with the sign for more", ["arc", 2], [marked({ color: "ink", radius: 7, sign: "+" })[1][0], marked({ color: "ink", radius: 7, sign: "+" }).filter(([name]) => name === "lineTo").length]);
 equal("a square for a polygon", ["rect", 3, 13, 14, 14], marked({ color: "ink", radius: 7, sign: "≠", isSquare: true })[1]);
+const strokesIn = (mark) => marked(mark).filter(([name]) => name === "stroke").length;
+equal("a mark's edge, and its sign", [2, 1], [strokesIn({ color: "ink", radius: 7, sign: "−" }), strokesIn({ color: "ink", radius: 3 })]);
 equal("a filled mark", ["ink", "paper"], (({ fillStyle, strokeStyle }) => [fillStyle ?? "", strokeStyle])(marked({ color: "ink", radius: 7, sign: "−" }).find(([name]) => name === "stroke")[1]));
 equal("an empty mark", ["paper", "ink"], (({ fillStyle, strokeStyle }) => [fillStyle, strokeStyle])(marked({ color: "ink", radius: 3 }).find(([name]) => name === "stroke")[1]));
