@@ -43,6 +43,8 @@ def broken_zips() -> dict[str, tuple[bytes, str]]:
         "cut-in-half": (good[: len(good) // 2], "the zip is cut off"),
         "byte": (patched(good, (data + 8, bytes([good[data + 8] ^ 255]))), broken),
         "directory": (patched(good, (line, b"XX")), "the zip is broken: its directory can't be read"),
+        "few": (patched(good, (len(good) - 12, b"\5\0")), "the zip is broken: its directory has 9 files, and its end counts 5"),
+        "many": (patched(good, (len(good) - 12, b"\x0a\0")), "the zip is broken: its directory has 9 files, and its end counts 10"),
         "header": (patched(good, (before, b"XX")), broken),
         "locked": (patched(good, (before + 6, b"\1"), (line + 8, b"\1")), "the zip is locked with a password"),
         "method": (patched(good, (before + 8, b"\x09"), (line + 10, b"\x09")), f"the zip can't be unpacked: {name} is {unknown}"),

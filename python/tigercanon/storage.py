@@ -22,6 +22,7 @@ PAUSES = (0.5, 2.0)  # seconds between the three attempts to read a file at a UR
 NO_ROOM = (errno.ENOSPC, errno.EDQUOT, errno.EFBIG)
 END_OF_DIRECTORY = b"PK\5\6"
 LONGEST_END = 65557
+LARGE_COUNT = 0xFFFF  # the end of a zip with more files than it can count
 PIECE = 1 << 20
 GZIP = b"\x1f\x8b"
 LONGEST_LINE = 240
@@ -196,10 +197,16 @@ def fetch(url: str, size: int | None, target: str) -> None:
 
 
 def opened_zip(path: str) -> zipfile.ZipFile:
-    """Opens a zip. Raises Unreadable if it isn't one, and OSError if it can't be read."""
+    """Opens a zip. Raises Unreadable if it isn't one, or counts other files at its end than its directory has, and OSError if it can't be
+    read."""
     try:
-        return zipfile.ZipFile(path)
-    except (OSError, MemoryError):
+        archive = zipfile.ZipFile(path)
+        files, counted = len(archive.infolist()), counted_at_end(path)
+        if counted not in (files, LARGE_COUNT):
+            archive.close()
+            raise Unreadable(f"the zip is broken: its directory has {files:,} files, and its end counts {counted:,}")
+        return archive
+    except (OSError, MemoryError, Unreadable):
         raise
     except Exception:
         with open(path, "rb") as file:
@@ -209,6 +216,15 @@ def opened_zip(path: str) -> zipfile.ZipFile:
             if END_OF_DIRECTORY not in file.read():
                 raise Unreadable("the zip is cut off") from None
         raise Unreadable("the zip is broken: its directory can't be read") from None
+
+
+def counted_at_end(path: str) -> int:
+    """Returns how many files the end of a zip counts."""
+    with open(path, "rb") as file:
+        file.seek(max(0, file.seek(0, 2) - LONGEST_END))
+        tail = file.read()
+    at = tail.rindex(END_OF_DIRECTORY) + 10
+    return int.from_bytes(tail[at : at + 2], "little")
 
 
 def members_of(archive: zipfile.ZipFile) -> dict[str, zipfile.ZipInfo]:
