@@ -143,3 +143,33 @@ test("a file that gzip packed is unpacked, and a broken one can't be", async () 
   await assert.rejects(whole(gzipSync(all).subarray(0, 300)), new Unreadable("all.txt.gz can't be unpacked"));
   assert.deepEqual((await whole("", "empty.txt")).notes, ["the file is empty", "a note"]);
 });
+
+test("a zip that is cut off, one that isn't a zip, and files that can't be unpacked", async () => {
+  const whole = Buffer.from(await zipOf([[name, "1"]]).arrayBuffer());
+  const directory = whole.indexOf("PK\x01\x02");
+  const changed = (at, bytes) => new Blob([whole.subarray(0, at), Buffer.from(bytes), whole.subarray(at + bytes.length)]);
+  const sentences = [
+    [new Blob([whole.subarray(0, whole.length - 10)]), "the zip is cut off"],
+    [new Blob(["nothing"]), "it isn't a zip"],
+    [new Blob(["PX"]), "it isn't a zip"],
+    [new Blob([]), "it isn't a zip"],
+    [changed(directory, "XX"), "the zip is broken: its directory can't be read"],
+    [changed(directory + 28, [200]), "the zip is broken: its directory can't be read"],
+    [changed(directory + 8, [1]), "the zip is locked with a password"],
+    [changed(directory + 10, [99]), `the zip can't be unpacked: ${name} is compressed by an unknown method`],
+    [changed(0, "XX"), broken],
+    [changed(directory + 42, [1]), broken],
+    [zipOf([[name, "1", { packed: 1000 }]]), broken],
+    [zipOf([["A.RT1", "1"], ["a.rt1", "2"]]), "the zip has 2 files .RT1"],
+  ];
+  for (const [zip, sentence] of sentences) assert.equal((await outcome(zip)).sentence, sentence);
+});
+
+test("what stands before a zip, and a comment behind it, don't matter", async () => {
+  const whole = Buffer.from(await zipOf([[name, "123"]]).arrayBuffer());
+  const comment = Buffer.from("PK, a comment");
+  whole.writeUInt16LE(comment.length, whole.length - 2);
+  const { bytes } = await outcome(new Blob(["a program that unpacks it", whole, comment]));
+  assert.equal(Buffer.from(bytes).toString(), "123");
+  assert.equal((await outcome(new Blob([whole.subarray(10), comment]))).sentence, "the zip is broken: its directory can't be read");
+});
