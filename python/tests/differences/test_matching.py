@@ -2,17 +2,13 @@
 agree with docs/format.md."""
 
 import copy
-import io
-import json
 import re
-from html.parser import HTMLParser
 from typing import Any, Callable, Optional
 
 import pytest
 from dev.maps import Chain, County, Landmark, Polygon, turned, written
 from dev.testing import ROOT
 
-from tigercanon.diff import page
 from tigercanon.diff.columns import CHAIN, LANDMARK, LENGTHS, NAME, POLYGON, RANGE, TOPOLOGY
 from tigercanon.diff.fields import Pair, decimal, degrees
 from tigercanon.diff.geojson import features
@@ -64,10 +60,6 @@ def sets_of(first: County, second: County) -> Sets:
 
 def words_of(first: County, second: County) -> str:
     return "\n".join(told(compared(first, second), sets_of(first, second)))
-
-
-def page_of(first: County, second: County) -> dict[str, Any]:
-    return page.page_data(compared(first, second), sets_of(first, second))
 
 
 def chain_between(points: list[tuple[int, int]], **values: Any) -> Chain:
@@ -163,43 +155,6 @@ def test_values_in_geojson(change: Callable[[Chain], object], wanted: dict[str, 
         assert (repr(found.get(f"first_{name}")), repr(found[f"second_{name}"])) == (repr(one), repr(other))
 
 
-class PageReader(HTMLParser):
-    """The tags of a page, and the texts in some of them."""
-
-    def __init__(self, text: str) -> None:
-        super().__init__()
-        self.tags: list[str] = []
-        self.texts: dict[str, str] = {}
-        self.inside = ""
-        self.feed(text)
-
-    def handle_starttag(self, tag: str, attributes: list[tuple[str, Optional[str]]]) -> None:
-        self.tags.append(tag)
-        given = dict(attributes)
-        self.inside = given.get("class") or given.get("id") or tag if tag != "span" else self.inside
-
-    def handle_data(self, data: str) -> None:
-        self.texts[self.inside] = self.texts.get(self.inside, "") + data
-
-
-def test_names_in_a_page() -> None:
-    """Names of files and of features are shown as they are, whatever letters are in them."""
-    pages = []
-    for name, other in (("one", "other"), ("</title><b>&amp;'\"/<!--", "a<script>/@@data@@&lt;")):
-        first = two_sided(chain_between([(1, 1), (2, 5), (9, 9)]))
-        second = after(first, lambda county: county.chains[0].fields.update(FENAME=f"</script>{other}"[:30]))
-        sets = Sets(Canonical(name, written(first)), Canonical(other, written(second)))
-        made = io.BytesIO()
-        page.write_page(made, compared(first, second), sets, page.Leaflet("", "", ("", "")))
-        read = PageReader(made.getvalue().decode())
-        assert read.texts["title"].strip() == f"Differences between {name} and {other}"
-        assert read.texts["name"] == name + other
-        assert json.loads(read.texts["data"])["entries"][0]["title"] == "Main (A41)"
-        assert f"</script>{other}"[:30] in json.dumps(json.loads(read.texts["data"]), ensure_ascii=False)
-        pages.append([tag for tag in read.tags if tag != "span"])
-    assert pages[0] == pages[1]
-
-
 def test_names() -> None:
     county = made_county(40, 1)
     other = after(county, lambda county: county.names.append({"FENAME": "Unused"}))
@@ -210,7 +165,6 @@ def test_names() -> None:
 
 def test_nothing() -> None:
     assert ONE_MAP in words_of(EMPTY, EMPTY)
-    assert page_of(EMPTY, EMPTY)["entries"] == []
     county = made_county(12, 1)
     assert compared(EMPTY, county).chains.counts == (0, len(county.chains), 0, 0)
 
@@ -220,14 +174,6 @@ def test_what_is_no_canonical_text() -> None:
     for text in (b"x\n", good[:-1], good + b"\n", good.replace(b"I2006", b"Z2006")):
         with pytest.raises(NotCanonical):
             read_county(text)
-
-
-def test_date_line() -> None:
-    """A map across the line of 180 degrees is drawn in one piece."""
-    west = chain_between([(-179_000_000, 51_000_000), (-179_000_001, 51_000_000)])
-    east = chain_between([(179_000_000, 51_000_000), (179_000_001, 51_000_000)])
-    data = page_of(two_sided(west, east), two_sided(west))
-    assert (data["shift"], data["entries"][0]["line"]) == (360_000_000, [-181_000_000, 51_000_000, 1, 0])
 
 
 @pytest.mark.parametrize(
@@ -241,25 +187,6 @@ def test_date_line() -> None:
 )
 def test_degrees(point: str, words: str, longitude: str, latitude: str) -> None:
     assert (degrees(point), decimal(point[:10]), decimal(point[10:])) == (words, longitude, latitude)
-
-
-def test_too_many_chains(monkeypatch: pytest.MonkeyPatch) -> None:
-    """A page with more chains than the limit leaves out those that are alike, and has a note about it."""
-    county = made_county(40, 1)
-    for limit, is_left_out in ((len(county.chains), False), (len(county.chains) - 1, True)):
-        monkeypatch.setattr(page, "MOST_CHAINS", limit)
-        data = page_of(county, county)
-        assert [data["alike"]["chains"] == [], data["alike"]["polygons"] == [], data["notes"] != []] == [is_left_out] * 3
-
-
-def test_too_many_fields(monkeypatch: pytest.MonkeyPatch) -> None:
-    """If the fields of all differences take too much space, the last ones have only names and places, and the page has a note about it."""
-    monkeypatch.setattr(page, "ROOM_FOR_FIELDS", 1000)
-    data = page_of(made_county(40, 1), EMPTY)
-    told = len(data["entries"]) + sum(map(len, data["bare"].values()))
-    assert told == sum(sum(counts[:3]) for counts in data["counts"].values())
-    assert ["rows" in data["entries"][place] for place in (0, -1)] == [True, False]
-    assert data["notes"]
 
 
 @pytest.mark.parametrize(
