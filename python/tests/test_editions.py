@@ -103,7 +103,9 @@ def test_flags_of_each_manifest(place: int) -> None:
     """They are the same in all manifests, also in the third; the mark of an unproved program doesn't matter."""
     for number in range(3):
         edition(str(number), ("in/A", 1), flags="--no-sources" if number == place else "")
-    with pytest.raises(Failure, match="their fingerprints can't be compared"):
+    words = ["no flags", "--no-sources"] if place else ["--no-sources", "no flags"]
+    why = f"0 was made with {words[0]} and {max(place, 1)} with {words[1]}: their fingerprints can't be compared"
+    with pytest.raises(Failure, match=f"^{why}$"):
         tigercanon.changes("0", "1", "2")
     for number in range(3):
         edition(str(number), ("in/A", 1), flags="unproved --no-sources" if number == place else "--no-sources")
@@ -120,6 +122,13 @@ def test_one_manifest_with_all_editions() -> None:
         tigercanon.changes(edition("one", ("x/1/TGR1", 1), ("x/1/TGR2", 1)))
     with pytest.raises(Failure, match="mixed: has one edition"):
         tigercanon.changes(edition("mixed", ("x/1/TGR1", 1), ("x/TGR2", 1)))
+
+
+def test_duplicates() -> None:
+    """Counties with one map, in the order of the manifest; those without a map are in no group."""
+    name = edition("m", ("a/A", 1), ("a/B", 2), ("b/A", 1), ("b/C", 2), ("b/D", REFUSED), ("b/E", REFUSED), ("b/F", 3))
+    groups = [(group.fingerprint[-1], group.counties, group.is_different) for group in tigercanon.duplicates(name)]
+    assert groups == [("1", ("a/A", "b/A"), False), ("2", ("a/B", "b/C"), True)]
 
 
 def changes_of(*states: dict[str, object]) -> list[Change]:

@@ -42,6 +42,13 @@ def test_several_lines_for_a_county(room: Path) -> None:
     assert [line.stem for line in lines_of(one + f"{3:064}  b\n" + two)] == ["b", "a"]
 
 
+@pytest.mark.parametrize("head", ["", "# tigercanon form 1\n"])
+def test_a_wrong_line_has_its_number(room: Path, head: str) -> None:
+    for line, why in (("x", "not a manifest: line {} isn't"), ("# of mine", "line {} is a comment")):
+        with pytest.raises(Failure, match=f"^m: {why.format(2 + bool(head))}"):
+            lines_of(f"{head}{1:064}  a\n{line}\n")
+
+
 @pytest.mark.parametrize("reason", ["it isn't a zip", "rejected by --strict: no .RT2 .RT4", "x" * 500])
 def test_lines_are_read_as_they_are_written(room: Path, reason: str) -> None:
     for line in (
