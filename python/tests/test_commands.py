@@ -182,6 +182,31 @@ def test_how_numbers_are_written() -> None:
     assert tally.line(100.0) == progress
 
 
+class Bar:
+    """A progress bar that notes what is on standard output when it goes and when it comes back."""
+
+    def __init__(self) -> None:
+        self.printed: list[bytes] = []
+
+    def clear(self) -> None:
+        self.printed.append(Path("out").read_bytes())
+
+    refresh = clear
+
+
+def test_lines_and_the_progress_bar(room: Path, monkeypatch: pytest.MonkeyPatch) -> None:
+    """A line on standard output, or on standard error, is printed while the bar is away."""
+    console = Console()
+    progress = Progress(console)
+    progress.bar = bar = Bar()
+    with open("out", "w") as file:
+        monkeypatch.setattr(sys, "stdout", file)
+        monkeypatch.setattr(sys, "stderr", file)
+        console.print_lines(["a: OK"])
+        console.report("b")
+    assert bar.printed == [b"", b"a: OK\n", b"a: OK\n", b"a: OK\ntigercanon-tools: b\n"]
+
+
 def test_every_refusal_has_a_section() -> None:
     """The numbers that the program reports, each with its name and a text. Numbers out of use are in no section."""
     known = sections(page())

@@ -61,7 +61,7 @@ def test_wrong(name: str, program: str, monkeypatch: pytest.MonkeyPatch) -> None
 def test_a_stop_leaves_no_worker(number: signal.Signals, room: Path) -> None:
     (room / "slow").write_text("#!/bin/sh\nexec sleep 100\n")
     (room / "slow").chmod(0o755)
-    words = [ROOT / "tools/compare-with-reference", "--program", room / "slow", "--jobs", "2"]
+    words = [str(ROOT / "tools/compare-with-reference"), "--program", str(room / "slow"), "--jobs", "2"]
     process = subprocess.Popen(words, stdout=subprocess.DEVNULL, stderr=subprocess.DEVNULL)
 
     def running() -> bool:

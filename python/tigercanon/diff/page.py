@@ -43,7 +43,7 @@ class Carried(NamedTuple):
 def find_page() -> Path:
     """Returns the path of the page without counties. Raises Failure if there is none, or one without a place for counties."""
     named = os.environ.get(VARIABLE)
-    page = Path(named) if named else next(filter(Path.exists, (place / NAME for place in PLACES)), None)
+    page: Path | None = Path(named) if named else next(filter(Path.exists, (place / NAME for place in PLACES)), None)
     if page is None:
         raise Failure(f"there is no {NAME} here: scripts/build-page makes it, or name one with ${VARIABLE}")
     with reported(str(page), "can't be read"):
