@@ -99,6 +99,10 @@ equal("the order in which kinds are drawn", ["color 3", "color 1", "color 0", "c
 equal("the chains in view begin at", [[124, 224], [144, 44], [224, 144]], canvas.calls.filter(([name]) => name === "moveTo").map(([, x, y]) => [Math.round(x), Math.round(y)]));
 equal("small chains with a sign", [[FIRST, 100, 900], [CHANGED, 501, 401], [SECOND, 5005, 5000]].sort(), specksOf(view, layer, groups, styles).map(({ kind, place }) => [kind, ...place.map(Math.round)]).sort());
 
+const outside = { starts: Uint32Array.of(0, 2, 4, 6, 8), places: Int32Array.of(-2000, 500, -1900, 510, 3000, 500, 3100, 510, 500, 3000, 510, 3100, 500, -2000, 510, -1900), classes: Uint8Array.of(0, 0, 0, 0) };
+const empty = recorder();
+await draw(empty, view, { ...outside, bounds: boundsOf(outside).bounds }, [[FIRST, [0, 1, 2, 3]]], styles, () => false, () => {}, Infinity);
+equal("what lies to the left, to the right, above and below isn't drawn", 0, empty.calls.filter(([name]) => name === "moveTo").length);
 const single = recorder();
 drawOne(single, view, layer, 0, { color: "chosen", width: 15 });
 equal("a single chain", [["moveTo", "lineTo", "stroke"], "chosen", 15], (([calls, [, { strokeStyle, lineWidth }]]) => [calls, strokeStyle, lineWidth])([single.calls.map(([name]) => name).filter((name) => name !== "beginPath"), single.calls.at(-1)]));
@@ -145,5 +149,6 @@ equal("a circle with the sign for more", ["arc", 2], [marked({ color: "ink", rad
 equal("a square for a polygon", ["rect", 3, 13, 14, 14], marked({ color: "ink", radius: 7, sign: "≠", isSquare: true })[1]);
 const strokesIn = (mark) => marked(mark).filter(([name]) => name === "stroke").length;
 equal("a mark's edge, and its sign", [2, 1], [strokesIn({ color: "ink", radius: 7, sign: "−" }), strokesIn({ color: "ink", radius: 3 })]);
+equal("how wide a mark's edge and sign are", [1, 1.6], marked({ color: "ink", radius: 7, sign: "−" }).filter(([name]) => name === "stroke").map(([, { lineWidth }]) => lineWidth));
 equal("a filled mark", ["ink", "paper"], (({ fillStyle, strokeStyle }) => [fillStyle ?? "", strokeStyle])(marked({ color: "ink", radius: 7, sign: "−" }).find(([name]) => name === "stroke")[1]));
 equal("an empty mark", ["paper", "ink"], (({ fillStyle, strokeStyle }) => [fillStyle, strokeStyle])(marked({ color: "ink", radius: 3 }).find(([name]) => name === "stroke")[1]));
