@@ -139,8 +139,8 @@ class TestProgram:
 
 
 def test_installing(room: Path) -> None:
-    """The package installs with Debian's hatchling, without a network. It has all of its files, the page on refusals, its command, and the
-    program and the library of prebuilt/, which need nothing around them."""
+    """The package installs with Debian's hatchling, without a network. It has all of its files, the page on refusals, the page for
+    browsers, its command, and the program and the library of prebuilt/, which need nothing around them."""
     pytest.importorskip("hatchling", reason="python3-hatchling isn't installed")
     shutil.copytree(PACKAGE, "python", ignore=shutil.ignore_patterns("tests", "__pycache__"))
     shutil.copytree(ROOT / "prebuilt", "prebuilt")
@@ -151,7 +151,8 @@ def test_installing(room: Path) -> None:
         {path.relative_to(root) for path in root.rglob("*") if path.is_file() and path.suffix != ".pyc"}
         for root in (PACKAGE / "tigercanon", room / "site/tigercanon")
     )
-    assert installed == source | {Path("refusals.md"), Path("bin/tigercanon"), Path("libtigercanon.so.1")}
+    beside = {"refusals.md", "tigercanon.html", "bin/tigercanon", "libtigercanon.so.1"}
+    assert installed == source | set(map(Path, beside))
     shutil.rmtree("prebuilt")
     shutil.copytree(ROOT / "examples/autauga", "in")
     env = {"PYTHONPATH": str(room / "site"), "PATH": "/usr/bin:/bin", "TMPDIR": f"{room}/tmp"}
