@@ -43,9 +43,10 @@ class Carried(NamedTuple):
 def find_page() -> Path:
     """Returns the path of the page without counties. Raises Failure if there is none, or one without a place for counties."""
     named = os.environ.get(VARIABLE)
-    page: Path | None = Path(named) if named else next(filter(Path.exists, (place / NAME for place in PLACES)), None)
-    if page is None:
+    places = [Path(named)] if named else [place / NAME for place in PLACES if (place / NAME).exists()]
+    if not places:
         raise Failure(f"there is no {NAME} here: scripts/build-page makes it, or name one with ${VARIABLE}")
+    page = places[0]
     with reported(str(page), "can't be read"):
         if EMPTY.encode() not in page.read_bytes():
             raise Failure(f"{page}: it isn't the page of this version: it has no place for counties")
