@@ -55,10 +55,10 @@ def test_failures() -> None:
         tigercanon.nothing
 
 
-def test_canonical_numbers_are_those_of_chains(archive: Path) -> None:
+def test_canonical_numbers_are_those_of_chains() -> None:
     """In a canonical text a chain has its canonical number. Whatever numbers the polygons of an office 1.... have, the chains keep it."""
     places, others = {"8": [10], "I": [40, 55], "P": [10]}, {1: 3, 2: 1, 3: 2}
-    lines = Path("1990/TGR01001.txt").read_text().splitlines(keepends=True)
+    lines = (ROOT / "examples/autauga/canonical.txt").read_text().splitlines(keepends=True)
     for number, line in enumerate(lines):
         for at in places.get(line[0], []):
             polygon = line[at + 5 : at + 15].strip()

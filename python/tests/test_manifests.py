@@ -120,6 +120,23 @@ def test_a_failure_loses_no_fingerprint(four: Four) -> None:
     assert listed("m") == manifest(four)
 
 
+def test_counties_that_are_gone(four: Four) -> None:
+    """They keep their lines until prune takes these out, by the folder or by their names; one that was moved has one line."""
+    assert len([*tigercanon.manifest("in", output="m")]) == 4
+    for name in os.listdir("in"):
+        if name.startswith("b."):
+            os.renames(f"in/{name}", f"in/deep/{name}")
+        elif name.startswith("c."):
+            os.unlink(f"in/{name}")
+    left = {stem: text for stem, text in four.items() if stem != "in/b"}
+    assert [each.county for each in tigercanon.manifest("in", output="m", update=True)] == ["in/deep/b"]
+    assert sorted(listed("m").splitlines()) == sorted(manifest({**left, "in/deep/b": four["in/b"]}).splitlines())
+    (absent,) = tigercanon.manifest("in/c.RT1", output="m", update=True)
+    assert absent.fingerprint is None and "in/c\n" in listed("m")
+    assert len([*tigercanon.manifest("in/c", output="m", update=True, prune=True)]) == 1
+    assert "in/c\n" not in listed("m") and "in/deep/b\n" in listed("m")
+
+
 def test_a_lock_whose_name_leads_elsewhere(room: Path) -> None:
     put("mine", b"process 1 on a machine\n")
     os.symlink("mine", "m.lock")
