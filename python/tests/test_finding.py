@@ -105,6 +105,16 @@ def test_files(archive: Path) -> None:
     assert found("in/all")[0].size == 27
 
 
+def test_globs_without_a_county_and_names_twice() -> None:
+    (absent,) = found("in/*.nothing")
+    assert (absent.trouble, absent.is_absent) == ("no county matches this pattern", True)
+    assert [county.trouble for county in found("in/*.ZIP")] == [""]
+    put("in/B.RT1")
+    put("in/A.zip")
+    troubles = [county.trouble for county in found("in/b", "in/a")]
+    assert troubles == ["there are 2 files of type 1: B.RT1, b.RT1", "there are 2 zips: A.zip, a.ZIP"]
+
+
 def test_skipped_files() -> None:
     """They are counted once, whichever sources lead to them."""
     for name in ("in/a.tar", "in/c.RT1.gz", "in/d.RT2.gz", "in/deep/README"):
