@@ -19,7 +19,7 @@ class Step(NamedTuple):
     answer: str
 
     def fault(self, status: int, printed: str, room: Path) -> str:
-        """Nothing if this is the answer, with the folder's name in place of ROOM, and otherwise what was printed."""
+        """Returns nothing if this is the answer, with the folder's name in place of ROOM, and otherwise the output."""
         found = (printed + f"[{status}]" * (status != 0)).replace(str(room), "ROOM").rstrip("\n")
         is_so = re.fullmatch(re.escape(self.answer).replace(re.escape("..."), ".*"), found)
         return "" if is_so else f"$ {self.command}\n{found}"

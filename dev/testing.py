@@ -38,11 +38,11 @@ class Tally:
         return bool(is_so)
 
     def holds(self, name: str, is_so: object, found: object = "it is not so") -> bool:
-        """A case by its name, with what was found if it failed."""
+        """Counts a case by its name, with the value that was found if it failed."""
         return self.count(is_so, f"{name}: {found}")
 
     def equal(self, name: str, wanted: object, found: object) -> bool:
-        """A case in which two values must be equal."""
+        """Counts a case where two values must be equal."""
         return self.count(wanted == found, f"{name}: {shown(found)} in place of {shown(wanted)}")
 
     def has_no_faults(self, name: str, faults: Sequence[str]) -> bool:
@@ -86,7 +86,7 @@ def shown(value: object) -> str:
 
 
 class Answer(NamedTuple):
-    """The exit status of a program, and what it printed to standard output and standard error."""
+    """The exit status of a program, and its standard output and standard error."""
 
     status: int
     out: bytes
@@ -137,7 +137,7 @@ def usual_program() -> str:
 
 
 def hash_of_sources(root: Path) -> str:
-    """Returns the hash by which ./tigercanon compares the sources of a tree."""
+    """Returns the hash that ./tigercanon makes of the sources of a tree."""
     files = [root / "crates.txt", root / "HANDLES"]
     for part in ("src", "specs"):
         files += [path for path in root.glob(f"crates/*/{part}/**/*") if path.suffix in (".rt", ".antt")]

@@ -24,7 +24,7 @@ STATUSES = {
 }
 # The refusals by number, name and places, without those that no call has: a device and standard output.
 REFUSALS = [row for row in re.findall(r"^### `refused (\d+) (\w+)([^`]*)`", REFUSALS_PAGE, re.M) if row[0] not in ("8", "10")]
-# The name of a constant that isn't that of its refusal.
+# A constant whose name differs from its refusal's.
 NAMED_OTHERWISE = {"MEMORY": "OUT_OF_MEMORY"}
 MOST = 2**64 - 1
 

@@ -18,7 +18,7 @@ LACKING = Answer(5, b"", b"refused 9 Memory\n")
 
 
 class Tests(testing.Tests):
-    """The count of what passed, failed and was skipped, and what all tests need."""
+    """The count of tests that passed, failed and were skipped, and things that all tests need."""
 
     def __init__(self, library: Path, program: Path, room: Path):
         super().__init__("library, ", program, room)
