@@ -14,6 +14,7 @@
      other        while a set is read, want of memory is told of the other set
      second       while set 1 is judged, want of memory is told of set 2
      neither      while set 2 is judged, want of memory is told of no set
+     open         while the files of a set are opened, want of memory is told of no set
      unheard      memory is taken without malloc or realloc */
 
 typedef __SIZE_TYPE__ size_t;
@@ -144,7 +145,7 @@ static struct set read_set(const char *name, int is_stem, int number) {
     static const char *suffixes[] = {".RT1", ".RT2", ".RT4", ".RT5", ".RT6", ".RT7", ".RT8", ".RTI", ".RTP"};
     struct set set = {name, 0, 0, 0, number};
     char path[100];
-    set.text = grow(0, set.room = STEP, number);
+    set.text = grow(0, set.room = STEP, is_mutant("open") ? 0 : number);
     if (!is_stem)
         read_file(&set, name, 1);
     for (int i = 0; is_stem && i < 9; i++) {

@@ -12,8 +12,8 @@
      FAIL_WITH             the errno of that opening, read or write
      MOST_READ             the most bytes that a read gives
      MOST_WRITTEN          the most bytes that a write takes
-     REFUSER_COUNTS        no number, but a file of 40 bytes that holds five: the growths, the openings, the reads, the writes
-                           so far, and the bytes that were written before the write that fails
+     REFUSER_COUNTS        no number, but a file of 48 bytes that holds six: the growths, the openings, the reads, the writes
+                           so far, the bytes that were written before the write that fails, and the growths before the first opening
 
    A test asks by the size of a growth, which is itself refused, and its own growths count from there:
 
@@ -40,7 +40,7 @@ enum { ONE_REFUSED = 1 << 14, ALL_REFUSED = 1 << 15, END_OF_REFUSALS = 40961 };
 static const size_t no_end = -1;
 
 static struct counts {
-    size_t growths, opens, reads, writes, written;
+    size_t growths, opens, reads, writes, written, planning;
 } uncounted, *counts = &uncounted;
 
 /* The growths since a test asked, those from first to last of which are refused, and whether one was. */
@@ -73,7 +73,7 @@ __attribute__((constructor)) static void begin(void) {
     most_written = asked("MOST_WRITTEN", no_end);
     if (path)
         counts = mmap(0, sizeof *counts, ACCESS, SHARED, __open(path, READ_AND_WRITE), 0);
-    *counts = (struct counts){0, 0, 0, 0, 0};
+    *counts = (struct counts){0, 0, 0, 0, 0, 0};
     refuse(from ? from : one, from ? no_end : one);
 }
 
@@ -110,6 +110,8 @@ void *malloc(size_t size) { return refuses(size) ? no_memory() : __libc_malloc(s
 void *realloc(void *old, size_t size) { return refuses(size) ? no_memory() : __libc_realloc(old, size); }
 
 int open(const char *path, int flags, unsigned access) {
+    if (counts->opens == 0)
+        counts->planning = counts->growths;
     if (++counts->opens == failing_open)
         return (int)fail(failure);
     return __open(path, flags, access);
