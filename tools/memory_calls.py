@@ -2,7 +2,8 @@
 
 A call is listed if it is one of the kit that makes or grows a collection, is passed an allocator, or fails with `?`; and also if it passes
 a number that a function of the repository passes on to such a call. Local variables among the arguments are shown with their values, as
-are constants.
+are constants. A function of the repository that returns a number is listed with its body if the number is among the arguments, unless a
+clause says what it returns.
 
 tools/check-memory compares them with tools/memory-calls.txt."""
 
@@ -26,17 +27,22 @@ ALLOCATOR = re.compile(r"\balloc(?:ator)?\b")
 # These calls are passed an allocator, or a value that was, and take no memory.
 EMPTY = re.compile(r"(?:\w+(?:::<[^()]*>)?::)+(?:new|new_in|empty)\((?:self\.)?alloc\)$|(?:Ok|Err|Some)\(")
 FUNCTION = re.compile(r"\bfn\s+(\w+)\s*(?:<[^()]*>)?\s*\(")
+RESULT = re.compile(r"\s*->\s*(?:usize|u64|u32|u16|u8)\b")
 NUMBER = re.compile(r"\b(\w+)\s*:\s*(?:usize|u64|u32|u16|u8)\b")
 LOCAL = re.compile(r"\blet\s+(?:mut\s+)?(\w+)\s*(?::[^=;]*)?=\s*([^;{}]*);")
+# A call by its name, and the dot before it if it is a method's.
+CALLED = re.compile(r"(\.\s*)?\b([a-z_]\w*)(?:::<[^();]*?>)?\(")
 WORD = re.compile(r"(?<!\.)\b[a-z_]\w*\b(?!\s*[(!:])")
 
 
 class Function(NamedTuple):
-    """A function of the sources: its name, whether it is called on a value, the numbers among its parameters, and where its body is."""
+    """A function of the sources: its name, whether it is called on a value, the numbers among its parameters, whether it returns a number
+    of which no clause says anything, and where its body is."""
 
     name: str
     is_method: bool
     numbers: set[str]
+    is_unknown: bool
     first: int
     last: int
 
@@ -51,14 +57,17 @@ class Call(NamedTuple):
     last: int
 
 
-def functions(code: str, ends: dict[int, int]) -> Iterator[Function]:
+def functions(source: Any, ends: dict[int, int]) -> Iterator[Function]:
     """The functions that have a body."""
+    code = source.code
     for found in FUNCTION.finditer(code):
         closed = ends[found.end() - 1]
         given, body = code[found.end() : closed - 1], re.compile(r"[{;]").search(code, closed)
         if body and body[0] == "{":
             is_method = re.match(r"\s*&?\s*(?:'\w+\s+)?(?:mut\s+)?self\b", given) is not None
-            yield Function(found[1], is_method, set(NUMBER.findall(given)), body.start(), ends[body.start()])
+            told = source.contracts[closed : body.start()]
+            is_unknown = RESULT.match(told) is not None and "ensures" not in told
+            yield Function(found[1], is_method, set(NUMBER.findall(given)), is_unknown, body.start(), ends[body.start()])
 
 
 def begin_of(code: str, at: int, begins: dict[int, int]) -> int:
@@ -92,13 +101,25 @@ def asks_for_memory(code: str, call: Call, own: set[tuple[str, bool]]) -> bool:
     return ALLOCATOR.search(call.arguments) is not None or re.match(r"\s*\?", code[call.last :]) is not None
 
 
-def with_values(source: Any, code: str, call: Call, function: Function) -> str:
-    """A call with the values of the variables and constants among its arguments."""
+def values_of(code: str, call: Call, function: Function) -> dict[str, str]:
+    """The variables among the arguments of a call, each with its value."""
     before = dict(LOCAL.findall(code, function.first, call.first))
-    named = sorted(set(WORD.findall(call.arguments)) & set(before))
-    values = [f"[{name} = {' '.join(before[name].split())}]" for name in named]
-    text = " ".join(code[call.first : call.last].split())
-    return " ".join([text, *values, *source.constants(call.arguments)])
+    return {name: " ".join(before[name].split()) for name in sorted(set(WORD.findall(call.arguments)) & set(before))}
+
+
+def with_values(source: Any, call: Call, values: dict[str, str]) -> str:
+    """A call with the values of the variables and constants among its arguments."""
+    text = " ".join(source.code[call.first : call.last].split())
+    return " ".join([text, *(f"[{name} = {value}]" for name, value in values.items()), *source.constants(call.arguments)])
+
+
+def unknown_numbers(found: list[Any], named: set[tuple[str, bool]]) -> Iterator[tuple[str, str, str]]:
+    """The file, the name and the body of each of these functions that returns a number of which no clause says anything. The clauses of
+    a trait are those of its types."""
+    for source, function, _ in found:
+        if function.is_unknown and not function.is_method and (function.name, function.is_method) in named:
+            body = " ".join(source.code[function.first : function.last].split())
+            yield source.name, function.name, " ".join([body, *source.constants(body)])
 
 
 def memory_calls(sources: list[Any]) -> Iterator[tuple[str, str, str]]:
@@ -107,11 +128,12 @@ def memory_calls(sources: list[Any]) -> Iterator[tuple[str, str, str]]:
     for source in sources:
         ends = contracts.blocks_of(source.code)
         begins = {end: begin for begin, end in ends.items()}
-        for function in functions(source.code, ends):
+        for function in functions(source, ends):
             found.append((source, function, list(calls(source.code, ends, begins, function))))
     own = {(function.name, function.is_method) for _, function, _ in found}
     sized: set[tuple[str, bool]] = set()
     listed: list[tuple[str, str, str]] = []
+    named: set[tuple[str, bool]] = set()
     while True:
         before, listed = set(sized), []
         for source, function, made in found:
@@ -120,8 +142,10 @@ def memory_calls(sources: list[Any]) -> Iterator[tuple[str, str, str]]:
                 is_sized = (call.name, call.is_method) in sized and ALLOCATOR.search(call.arguments)
                 if EMPTY.match(text) or not is_sized and not asks_for_memory(source.code, call, own):
                     continue
-                listed.append((source.name, function.name, with_values(source, source.code, call, function)))
+                values = values_of(source.code, call, function)
+                listed.append((source.name, function.name, with_values(source, call, values)))
+                named |= {(name, bool(dot)) for dot, name in CALLED.findall(" ".join([call.arguments, *values.values()]))} & own
                 if (is_sized or call.name in SIZED) and function.numbers & set(WORD.findall(text)):
                     sized.add((function.name, function.is_method))
         if sized == before:
-            return iter(listed)
+            return iter([*listed, *unknown_numbers(found, named)])

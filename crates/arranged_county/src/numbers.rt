@@ -7,7 +7,7 @@
 ghost use Rattle.indexmap.specs.IndexMap.{get as found_by_hash};
 ghost use Rattle.std.specs.BTreeMap.{get as found_in_order};
 ghost use Rattle.std.specs.Prelude.{IfOk, IfSome, IsTrue, OnErr, OnOk, Some, [], false, is_some, length, slice_get, slice_index, ℕ, ◌%◌};
-ghost use Rattle.std.specs.Prelude.{◌++◌, ◌+◌, ◌<◌, ◌^◌, ◌↔◌, ◌∷◌, ◌≡◌};
+ghost use Rattle.std.specs.Prelude.{◌*◌, ◌++◌, ◌+◌, ◌<◌, ◌^◌, ◌↔◌, ◌∷◌, ◌≡◌, ◌≤◌};
 ghost use Rattle.std.specs.{List.position, Ordering.is_eq};
 ghost use Rattle.ordered_lists.specs.Orders.{has_repeat, contains};
 ghost use Rattle.canonical_form.specs.Growth.{first_seen_after};
@@ -36,8 +36,10 @@ const MANY_ITEMS: usize = 1 << 13;
 /// The most items that slots are counted for.
 const MOST_ITEMS: usize = 1 << 40;
 
-/// The number of slots for marks for this many items.
-pub fn marks_for(items: usize) -> usize {
+/// The number of slots for marks for this many items: at most eight an item.
+pub fn marks_for(items: usize) -> usize
+    ensures { result ≤ 8 * items }
+{
     if items < MANY_ITEMS {
         MARKS_OF_FEW * items
     } else {
