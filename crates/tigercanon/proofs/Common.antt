@@ -38,7 +38,7 @@ pub use Rattle.tigercanon.specs.Comparing.{AreDifferentInView, AreOneMapInView, 
 pub use Rattle.tigercanon.specs.Comparing.{ReportsRefusalOfOneRead}
 pub use Rattle.tigercanon.specs.Devices.{DeviceFailed, IsRefusalBy, PrintsTo, ReportsNoDevice, set_of_sources, to_sink}
 pub use Rattle.tigercanon.specs.Faults.{IsOfNoLines, IsWantOfMemory, RefusesBy, RefusesSpelled, ReportsRefusal, ReportsRefusalOfRead}
-pub use Rattle.tigercanon.specs.Files.{AreHeld, AreSourcesOf, bytes_of, is_failed, opened_of}
+pub use Rattle.tigercanon.specs.Files.{AreCounted, AreHeld, AreSourcesOf, bytes_of, is_failed, opened_of}
 pub use Rattle.tigercanon.specs.Normalising.{AreRefusedParts, GoesOut, IsCutOffInView, IsOnlyTextInView, ReportsRead}
 pub use Rattle.tigercanon.specs.Normalising.{StopsShort, Took, is_of_sink}
 pub use Rattle.tigercanon.specs.Outcomes.{GivenOutput, GivenSet, HoldsAccepted, IsReportedBy, ReportsLine, ReportsLineTo, ReportsSet}
@@ -47,10 +47,10 @@ pub use Rattle.tigercanon.specs.Reading.{SomeUnread, WasWellBefore}
 pub use Rattle.tigercanon.specs.Sets.{CarriesSetInView, IsAcceptedSet, IsCanonSetInView, IsCanonicalText, IsCanonicalTextInView}
 pub use Rattle.tigercanon.specs.Sets.{IsOneCanonicalTextInView, IsRecordsRefusal, IsSetRefusal, IsViewedSet, refusal_without_place}
 pub use Rattle.tigercanon.specs.TwoSets.{Does, IsDifferent, IsDone, IsPartOnly, IsReportedWhy, IsTextOf, LeavesStopped, OfTwoSets}
-pub use Rattle.tigercanon.specs.TwoSets.{RefusesOne, ReportsFor, ReportsOne}
+pub use Rattle.tigercanon.specs.TwoSets.{HasRun, RefusesOne, ReportsFor, ReportsOne}
 pub use Rattle.tigercanon.specs.declared.fault.Fault.TheVariants.{Link, Load, Memory, Profile, Write}
 pub use Rattle.tigercanon.specs.{Findings.Finding, declared.program.ending.Ending.TheVariants.Done, declared.program.ending.Stopped.Stopped}
-pub use Rattle.tigercanon.specs.{Findings.IsFound, Running.to_writer, Statuses.status_of, Statuses.stopped_by}
+pub use Rattle.tigercanon.specs.{Findings.IsFound, Running.IsUnopened, Running.to_writer, Statuses.status_of, Statuses.stopped_by}
 pub use Rattle.tigercanon.specs.{Findings.IsFoundOfCounties, declared.program.ending.Ending.Ending, declared.program.files.Opened.Opened}
 pub use Rattle.tigercanon.specs.{Lending.HoldsUnderName, Refusals.fault_line, Running.AreRefused, Running.set_of_files, Statuses.set_of_job}
 pub use Rattle.tigercanon.specs.{LentParts.bytes_of_parts, Respelling.IsFirstFault, Statuses.status_of_outcome, declared.fault.Fault.Fault}

@@ -1,4 +1,5 @@
 -- The bytes read from sources over files are in the files, and what is reported for files that aren't read.
+use Rattle.tigercanon.proofs.Common.{AreCounted, Counted, Device, Does, Err, GivenOutput, IsUnopened, Memory, Stopped, opened_of}
 use Rattle.tigercanon.proofs.Common.{All, All-cons, AreHeld, AreRead, AreReadFirst, AreReadUpTo, AreRefused, AreRefusedParts, AreSourcesOf}
 use Rattle.tigercanon.proofs.Common.{Bool, Check, Compare, Consumes, Fault, Fingerprint, Gave, GivenSet, IfSome, IsFaultHowever}
 use Rattle.tigercanon.proofs.Common.{IsFaultOfRead, IsFirstFault, IsNext, IsOfNoLines, IsRefusalBy, IsReportedBy, Job, LeavesStopped, List}
@@ -9,19 +10,28 @@ use Rattle.tigercanon.proofs.FileParts.{head_of, tail_of, taken_all}
 use Rattle.tigercanon.proofs.Parts.{fault_of_rest}
 use Rattle.tigercanon.proofs.{GivenSets.IsKnownOf, Leaving.kept, SourceSets.left_untouched}
 
--- sources that give what their files hold; none has failed
-pub opened_from : {S F : Type 0} (left : S → Option (List ℕ)) (failed : S → ℕ) (bytes : F → Option (List ℕ)) (sources : List S) (files : List F)
-    → map {B = Option (List ℕ) × ℕ} (λ s. (left s, failed s)) sources ≡ map {B = Option (List ℕ) × ℕ} (λ f. (bytes f, 0)) files
-    → (map left sources ≡ map bytes files) × All (λ s. failed s ≡ 0) sources
-opened_from left failed bytes [] [] e = (refl, λ k d h. absurd (omega arith))
-opened_from left failed bytes [] (f ∷ fs) e = absurd cc
-opened_from left failed bytes (s ∷ ss) [] e = absurd cc
-opened_from left failed bytes (s ∷ ss) (f ∷ fs) e =
-    let rest = opened_from left failed bytes ss fs cc in
-    let first : ◌≡◌ {A = Option (List ℕ) × ℕ} (left s, failed s) (bytes f, 0) = cc in
-    let one : left s ≡ bytes f = ap (λ (p : Option (List ℕ) × ℕ). p.0) first in
-    let none : failed s ≡ 0 = ap (λ (p : Option (List ℕ) × ℕ). p.1) first in
-    (λ i. one i ∷ rest.0 i, All-cons (λ s. failed s ≡ 0) s ss none rest.1)
+-- sources that are the files, none of which has failed
+pub counted_from : {R : Type 0} (sources : List (Counted (Opened R))) (files : List (Opened R))
+    → map {B = Opened R × ℕ} (λ s. (s.inner, s.failures)) sources ≡ map {B = Opened R × ℕ} (λ f. (f, 0)) files → AreCounted sources files
+counted_from [] [] e = (refl, λ k d h. absurd (omega arith))
+counted_from [] (f ∷ fs) e = absurd cc
+counted_from (s ∷ ss) [] e = absurd cc
+counted_from {R} (s ∷ ss) (f ∷ fs) e =
+    let rest = counted_from ss fs cc in
+    let first : ◌≡◌ {A = Opened R × ℕ} (s.inner, s.failures) (f, 0) = cc in
+    let one : s.inner ≡ f = ap (λ (p : Opened R × ℕ). p.0) first in
+    let none : s.failures ≡ 0 = ap (λ (p : Opened R × ℕ). p.1) first in
+    (λ i. one i ∷ rest.0 i, All-cons (λ source. source.failures ≡ 0) s ss none rest.1)
+
+-- sources that are the files give what the files hold
+pub sources_of : {R : Type 0} (remaining : R → Option (List ℕ)) (sources : List (Counted (Opened R))) (files : List (Opened R))
+    → AreCounted sources files → AreSourcesOf (λ s. bytes_of remaining s.inner) sources remaining files
+sources_of {R} remaining sources files counted =
+    subst (AreSourcesOf (λ (s : Counted (Opened R)). bytes_of remaining s.inner) sources remaining) counted.0 (go sources)
+  where
+    go : (all : List (Counted (Opened R))) → AreSourcesOf (λ (s : Counted (Opened R)). bytes_of remaining s.inner) all remaining (opened_of all)
+    go [] = refl
+    go (s ∷ ss) = ap (λ rest. bytes_of remaining s.inner ∷ rest) (go ss)
 
 -- sources that haven't failed can be read
 pub below_most : {S : Type 0} (failed : S → ℕ) (xs ys : List S) → ys ≡ xs → All (λ s. failed s ≡ 0) xs → All (λ s. failed s < MAX) ys
@@ -67,13 +77,17 @@ module _ {R : Type 0} (remaining : R → Option (List ℕ)) where
   unopened_reported first second fault none by unread Check is_first = (refl, (unread first, tt))
   unopened_reported first second fault none by unread Fingerprint is_first = (refl, (unread first, tt))
 
-  -- a job that stops for it leaves its output alone
-  pub unopened_left : (mask : Mask) (written : Option (List ℕ)) (first second : List (Opened R)) (fault : Fault) → IsOfNoLines fault
-      → IsReportedBy Respell fault → ((files : List (Opened R)) → ReportsSet (file_set files) fault) → (job : Job) (is_first : Bool)
-      → LeavesStopped mask job (file_set first) (file_set second) (to_writer written written) fault (set_of_job job (if is_first then 1 else 2))
-  unopened_left mask written first second fault none by unread job is_first =
-      left_untouched mask (file_set first) (file_set second) (to_writer written written) (kept written) job fault _
-      (unopened_reported first second fault none by unread job is_first)
+  -- a job whose files aren't opened leaves its output alone
+  pub unopened_left : (mask : Mask) (out : GivenOutput) → out.kept → (first second : List (Opened R)) (job : Job) (stopped : Stopped)
+      → IsUnopened job stopped → Does mask job (file_set first) (file_set second) out (Err stopped)
+  unopened_left mask out kept first second job stopped (is_first, inl missing) =
+      subst (λ (s : Stopped). Does mask job (file_set first) (file_set second) out (Err s)) (sym missing)
+      (left_untouched mask (file_set first) (file_set second) out kept job (Load Device) _
+      (unopened_reported first second (Load Device) tt tt (λ files. ((λ of. absurd of), (λ is. tt))) job is_first))
+  unopened_left mask out kept first second job stopped (is_first, inr memory) =
+      subst (λ (s : Stopped). Does mask job (file_set first) (file_set second) out (Err s)) (sym memory)
+      (left_untouched mask (file_set first) (file_set second) out kept job Memory _
+      (unopened_reported first second Memory tt tt (λ files. (tt, λ is. tt)) job is_first))
 
 module _ {S R : Type 0} (left : S → Option (List ℕ)) (given : S → ℕ) (remaining : R → Option (List ℕ)) where
   -- parts that were read to their ends

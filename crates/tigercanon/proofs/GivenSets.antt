@@ -1,7 +1,7 @@
 -- A statement about a set and its output holds for another set if every fact about the first is a fact about the second.
 use Rattle.tigercanon.proofs.Common.{Compare, Different, Does, Done, Ending, Err, Fault, GivenOutput, GivenSet, HoldsAccepted, IsOfNoLines}
 use Rattle.tigercanon.proofs.Common.{IsTextOf, Job, LeavesStopped, List, Mask, OfTwoSets, Ok, Option, ReportsFor, ReportsSet, Result}
-use Rattle.tigercanon.proofs.Common.{Stopped, Write, inl, inr, ℕ, ◌⊎◌}
+use Rattle.tigercanon.proofs.Common.{HasRun, IsReportedWhy, Stopped, Write, fault_line, inl, inr, ℕ, ◌⊎◌}
 use Rattle.tigercanon.proofs.Refusing.{refused_weaker}
 
 -- every fact about one set is a fact about the other
@@ -61,3 +61,31 @@ module _ (a b c d : GivenSet) (first : IsKnownOf a b) (second : IsKnownOf c d) w
     pub does_of : (r : Result Ending Stopped) → Does mask job a c x r → Does mask job b d y r
     does_of (Ok ending) h = record { text = h.text; answered = text_of mask job ending h.text h.answered; printed = to.got h.text h.printed }
     does_of (Err stopped) h = stopped_of stopped.fault stopped.set h
+
+    pub why_of : (told said : List ℕ → Type 0) → ((line : List ℕ) → told line → said line) → (status : ℕ)
+        → IsReportedWhy mask job a c x told status → IsReportedWhy mask job b d y said status
+    why_of told said same status why = record {
+      fault = why.fault;
+      set = why.set;
+      status_is = why.status_is;
+      left = stopped_of why.fault why.set why.left;
+      line = same (fault_line why.fault why.set) why.line;
+    }
+
+    pub run_of : (told said : List ℕ → Type 0) (none never : Type 0) → ((line : List ℕ) → told line → said line) → (none → never)
+        → (status : ℕ) → HasRun mask job a c x told none status → HasRun mask job b d y said never status
+    run_of told said none never same silent status run = record {
+      statuses = run.statuses;
+      done = λ zero. does_of (Ok Done) (run.done zero);
+      different = λ one. does_of (Ok Different) (run.different one);
+      stopped = λ above. why_of told said same status (run.stopped above);
+      silent = λ most. silent (run.silent most);
+    }
+
+-- each fact about a set is one about itself
+pub itself : (a : GivenSet) → IsKnownOf a a
+itself a = record { holds = λ parts h. h; refused = λ fault h. h; unread = λ h. h }
+
+-- and the same for an output
+pub printed_to_itself : (x : GivenOutput) → IsPrintedTo x x
+printed_to_itself x = record { got = λ bytes h. h; kept = λ h. h; failed = λ h. h }

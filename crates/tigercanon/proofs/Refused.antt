@@ -1,7 +1,7 @@
 -- The exit status, and what it says about a job.
 use Rattle.tigercanon.proofs.Common.{Compare, Contains, Device, DeviceFailed, Different, Does, Done, Ending, Err, Fault, GivenOutput}
 use Rattle.tigercanon.proofs.Common.{GivenSet, HoldsAccepted, IfErr, IsDifferent, IsDone, IsOfNoLines, IsPartOnly, IsReportedWhy, Job}
-use Rattle.tigercanon.proofs.Common.{LeavesStopped, Link, List, Load, Mask, Memory, Ok, OnOk, Option, Profile, RefusesOne, ReportsFor}
+use Rattle.tigercanon.proofs.Common.{HasRun, LeavesStopped, Link, List, Load, Mask, Memory, Ok, OnOk, Option, Profile, RefusesOne, ReportsFor}
 use Rattle.tigercanon.proofs.Common.{ReportsNoDevice, ReportsSet, Result, Stopped, Write, [], ap, arith, fault_line, inl, inr, lit<, refl}
 use Rattle.tigercanon.proofs.Common.{status_of, status_of_outcome, sym, ℕ, ◌<◌, ◌∙◌, ◌∷◌, ◌≡◌, ◌≢◌, ◌≤◌, ◌⊎◌}
 use Rattle.county_chart.specs.declared.fault.LinkFault.TheVariants.{Memory as LinkMemory}
@@ -59,6 +59,10 @@ reported_device first second out Compare set (inl reported) = inl (reported.1.1 
 reported_device first second out Compare set (inr reported) = inr (inl (reported.3.1 refl))
 reported_device first second out job set reported = inl (reported.1.0.1 refl)
 
+pub unreported : {P : Type 0} (r : Result Ending Stopped) → OnOk r P → status_of_outcome r ≤ 1 → P
+unreported (Ok ending) kept most = kept
+unreported (Err stopped) kept most = let above = (status_above stopped.fault).0 in absurd (omega (arith, above, most))
+
 -- what a job's status says about its sets and its output
 module _ (mask : Mask) (job : Job) (first second : GivenSet) (out : GivenOutput) where
   left_refused : (fault : Fault) (set : Option ℕ) → LeavesStopped mask job first second out fault set → status_of fault ≡ 3
@@ -102,6 +106,18 @@ module _ (mask : Mask) (job : Job) (first second : GivenSet) (out : GivenOutput)
   why (Err stopped) status reported did is line some =
       record { fault = stopped.fault; set = stopped.set; status_is = is; left = did; line = line }
 
+  -- all that the status says
+  pub run_with : (r : Result Ending Stopped) (status : ℕ) (reported : List ℕ → Type 0) (silent : Type 0) → Does mask job first second out r
+      → status ≡ status_of_outcome r → IfErr r (λ stopped. reported (fault_line stopped.fault stopped.set)) → OnOk r silent
+      → HasRun mask job first second out reported silent status
+  run_with r status reported silent did is line none = record {
+    statuses = rw is (status_is_one r);
+    done = λ zero. done r did (sym is ∙ zero);
+    different = λ one. different r did (sym is ∙ one);
+    stopped = λ above. why r status reported did is line above;
+    silent = λ most. unreported r none (omega (arith, is, most));
+  }
+
   module _ (reported : List ℕ → Type 0) (status : ℕ) (stopped : IsReportedWhy mask job first second out reported status) where
     pub refused : status ≡ 3 → RefusesOne job first second
     refused three = left_refused stopped.fault stopped.set stopped.left (sym stopped.status_is ∙ three)
@@ -114,10 +130,6 @@ module _ (mask : Mask) (job : Job) (first second : GivenSet) (out : GivenOutput)
 
     pub some : IsPartOnly mask job first second out
     some = left_some stopped.fault stopped.set stopped.left
-
-pub unreported : {P : Type 0} (r : Result Ending Stopped) → OnOk r P → status_of_outcome r ≤ 1 → P
-unreported (Ok ending) kept most = kept
-unreported (Err stopped) kept most = let above = (status_above stopped.fault).0 in absurd (omega (arith, above, most))
 
 -- a job with another status than a device's reported none
 pub no_device_reported : (r : Result Ending Stopped) → status_of_outcome r ≢ 4 → ReportsNoDevice r

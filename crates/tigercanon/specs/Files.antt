@@ -46,6 +46,6 @@ AreHeld remaining (file ∷ files) (part ∷ parts) = IfSome (bytes_of remaining
 abbrev pub AreSourcesOf : {S R : Type 0} → (S → Option (List ℕ)) → List S → (R → Option (List ℕ)) → List (Opened R) → Type 0
 AreSourcesOf left sources remaining files = map left sources ≡ map (bytes_of remaining) files
 
--- and none has failed
-abbrev pub AreOpened : {S R : Type 0} → (S → Option (List ℕ)) → (S → ℕ) → List S → (R → Option (List ℕ)) → List (Opened R) → Type 0
-AreOpened left failed sources remaining files = AreSourcesOf left sources remaining files × All (λ source. failed source ≡ 0) sources
+-- these sources are the files, in order, and none has failed
+abbrev pub AreCounted : {R : Type 0} → List (Counted (Opened R)) → List (Opened R) → Type 0
+AreCounted sources files = (opened_of sources ≡ files) × All (λ source. source.failures ≡ 0) sources

@@ -1,5 +1,5 @@
 -- What the program's jobs do with files and with writers. Only the bytes of these are known, and nothing about their failures.
-use Rattle.std.specs.Prelude.{Bool, IsTrue, List, Option, if◌then◌else◌, ℕ, ◌&&◌, ◌||◌}
+use Rattle.std.specs.Prelude.{Bool, IsTrue, List, Option, if◌then◌else◌, ℕ, ◌&&◌, ◌||◌, ◌≡◌, ◌⊎◌}
 use Rattle.std.specs.Io.KnownBytes.{Appends, Keeps}
 use Rattle.tl_load.specs.declared.fault.LoadFault.TheVariants.{Device}
 use Rattle.tl_layout.specs.declared.mask.Mask.{Mask}
@@ -7,7 +7,8 @@ use Rattle.command_line.specs.declared.plans.Job.{Job}
 use Rattle.tigercanon.specs.TwoSets.{IsDifferent, IsDone, IsPartOnly, IsReportedWhy, RefusesOne}
 use Rattle.tigercanon.specs.{Files.AreHeld, Files.lacks_file, Outcomes.GivenSet, Sets.IsSetRefusal, Statuses.reads_two}
 use Rattle.tigercanon.specs.{Outcomes.GivenOutput, Refusals.fault_line, Statuses.set_of_job, declared.program.files.Opened.Opened}
-use Rattle.tigercanon.specs.{declared.fault.Fault.Fault, declared.fault.Fault.TheVariants.Load, declared.program.ending.Stopped.Stopped}
+use Rattle.tigercanon.specs.declared.fault.Fault.TheVariants.{Load, Memory}
+use Rattle.tigercanon.specs.{declared.fault.Fault.Fault, declared.program.ending.Stopped.Stopped}
 
 -- what the files hold is refused for this fault
 pub record AreRefused {R : Type 0} (remaining : R → Option (List ℕ)) (files : List (Opened R)) (fault : Fault) : Type 0 where
@@ -60,6 +61,11 @@ IsMissingOne job first second = IsTrue (lacks_one job (lacks_file first) (lacks_
 -- why a job stops if a file is missing: the set that lacks it is named, and if both sets lack one, the first
 abbrev pub stopped_at_missing : Job → Bool → Stopped
 stopped_at_missing job is_first = record { fault = Load Device; set = set_of_job job (if is_first then 1 else 2) }
+
+-- why the files of a job's sets aren't opened: one is missing, or an allocation failed for the files of one set
+abbrev pub IsUnopened : Job → Stopped → Type 0
+IsUnopened job stopped = (is_first : Bool) × ((stopped ≡ stopped_at_missing job is_first)
+    ⊎ (stopped ≡ record { fault = Memory; set = set_of_job job (if is_first then 1 else 2) }))
 
 -- the reported line says that a file is missing, and which of two sets lacks it
 abbrev pub ReportsMissing : {R : Type 0} → Job → List (Opened R) → List (Opened R) → (List ℕ → Type 0) → Type 0

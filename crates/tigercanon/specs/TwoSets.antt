@@ -1,5 +1,5 @@
 -- What a job did with the sets that it was given; a comparison has two.
-use Rattle.std.specs.Prelude.{Err, List, None, Ok, Option, Result, Some, [], codes, ℕ, ◌++◌, ◌∷◌, ◌≡◌, ◌⊎◌}
+use Rattle.std.specs.Prelude.{Contains, Err, List, None, Ok, Option, Result, Some, [], codes, ℕ, ◌++◌, ◌<◌, ◌∷◌, ◌≡◌, ◌≤◌, ◌⊎◌}
 use Rattle.command_line.specs.{declared.plans.Job.Job, declared.plans.Job.TheVariants.Compare}
 use Rattle.tigercanon.specs.declared.program.ending.Ending.TheVariants.{Different, Done}
 use Rattle.tigercanon.specs.Comparing.{AreDifferentInView, AreOneMapInView}
@@ -93,3 +93,13 @@ pub record IsReportedWhy (mask : Mask) (job : Job) (first second : GivenSet) (ou
   pub status_is : status ≡ status_of fault
   pub left : LeavesStopped mask job first second out fault set
   pub line : reported (fault_line fault set)
+
+-- What a job's exit status says about its sets, its output and what it reported, for what it means to report a line, and to report
+-- nothing.
+pub record HasRun (mask : Mask) (job : Job) (first second : GivenSet) (out : GivenOutput) (reported : List ℕ → Type 0)
+    (unreported : Type 0) (status : ℕ) : Type 0 where
+  pub statuses : Contains (0 ∷ 1 ∷ 3 ∷ 4 ∷ 5 ∷ []) status
+  pub done : status ≡ 0 → IsDone mask job first second out
+  pub different : status ≡ 1 → IsDifferent mask job first second out
+  pub stopped : 1 < status → IsReportedWhy mask job first second out reported status
+  pub silent : status ≤ 1 → unreported

@@ -4,9 +4,9 @@
 //! from sources and writes the text to a sink. [`fingerprint`] returns the hash of that text, and [`compare`] returns whether two
 //! sets are one map. Each of them has a form for maps under a mask, without the fields that name the sources of the data, or
 //! without the reserved ones: [`normalise_masked`] and the like. [`respell`] returns records in canonical spelling, and [`check`]
-//! returns whether a set is accepted. [`plan`] reads a command line, and [`run`] does the planned job, over files that its caller
-//! opened, as does [`run_counted`], over files that count their failures; the crate `tigercanon_main` is the program around these. `alike.rt` and `citing.rt` of the crate `uses` are proved
-//! callers.
+//! returns whether a set is accepted. [`plan`] reads a command line, and [`run_counted`] does the planned job, over files and outputs
+//! that count their failures. [`run`] does it over any files and outputs, by the same call. The crate `tigercanon_main` is the program
+//! around these. `alike.rt` and `citing.rt` of the crate `uses` are proved callers.
 #![tactic(auto)]
 
 mod fault;
@@ -26,7 +26,7 @@ pub use laws::{
 };
 pub use library::checking::check;
 pub use library::comparing::{
-    CompareFault, Verdict, are_one_map, are_one_map_masked, compare, compare_masked,
+    CompareFault, FIRST, SECOND, Verdict, are_one_map, are_one_map_masked, compare, compare_masked,
 };
 pub use library::fingerprinting::{fingerprint, fingerprint_masked};
 pub use library::normalising::{
@@ -35,6 +35,6 @@ pub use library::normalising::{
 };
 pub use library::respelling::respell;
 pub use program::counted::run_counted;
-pub use program::ending::{args_error, exit_status, report};
-pub use program::files::{CountedFile, Opened, open_files};
+pub use program::ending::{Stopped, args_error, exit_status, job_status, report};
+pub use program::files::{CountedFile, Opened, open_set};
 pub use program::running::run;

@@ -6,7 +6,8 @@ use std::env;
 use std::fs::{self, File};
 use std::process::ExitCode;
 use tigercanon::{
-    Opened, Plan, PlanFault, args_error, exit_status, open_files, plan, run_counted, words_of,
+    FIRST, Opened, Plan, PlanFault, SECOND, Stopped, args_error, exit_status, job_status, open_set,
+    plan, run_counted, words_of,
 };
 use tl_write::CountedOut;
 
@@ -26,19 +27,22 @@ fn open_all(rt: &HostRuntime, names: &[String]) -> Result<Vec<Opened<File>>, All
         .collect(rt.alloc())
 }
 
-/// Carries out the plan, and returns the exit status.
-fn done(rt: &HostRuntime, planned: &Plan) -> Result<u8, AllocError> {
-    let mut first = open_files(rt.alloc(), open_all(rt, &planned.first)?)?;
-    let mut second = open_files(rt.alloc(), open_all(rt, &planned.second)?)?;
+/// Opens the files of both sets, does the job over them, and returns its exit status, or why the files weren't opened.
+fn done(rt: &HostRuntime, planned: &Plan) -> Result<u8, Stopped> {
+    let alloc = rt.alloc();
+    let job = planned.job;
+    let mut first = open_set(alloc, job, FIRST, open_all(rt, &planned.first))?;
+    let mut second = open_set(alloc, job, SECOND, open_all(rt, &planned.second))?;
     let mut out = CountedOut::new(rt.stdout());
     let mut err = CountedOut::new(rt.stderr());
     Ok(run_counted(
-        rt.alloc(),
-        planned,
+        alloc,
+        job,
         &mut first,
         &mut second,
         &mut out,
         &mut err,
+        planned.mask,
     ))
 }
 
@@ -46,7 +50,8 @@ fn done(rt: &HostRuntime, planned: &Plan) -> Result<u8, AllocError> {
 fn status(rt: &HostRuntime) -> Result<u8, PlanFault> {
     let words = words(rt)?;
     let planned = plan(rt.alloc(), &words)?;
-    Ok(done(rt, &planned)?)
+    let mut err = CountedOut::new(rt.stderr());
+    Ok(job_status(done(rt, &planned), &mut err))
 }
 
 fn main(rt: HostRuntime) -> ExitCode {

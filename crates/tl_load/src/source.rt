@@ -58,6 +58,7 @@ impl<T: Read> Counted<T> {
     pub fn new(inner: T) -> Self
         ensures failures { ⟦<Counted<T> as Source>⟧.failed result ≡ 0 }
         ensures bytes { ⟦<Counted<T> as Source>⟧.remaining result ≡ T.remaining inner }
+        ensures inner { result.inner ≡ inner }
     {
         Counted {
             inner,

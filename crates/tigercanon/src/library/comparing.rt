@@ -24,10 +24,10 @@ use tl_load::LoadFault;
 use tl_number::CanonCounty;
 
 /// The number of the first set in a fault.
-pub(crate) const FIRST: u8 = 1;
+pub const FIRST: u8 = 1;
 
 /// The number of the second set in a fault.
-pub(crate) const SECOND: u8 = 2;
+pub const SECOND: u8 = 2;
 
 /// The result of comparing two sets.
 #[derive(Debug, Drop)]

@@ -4,7 +4,7 @@ ghost use Rattle.std.specs.IoError.{error_kind};
 ghost use Rattle.std.specs.Prelude.{IfErr, IfOk, IsTrue, None, OnOk, false, ◌<◌, ◌≡◌};
 ghost use Rattle.tigercanon.specs.Refusals.{IsUsage, fault_line, not_utf8, plan_text_of};
 ghost use Rattle.tigercanon.specs.{Devices.PrintsTo, Outcomes.ReportsLineTo, Running.lacks_one, Running.stopped_at_missing};
-ghost use Rattle.tigercanon.specs.{Statuses.plan_status_of, Statuses.status_of_outcome, Statuses.set_of_job, Statuses.stopped_by};
+ghost use Rattle.tigercanon.specs.Statuses.{plan_status_of, set_of_job, status_of, status_of_outcome, stopped_by};
 
 use crate::fault::Fault;
 use crate::library::comparing::{CompareFault, FIRST, SECOND};
@@ -26,9 +26,9 @@ pub(crate) enum Ending {
 
 /// Why a job stopped, and, if one of two sets is at fault, which one: 1 or 2.
 #[derive(Clone, Copy, Debug)]
-pub(crate) struct Stopped {
-    pub(crate) fault: Fault,
-    pub(crate) set: Option<u8>,
+pub struct Stopped {
+    pub fault: Fault,
+    pub set: Option<u8>,
 }
 
 impl From<CompareFault> for Stopped {
@@ -161,6 +161,19 @@ pub fn report<E: Sink>(fault: &PlanFault, err: &mut E) -> u8
             2
         }
         PlanFault::Memory => report_outcome(Err(Stopped::from(Fault::Memory)), err),
+    }
+}
+
+/// The exit status of a job: its own, or, if its files weren't opened, that of the fault that is then written to `err` in one line.
+pub fn job_status<E: Sink>(outcome: Result<u8, Stopped>, err: &mut E) -> u8
+    requires { E.failed err.old < u64.MAX }
+    ensures done { IfOk outcome (λ status. (result ≡ status) × (err.new ≡ err.old)) }
+    ensures reported { IfErr outcome (λ stopped. (result ≡ status_of stopped.fault)
+        × ReportsLineTo E.failed E.holds err.old err.new (fault_line stopped.fault stopped.set)) }
+{
+    match outcome {
+        Ok(status) => status,
+        Err(stopped) => report_outcome(Err(stopped), err),
     }
 }
 

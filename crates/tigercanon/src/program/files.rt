@@ -2,11 +2,15 @@
 
 ghost use Rattle.std.specs.Prelude.{IfErr, IfOk, IsErr, Ok, slice_get, ◌≡◌, ◌≢◌};
 ghost use Rattle.std.specs.{Io.KnownBytes.ReadConsumes, Io.ReadsAtMost, IoError.error_kind};
-ghost use Rattle.tigercanon.specs.Files.{AreOpened, AreReadable, bytes_of, is_absent, is_failed, lacks_file, opened_of};
+ghost use Rattle.tigercanon.specs.Files.{AreCounted, AreReadable, bytes_of, is_absent, is_failed, lacks_file, opened_of};
+ghost use Rattle.tigercanon.specs.Statuses.{set_of_job};
 
+use crate::fault::Fault;
+use crate::program::ending::{Stopped, stopped_in};
+use command_line::Job;
 use std::alloc::{AllocError, Global};
 use std::io::{self, Error, ErrorKind, Read};
-use tl_load::{Counted, Source};
+use tl_load::Counted;
 
 /// A file, or the reason why it isn't open.
 #[derive(Drop)]
@@ -94,21 +98,41 @@ pub(crate) fn lacks_counted_file<R>(files: &[CountedFile<R>]) -> bool
     is_first_counted_absent(files) || files.iter().any(|file| has_failed(file.get_ref()))
 }
 
-/// The files of a set as sources, one each, that haven't failed.
-///
-/// # Errors
-///
-/// `AllocError` if an allocation failed.
-pub fn open_files<R: Read + Drop>(
+/// These files as sources, one each, that haven't failed.
+fn count_failures<R: Read + Drop>(
     alloc: Global,
     files: Vec<Opened<R>>,
 ) -> Result<Vec<CountedFile<R>>, AllocError>
     ensures readable { IfOk result (λ sources. AreReadable sources.items) }
-    ensures opened { IfOk result (λ sources. AreOpened ⟦<CountedFile<R> as Source>⟧.remaining ⟦<CountedFile<R> as Source>⟧.failed sources.items
-        R.remaining files.items) }
+    ensures counted { IfOk result (λ sources. AreCounted sources.items files.items) }
 {
     files
         .into_iter()
         .map(|file| Counted::new(file))
         .collect(alloc)
+}
+
+/// The files of one of a job's sets, the first or the second, as sources that haven't failed. `opened` has the outcomes of opening
+/// them, unless there was no memory for these.
+///
+/// # Errors
+///
+/// Out of memory, in this set.
+pub fn open_set<R: Read + Drop>(
+    alloc: Global,
+    job: Job,
+    set: u8,
+    opened: Result<Vec<Opened<R>>, AllocError>,
+) -> Result<Vec<CountedFile<R>>, Stopped>
+    ensures readable { IfOk result (λ sources. AreReadable sources.items) }
+    ensures opened { IfOk result (λ sources. IfOk opened (λ files. AreCounted sources.items files.items)) }
+    ensures memory { IfErr result (λ stopped. stopped ≡ record { fault = Fault.Memory; set = set_of_job job set }) }
+{
+    match opened {
+        Ok(files) => match count_failures(alloc, files) {
+            Ok(sources) => Ok(sources),
+            Err(error) => Err(stopped_in(job, set, Fault::from(error))),
+        },
+        Err(error) => Err(stopped_in(job, set, Fault::from(error))),
+    }
 }

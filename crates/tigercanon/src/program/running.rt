@@ -2,21 +2,19 @@
 
 ghost use Rattle.std.specs.Io.KnownBytes.{Keeps};
 ghost use Rattle.std.specs.Prelude.{Contains, Err, IfErr, IfOk, OnOk, [], ◌<◌, ◌∷◌, ◌≡◌, ◌≤◌};
-ghost use Rattle.tigercanon.specs.Running.{IsMissingOne, IsRefusedBy, PrintsDifferent, PrintsDone, PrintsSome, ReportsMissing, ReportsWhy};
-ghost use Rattle.tigercanon.specs.Running.{set_of_files, stopped_at_missing, to_writer};
-ghost use Rattle.tigercanon.specs.{Files.AreOpened, Files.lacks_file, Outcomes.ReportsLine, Refusals.fault_line};
-ghost use Rattle.tigercanon.specs.{Statuses.status_of_outcome, Statuses.set_of_job, TwoSets.Does};
+ghost use Rattle.tigercanon.specs.Running.{IsMissingOne, IsRefusedBy, IsUnopened, PrintsDifferent, PrintsDone, PrintsSome, ReportsMissing};
+ghost use Rattle.tigercanon.specs.Running.{ReportsWhy, set_of_files, stopped_at_missing};
+ghost use Rattle.tigercanon.specs.{Devices.to_sink, Files.AreCounted, Files.lacks_file, Outcomes.ReportsLine, Outcomes.ReportsLineTo};
+ghost use Rattle.tigercanon.specs.{TwoSets.HasRun};
 
-use crate::fault::Fault;
 use crate::library::comparing::{FIRST, SECOND};
-use crate::program::ending::{Ending, Stopped, refuse_missing, report_outcome, stopped_in};
-use crate::program::files::{CountedFile, Opened, lacks_file, open_files};
-use crate::program::jobs::do_job;
+use crate::program::counted::run_counted;
+use crate::program::ending::{Stopped, refuse_missing, report_outcome};
+use crate::program::files::{CountedFile, Opened, lacks_file, open_set};
 use command_line::Job;
 use std::alloc::Global;
 use std::io::{Read, Write};
 use tl_layout::{DeviceFault, Mask};
-use tl_load::Source;
 use tl_write::Sink;
 
 /// A sink over a lent writer. Every error of the writer counts as a failure, and so does a write that takes none of a nonempty
@@ -70,56 +68,49 @@ impl<W: Write> Sink for LentOut<'_, W> {
     }
 }
 
-/// The files of one of a job's sets as sources that haven't failed, if there is memory for them.
-fn open_set<R: Read + Drop>(
+/// The files of a job's sets as sources that haven't failed, unless one that it needs is missing. Nothing is allocated then.
+fn open_sets<R: Read + Drop>(
     alloc: Global,
     job: Job,
-    set: u8,
-    files: Vec<Opened<R>>,
-) -> Result<Vec<CountedFile<R>>, Stopped>
-    ensures opened { IfOk result (λ sources. AreOpened ⟦<CountedFile<R> as Source>⟧.remaining ⟦<CountedFile<R> as Source>⟧.failed sources.items
-        R.remaining files.items) }
-    ensures memory { IfErr result (λ stopped. stopped ≡ record { fault = Fault.Memory; set = set_of_job job set }) }
+    first: Vec<Opened<R>>,
+    second: Vec<Opened<R>>,
+) -> Result<(Vec<CountedFile<R>>, Vec<CountedFile<R>>), Stopped>
+    ensures opened { IfOk result (λ sets. AreCounted sets.0.items first.items × AreCounted sets.1.items second.items) }
+    ensures found { OnOk result (¬ IsMissingOne job first.items second.items) }
+    ensures missing { IsMissingOne job first.items second.items → result ≡ Err (stopped_at_missing job (lacks_file first.items)) }
+    ensures unopened { IfErr result (IsUnopened job) }
 {
-    match open_files(alloc, files) {
-        Ok(sources) => Ok(sources),
-        Err(error) => Err(stopped_in(job, set, Fault::from(error))),
-    }
+    refuse_missing(job, lacks_file(&first), lacks_file(&second))?;
+    let first = open_set(alloc, job, FIRST, Ok(first))?;
+    let second = open_set(alloc, job, SECOND, Ok(second))?;
+    Ok((first, second))
 }
 
-/// Opens the files of a job's sets, unless one that it needs is missing, and does the job over them.
-fn run_files<R: Read + Drop, W: Write>(
+/// Does what [`run`] does, over outputs that count their failures.
+fn run_files<R: Read + Drop, W: Sink, E: Sink>(
     alloc: Global,
     job: Job,
     first: Vec<Opened<R>>,
     second: Vec<Opened<R>>,
     out: &mut W,
+    err: &mut E,
     mask: Mask,
-) -> Result<Ending, Stopped>
-    ensures did { Does mask job (set_of_files R.remaining first.items) (set_of_files R.remaining second.items)
-        (to_writer (W.contents out.old) (W.contents out.new)) result }
-    ensures missing { IsMissingOne job first.items second.items → result ≡ Err (stopped_at_missing job (lacks_file first.items)) }
-    ensures missing_silent { IsMissingOne job first.items second.items → Keeps (W.contents out.old) (W.contents out.new) }
+) -> u8
+    requires out { W.failed out.old < u64.MAX }
+    requires err { E.failed err.old < u64.MAX }
+    ensures ran { HasRun mask job (set_of_files R.remaining first.items) (set_of_files R.remaining second.items)
+        (to_sink W.failed W.holds out.old out.new) (ReportsLineTo E.failed E.holds err.old err.new) (err.new ≡ err.old) result }
+    ensures missing { IsMissingOne job first.items second.items → result ≡ 4 }
+    ensures missing_silent { IsMissingOne job first.items second.items → out.new ≡ out.old }
+    ensures missing_reported { IsMissingOne job first.items second.items →
+        ReportsMissing job first.items second.items (ReportsLineTo E.failed E.holds err.old err.new) }
 {
-    refuse_missing(job, lacks_file(&first), lacks_file(&second))?;
-    let mut first = open_set(alloc, job, FIRST, first)?;
-    let mut second = open_set(alloc, job, SECOND, second)?;
-    let mut text = LentOut::new(out);
-    let outcome = do_job(alloc, job, &mut first, &mut second, &mut text, mask);
-    text.give_back();
-    outcome
-}
-
-/// Writes in one line why a job stopped, if it did, and returns the exit status.
-fn report_to_writer<E: Write>(outcome: Result<Ending, Stopped>, err: &mut E) -> u8
-    ensures status { result ≡ status_of_outcome outcome }
-    ensures reported { IfErr outcome (λ stopped. ReportsLine (E.contents err.old) (E.contents err.new) (fault_line stopped.fault stopped.set)) }
-    ensures unreported { OnOk outcome (Keeps (E.contents err.old) (E.contents err.new)) }
-{
-    let mut lines = LentOut::new(err);
-    let status = report_outcome(outcome, &mut lines);
-    lines.give_back();
-    status
+    match open_sets(alloc, job, first, second) {
+        Ok((mut first, mut second)) => {
+            run_counted(alloc, job, &mut first, &mut second, out, err, mask)
+        }
+        Err(stopped) => report_outcome(Err(stopped), err),
+    }
 }
 
 /// Does a job over the files of its sets, and returns the exit status: 0 if it is done, 1 if two sets are different maps, 3 if a
@@ -160,6 +151,10 @@ pub fn run<R: Read + Drop, W: Write, E: Write>(
         ReportsMissing job first.items second.items (ReportsLine (E.contents err.old) (E.contents err.new)) }
     ensures unreported { result ≤ 1 → Keeps (E.contents err.old) (E.contents err.new) }
 {
-    let outcome = run_files(alloc, job, first, second, out, mask);
-    report_to_writer(outcome, err)
+    let mut text = LentOut::new(out);
+    let mut lines = LentOut::new(err);
+    let status = run_files(alloc, job, first, second, &mut text, &mut lines, mask);
+    text.give_back();
+    lines.give_back();
+    status
 }
