@@ -2,3 +2,8 @@
 pub mod LeastNumbers
 pub mod ChoiceSteps
 pub mod AlikeRanges
+pub mod LeastBelow
+pub mod MovedParts
+pub mod LeastOnes
+pub mod PlacesApart
+pub mod DigitsApart

@@ -15,6 +15,7 @@ use crate::county_part::{CountyPart, Shared};
 use crate::kept_places::kept_chains;
 use crate::numbered_arrangement::NumberedArrangement;
 use crate::part_tables::part_tables;
+use crate::type_1_choices::least_by_type_1;
 use county_chart::{Chart, DirectedChain};
 use std::alloc::{AllocError, Global};
 use tl_profile::{ShapeOrder, order_by_shape};
@@ -29,7 +30,7 @@ fn least_in_part<C: Shared>(alloc: Global, part: &C) -> Result<u64, AllocError>
     least_among_choices(alloc, part, &order)
 }
 
-/// The number of the choice with the least text. Compares nothing if the county leaves no choice.
+/// The number of the choice with the least text. Makes no part of the county if records of type 1 decide.
 fn least_number<C: Chart>(
     alloc: Global,
     chart: &C,
@@ -38,15 +39,17 @@ fn least_number<C: Chart>(
     requires { LeavesChoices (C.county chart.now) shape_order.now }
     ensures { IfOk result (IsLeastBelow (C.county chart.now) (choices (C.county chart.now))) }
 {
-    if shape_order.choices() == 1 {
-        return Ok(0);
+    let numbers = least_by_type_1(alloc, chart, shape_order)?;
+    let least = numbers.as_slice();
+    if least.len() == 1 {
+        return Ok(least[0]);
     }
     let kept = kept_chains(alloc, chart, shape_order)?;
     let tables = part_tables(alloc, chart, kept)?;
-    let least = least_in_part(alloc, &CountyPart::new(chart, &tables));
+    let found = least_in_part(alloc, &CountyPart::new(chart, &tables));
     // One call for the prover, which otherwise reads the drop of each table.
     drop(tables);
-    least
+    found
 }
 
 /// A choice with the least text, given the order of the chains by their shapes.

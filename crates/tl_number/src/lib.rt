@@ -21,6 +21,7 @@ mod masking;
 mod numbered_arrangement;
 mod open_keys;
 mod part_tables;
+mod type_1_choices;
 
 pub use arranged_county::{
     Arranged, CanonCounty, CanonCountyIn, Canonical, Evidence, Interner, NumericKey, Unknown,

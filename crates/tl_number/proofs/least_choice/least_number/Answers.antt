@@ -1,18 +1,28 @@
-use Rattle.tl_number.proofs.Common.{AllKeysContained, IfOk-weaker, IsCounty, IsLeastBelow, IsWithinLimits, ap, arith, choices, most_choices}
-use Rattle.tl_number.proofs.Common.{most_records, nat_cmp, part_of, part_with, polygon_keys, polygons_along, contains, subst, sym, ◌<◌}
+use Rattle.tl_number.proofs.Common.{AllKeysContained, IfOk-weaker, IsCounty, IsLeastBelow, IsWithinLimits, ap, choices, most_choices}
+use Rattle.tl_number.proofs.Common.{most_records, nat_cmp, part_of, part_with, polygon_keys, polygons_along, contains, subst, sym}
 use Rattle.tl_number.proofs.Common.{◌∙◌, ◌≡◌, ◌≤◌}
 use Rattle.tl_number.proofs.Ties.SmallCounty.{small_choices, small_is, small_sides, small_within}
-use Rattle.tl_number.proofs.{Choices.LeastNumbers.first_least, Ties.SmallOrder.small_least, least_choice.least_number.Given.Over}
+use Rattle.tl_number.proofs.Common.{IsNotAfter, choice_list, get_or, not_after_itself, ℕ}
+use Rattle.tl_number.specs.LeastOnes.{HaveLeastOnes}
+use Rattle.tl_number.proofs.{Choices.LeastBelow.lone_all, Choices.LeastOnes.least_of_these, Ties.SmallOrder.small_least, least_choice.least_number.Given.Over}
 use Rattle.tl_number.specs.SmallCounty.{small_county}
 use Rattle.tl_number.proofs.least_choice.least_number.Goals.{In_ok-tables}
 use Rattle.tl_number.proofs.least_choice.least_number.Goals as goal
 
-pub returns-then-choices-eq1 : goal.returns-then-choices-eq1
-returns-then-choices-eq1 g c =
+pub returns-then-least-eq1 : goal.returns-then-least-eq1
+returns-then-least-eq1 g c =
     let county = g.C.Chart.county c.args.chart.now in
-    λ m below. first_least county m
-    (let under : m < choices county = below in
-    omega (arith, under, c.choices.ensures, c.requires.order.count, c.requires.few, c.if-choices-eq1.true))
+    let numbers = c.as_slice-least.result.now in
+    let number : ℕ = get_or numbers 0 0 in
+    least_of_these record {
+      county = county;
+      shapes = c.args.shape_order.now;
+      known = c.requires;
+      is = g.met.C.Chart.is_county c.args.chart.now;
+      within = g.met.C.Chart.within_limits c.args.chart.now;
+    } numbers (subst (HaveLeastOnes county (choices county)) (sym c.as_slice-least.ensures.value) c.in_ok-numbers.ensures) number
+    (lone_all (λ m. IsNotAfter (choice_list county number) (choice_list county m)) numbers c.if-least-eq1.true
+    (not_after_itself (choice_list county number)))
 
 pub part_tables-requires : goal.part_tables-requires
 part_tables-requires g c = c.requires.sides
@@ -37,23 +47,23 @@ new-requires-clause-limits g c =
     (small_within (g.C.Chart.county c.args.chart.now) c.args.shape_order.now c.requires (g.met.C.Chart.is_county c.args.chart.now)
     (g.met.C.Chart.within_limits c.args.chart.now))
 
-pub least_in_part-least-requires-clause-few : goal.least_in_part-least-requires-clause-few
-least_in_part-least-requires-clause-few g c =
+pub least_in_part-found-requires-clause-few : goal.least_in_part-found-requires-clause-few
+least_in_part-found-requires-clause-few g c =
     let county = g.C.Chart.county c.args.chart.now in
-    subst (λ small. choices small ≤ most_choices) (sym (c.new.ensures ∙ is_small g (goal.at.least_in_part-least-requires-clause-few g c).In_ok-tables))
+    subst (λ small. choices small ≤ most_choices) (sym (c.new.ensures ∙ is_small g (goal.at.least_in_part-found-requires-clause-few g c).In_ok-tables))
     (subst (λ count. count ≤ most_choices) (sym (small_choices county c.args.shape_order.now c.requires (g.met.C.Chart.is_county c.args.chart.now)))
     c.requires.few)
 
-pub least_in_part-least-requires-clause-sides : goal.least_in_part-least-requires-clause-sides
-least_in_part-least-requires-clause-sides g c =
+pub least_in_part-found-requires-clause-sides : goal.least_in_part-found-requires-clause-sides
+least_in_part-found-requires-clause-sides g c =
     subst (λ small. AllKeysContained (polygons_along small.chains) (polygon_keys small))
-    (sym (c.new.ensures ∙ is_small g (goal.at.least_in_part-least-requires-clause-sides g c).In_ok-tables))
+    (sym (c.new.ensures ∙ is_small g (goal.at.least_in_part-found-requires-clause-sides g c).In_ok-tables))
     (small_sides (g.C.Chart.county c.args.chart.now) c.args.shape_order.now c.requires (g.met.C.Chart.is_county c.args.chart.now))
 
 pub returns : goal.returns
 returns g c =
     let county = g.C.Chart.county c.args.chart.now in
-    IfOk-weaker c.least_in_part-least.result _ _
+    IfOk-weaker c.least_in_part-found.result _ _
     (λ number least. small_least record {
       county = county;
       shapes = c.args.shape_order.now;
@@ -62,4 +72,4 @@ returns g c =
       within = g.met.C.Chart.within_limits c.args.chart.now;
     } number
     (subst (λ small. IsLeastBelow small (choices small) number) (c.new.ensures ∙ is_small g (goal.at.returns g c).In_ok-tables) least))
-    c.least_in_part-least.ensures
+    c.least_in_part-found.ensures

@@ -1,0 +1,58 @@
+-- The choices with the least records of type 1, digit by digit of their numbers.
+use Rattle.std.specs.Prelude.{List, [], flat_map, length, map, true, false, ℕ, ◌*◌, ◌+◌, ◌<◌, ◌∷◌, ◌≡◌, ◌≤◌}
+use Rattle.std.specs.{List.AllByRecursion, Ordering.is_gt, Ordering.nat_cmp, declared.cmp.Ordering.Ordering}
+use Rattle.tl_layout.specs.declared.record_type.Record.{Record}
+use Rattle.ordered_lists.specs.Orders.{contains}
+use Rattle.county_chart.specs.{Choices.choices, Choices.ways_at, County.County, declared.open_place.OpenPlace.OpenPlace}
+use Rattle.canonical_form.specs.{Canonical.IsNotAfter, MovedChains.AreWithin}
+use Rattle.canonical_form.specs.LeastNumber.{IsLeastBelow, choice_list}
+use Rattle.record_groups.specs.{RecordOrder.records_cmp, TypeOneOrder.ones_cmp, TypeOneOrder.ones_of}
+use Rattle.tl_number.specs.ChoiceSearch.{chosen_county}
+
+-- Of the numbers below a bound, these are the ones whose values come after no other's. There is at least one.
+pub record AreLeastBelow {K : Type 0} (cmp : K → K → Ordering) (value : ℕ → K) (bound : ℕ) (numbers : List ℕ) : Type 0 where
+  pub some : 0 < length numbers
+  pub within : AllByRecursion (λ n. n < bound) numbers
+  pub least : AllByRecursion (λ n. (m : ℕ) → m < bound → is_gt (cmp (value n) (value m)) ≡ false) numbers
+  pub all : (m : ℕ) → m < bound → AllByRecursion (λ n. is_gt (cmp (value m) (value n)) ≡ false) numbers → contains nat_cmp m numbers ≡ true
+
+-- the records of type 1 of the choice with this number
+abbrev pub ones_in : County → ℕ → List Record
+ones_in county n = ones_of (chosen_county county n)
+
+-- Of the choices with numbers below a bound, these have the least records of type 1.
+abbrev pub HaveLeastOnes : County → ℕ → List ℕ → Type 0
+HaveLeastOnes county bound numbers = AreLeastBelow records_cmp (ones_in county) bound numbers
+
+-- The same for choices whose numbers have the same digits behind a digit, by that digit. The digits behind it make up a number.
+abbrev pub HaveLeastOnesByDigit : County → ℕ → ℕ → ℕ → List ℕ → Type 0
+HaveLeastOnesByDigit county ways behind bound digits = AreLeastBelow records_cmp (λ digit. ones_in county (digit * ways + behind)) bound digits
+
+-- Numbers with the same digit before this many ways compare as the numbers behind the digit do.
+abbrev pub IsDigitApart : County → ℕ → Type 0
+IsDigitApart county ways = (digit n m : ℕ) → n < ways → m < ways
+    → ones_cmp county (digit * ways + n) (digit * ways + m) ≡ ones_cmp county n m
+
+-- earlier open places move chains before an edge, and later ones behind it
+pub record ArePlacesApart (count : ℕ) (front back : List OpenPlace) : Type 0 where
+  pub edge : ℕ
+  pub inside : edge ≤ count
+  pub ends : AreWithin edge front
+  pub begins : AllByRecursion (λ at. edge ≤ at.place) back
+
+-- how many choices open places leave
+abbrev pub ways_of : List OpenPlace → ℕ
+ways_of [] = 1
+ways_of (at ∷ places) = at.alike * ways_at at * ways_of places
+
+-- each digit before each number, where the digit counts this many ways
+abbrev pub combined : ℕ → List ℕ → List ℕ → List ℕ
+combined ways digits numbers = flat_map (λ digit. map (λ number. digit * ways + number) numbers) digits
+
+-- the text of this choice comes after that of none of these
+abbrev pub IsLeastAmong : County → List ℕ → ℕ → Type 0
+IsLeastAmong county numbers n = AllByRecursion (λ m. IsNotAfter (choice_list county n) (choice_list county m)) numbers
+
+-- the least of these choices is the least of all
+abbrev pub HaveLeast : County → List ℕ → Type 0
+HaveLeast county numbers = (n : ℕ) → IsLeastAmong county numbers n → IsLeastBelow county (choices county) n

@@ -1,0 +1,204 @@
+//! The choices of a county with the least records of type 1.
+//!
+//! Records of type 1 come first in a text, and those at the places of one shape depend on the order and the directions of the chains of
+//! this shape alone. So they are compared shape by shape: the orders and directions with the least records of type 1 stay open, and the
+//! choice with the least text is among their combinations. In the number of a choice, the last shape has the last digit.
+
+ghost use Rattle.std.specs.List.{AllByRecursion, list_any};
+ghost use Rattle.std.specs.Ordering.{is_eq, is_gt};
+ghost use Rattle.std.specs.Prelude.{IfOk, OnOk, [], cond, drop, length, map, nat_lt, take, ◌++◌, ◌+◌, ◌*◌, ◌∷◌, ◌<◌, ◌≡◌, ◌≤◌};
+ghost use Rattle.canonical_form.specs.MovedChains.{ArePlacesInOrder, AreWithin};
+ghost use Rattle.county_chart.specs.Choices.{choices, most_choices};
+ghost use Rattle.record_groups.specs.TypeOneOrder.{ones_cmp};
+ghost use Rattle.tl_number.specs.ChoiceSearch.{IsChosen, LeavesChoices};
+ghost use Rattle.tl_number.specs.LeastOnes.{ArePlacesApart, HaveLeastOnes, HaveLeastOnesByDigit, IsDigitApart, combined, ways_of};
+
+use crate::numbered_arrangement::NumberedArrangement;
+use county_chart::{Chart, OpenPlace};
+use record_groups::compare_ones;
+use std::alloc::{AllocError, Global};
+use std::cmp::Ordering;
+use std::mem::swap;
+use tl_profile::ShapeOrder;
+
+/// Compares two choices by their records of type 1.
+fn compare_by_type_1<C: Chart>(
+    chart: &C,
+    shape_order: &ShapeOrder,
+    one: &NumberedArrangement,
+    other: &NumberedArrangement,
+) -> Ordering
+    requires known { LeavesChoices (C.county chart.now) shape_order.now }
+    requires one { IsChosen shape_order.now one.now }
+    requires other { IsChosen shape_order.now other.now }
+    ensures { result ≡ ones_cmp (C.county chart.now) one.now.number other.now.number }
+{
+    compare_ones(chart, shape_order.open_places(), &one.chains, &other.chains)
+}
+
+/// Keeps the least of the digits so far, given how these compare with the next one.
+fn keep_least(digits: &mut Vec<u64>, ordering: Ordering, digit: u64) -> Result<(), AllocError>
+    ensures { OnOk result (digits.new.items
+        ≡ cond (is_gt ordering) (digit ∷ []) (digits.old.items ++ cond (is_eq ordering) (digit ∷ []) [])) }
+{
+    if ordering.is_gt() {
+        digits.clear();
+    }
+    if ordering.is_ge() {
+        digits.push(digit)?;
+    }
+    Ok(())
+}
+
+/// The digits below `count` of the choices with the least records of type 1, among those that have the number `behind` in the digits
+/// after it.
+fn least_digits<C: Chart>(
+    alloc: Global,
+    chart: &C,
+    shape_order: &ShapeOrder,
+    count: u64,
+    ways: u64,
+    behind: u64,
+) -> Result<Vec<u64>, AllocError>
+    requires known { LeavesChoices (C.county chart.now) shape_order.now }
+    requires some { 0 < count }
+    requires few { count * ways ≤ most_choices }
+    requires behind { behind < ways }
+    ensures { IfOk result (λ digits. HaveLeastOnesByDigit (C.county chart.now) ways behind count digits.items) }
+{
+    let mut least = NumberedArrangement::new(alloc, shape_order, behind)?;
+    let mut other = NumberedArrangement::new(alloc, shape_order, behind)?;
+    let mut digits = Vec::new(alloc);
+    digits.push(0)?;
+    for digit in 1..count {
+        other.choose_again(shape_order, digit * ways + behind);
+        let ordering = compare_by_type_1(chart, shape_order, &least, &other);
+        keep_least(&mut digits, ordering, digit)?;
+        if ordering.is_le() {
+            continue;
+        }
+        swap(&mut least, &mut other);
+    }
+    Ok(digits)
+}
+
+/// Adds numbers that have this one before them.
+fn add_numbers(all: &mut Vec<u64>, first: u64, numbers: &[u64]) -> Result<(), AllocError>
+    requires { AllByRecursion (λ number. first + number < most_choices) numbers.now }
+    ensures { OnOk result (all.new.items ≡ all.old.items ++ map (λ number. first + number) numbers.now) }
+{
+    for number in numbers {
+        all.push(first + *number)?;
+    }
+    Ok(())
+}
+
+/// Each of the digits before each of the numbers.
+fn combine(
+    alloc: Global,
+    digits: &[u64],
+    ways: u64,
+    numbers: &[u64],
+) -> Result<Vec<u64>, AllocError>
+    requires some { 0 < length numbers.now }
+    requires few { AllByRecursion (λ digit. AllByRecursion (λ number. digit * ways + number < most_choices) numbers.now) digits.now }
+    ensures { IfOk result (λ all. all.items ≡ combined ways digits.now numbers.now) }
+{
+    let mut all = Vec::new(alloc);
+    for digit in digits {
+        add_numbers(&mut all, *digit * ways, numbers)?;
+    }
+    Ok(all)
+}
+
+/// How many choices open places leave.
+fn count_ways(places: &[OpenPlace]) -> u64
+    requires some { 0 < ways_of places.now }
+    requires few { ways_of places.now ≤ most_choices }
+    ensures { result ≡ ways_of places.now }
+{
+    let mut ways = 1;
+    let mut rest = places;
+    while let Some((at, behind)) = rest.split_first() {
+        ways *= u64::from(at.alike) * at.ways();
+        rest = behind;
+    }
+    ways
+}
+
+/// Whether an open place moves chains past this place.
+fn reaches(at: OpenPlace, edge: u32) -> bool
+    ensures { result ≡ nat_lt edge (at.place + at.alike) }
+{
+    u64::from(edge) < u64::from(at.place) + u64::from(at.alike)
+}
+
+/// Whether one of these open places moves chains past this place.
+fn any_reaches(places: &[OpenPlace], edge: u32) -> bool
+    ensures { result ≡ list_any (λ at. nat_lt edge (at.place + at.alike)) places.now }
+{
+    places.iter().any(|at| reaches(*at, edge))
+}
+
+/// The first open place of the last shape among the open places before `end`.
+fn last_shape(shape_order: &ShapeOrder, end: usize) -> usize
+    requires within { AreWithin (length shape_order.now.by_shape) shape_order.now.places }
+    requires in_order { ArePlacesInOrder shape_order.now.places }
+    requires some { 0 < end }
+    requires end { end ≤ length shape_order.now.places }
+    ensures before { result < end }
+    ensures apart { ArePlacesApart (length shape_order.now.by_shape) (take result shape_order.now.places) (drop result shape_order.now.places) }
+{
+    let places = shape_order.open_places();
+    for first in (1..end).rev() {
+        let past = any_reaches(&places[..first], places[first].place);
+        if !past {
+            return first;
+        }
+    }
+    0
+}
+
+/// The choices with the least records of type 1 by one digit more, which is below `count`.
+fn with_digit<C: Chart>(
+    alloc: Global,
+    chart: &C,
+    shape_order: &ShapeOrder,
+    count: u64,
+    ways: u64,
+    numbers: &[u64],
+) -> Result<Vec<u64>, AllocError>
+    requires known { LeavesChoices (C.county chart.now) shape_order.now }
+    requires some { 0 < count }
+    requires few { count * ways ≤ most_choices }
+    requires apart { IsDigitApart (C.county chart.now) ways }
+    requires numbers { HaveLeastOnes (C.county chart.now) ways numbers.now }
+    ensures { IfOk result (λ all. HaveLeastOnes (C.county chart.now) (count * ways) all.items) }
+{
+    let digits = least_digits(alloc, chart, shape_order, count, ways, numbers[0])?;
+    combine(alloc, &digits, ways, numbers)
+}
+
+/// The numbers of the choices with the least records of type 1.
+pub(crate) fn least_by_type_1<C: Chart>(
+    alloc: Global,
+    chart: &C,
+    shape_order: &ShapeOrder,
+) -> Result<Vec<u64>, AllocError>
+    requires { LeavesChoices (C.county chart.now) shape_order.now }
+    ensures { IfOk result (λ numbers. HaveLeastOnes (C.county chart.now) (choices (C.county chart.now)) numbers.items) }
+{
+    let places = shape_order.open_places();
+    let mut numbers = Vec::new(alloc);
+    numbers.push(0)?;
+    let mut ways = 1;
+    let mut end = places.len();
+    while end > 0 {
+        let first = last_shape(shape_order, end);
+        let count = count_ways(&places[first..end]);
+        numbers = with_digit(alloc, chart, shape_order, count, ways, &numbers)?;
+        ways *= count;
+        end = first;
+    }
+    Ok(numbers)
+}
