@@ -29,7 +29,7 @@ PLACES: list[Point] = [
     *((999_999_999, 99_999_999), (-999_999_999, -99_999_999), (0, 5), (5, 0), (0, -5), (-1, 1), (9, 10), (10, 9)),
 ]
 # What may differ in chains of one shape, and fields that a flag leaves out.
-UNLIKE = ["", "", "", "", "start", "start end", "end", "names", "ranges", "fields", "left", "left right", "topology", "outside"]
+UNLIKE = ["", "", "", "", "start", "start end", "end", "names", "ranges", "fields", "fields", "fields", "left", "left right", "topology", "outside"]
 MASKED = ["SOURCE", "CENSUS1", "CENSUS2", "RS_I1", "RS_I2", "RS_I3"]
 LETTERS = "A0~\xa0\xe9\xff"
 OFFICES = ["06001", "06002", "", "\xe9", "00000"]
