@@ -1,6 +1,6 @@
 -- The choices with the least records of type 1, digit by digit of their numbers.
 use Rattle.std.specs.Prelude.{List, [], flat_map, length, map, true, false, ℕ, ◌*◌, ◌+◌, ◌<◌, ◌∷◌, ◌≡◌, ◌≤◌}
-use Rattle.std.specs.{List.AllByRecursion, Ordering.is_gt, Ordering.nat_cmp, declared.cmp.Ordering.Ordering}
+use Rattle.std.specs.{List.AllByRecursion, Ordering.is_gt, Ordering.nat_cmp, declared.cmp.Ordering.Ordering, declared.cmp.Ordering.TheVariants.Equal}
 use Rattle.tl_layout.specs.declared.record_type.Record.{Record}
 use Rattle.ordered_lists.specs.Orders.{contains}
 use Rattle.county_chart.specs.{Choices.choices, Choices.ways_at, County.County, declared.open_place.OpenPlace.OpenPlace}
@@ -48,6 +48,10 @@ ways_of (at ∷ places) = at.alike * ways_at at * ways_of places
 -- each digit before each number, where the digit counts this many ways
 abbrev pub combined : ℕ → List ℕ → List ℕ → List ℕ
 combined ways digits numbers = flat_map (λ digit. map (λ number. digit * ways + number) numbers) digits
+
+-- all of these choices have the same records of type 1
+abbrev pub HaveSameOnes : County → List ℕ → Type 0
+HaveSameOnes county numbers = AllByRecursion (λ n. AllByRecursion (λ m. ones_cmp county n m ≡ Equal) numbers) numbers
 
 -- the text of this choice comes after that of none of these
 abbrev pub IsLeastAmong : County → List ℕ → ℕ → Type 0

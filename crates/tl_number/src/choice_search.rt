@@ -1,15 +1,14 @@
 //! Searching the choice of a county with the least text.
 //!
-//! Records of type 1 come first in a text, and a choice alone determines them. So choices that differ in these aren't arranged. Of two
-//! choices with the same records of type 1 both are arranged, and compared by the records of the other types. The lesser one stays
-//! arranged for the next comparison.
+//! It is among choices with the same records of type 1. So two choices are arranged, and compared by the records of the other types.
+//! The lesser one stays arranged for the next comparison.
 
-ghost use Rattle.std.specs.Prelude.{IfOk, IfSome, None, OnOk, Some, cond, ◌≡◌};
+ghost use Rattle.std.specs.Prelude.{IfOk, IfSome, None, OnOk, Some, cond, length, ◌<◌, ◌≡◌};
 ghost use Rattle.std.specs.Ordering.{is_gt};
-ghost use Rattle.tl_number.specs.ChoiceSearch.{IsChosen, LeavesChoices, chosen_county, lesser_choice};
+ghost use Rattle.tl_number.specs.ChoiceSearch.{LeavesChoices, chosen_county, lesser_choice};
 ghost use Rattle.canonical_form.specs.LeastNumber.{IsLeastBelow, choices_cmp};
-ghost use Rattle.record_groups.specs.TypeOneOrder.{ones_cmp};
 ghost use Rattle.tl_number.specs.AlikeRanges.{AreAlike, AreTied};
+ghost use Rattle.tl_number.specs.LeastOnes.{HaveLeast, HaveSameOnes, IsLeastAmong};
 ghost use Rattle.arranged_county.specs.Views.{arranged_county, classed_county};
 ghost use Rattle.county_chart.specs.Choices.{choices};
 
@@ -19,7 +18,6 @@ use crate::county_part::Shared;
 use crate::numbered_arrangement::NumberedArrangement;
 use arranged_county::{Arranged, Classes, arrange_in_classes};
 use county_chart::{Chart, DirectedChain};
-use record_groups::compare_ones;
 use std::alloc::{AllocError, Global};
 use std::cmp::Ordering;
 use std::mem::swap;
@@ -38,26 +36,6 @@ pub(crate) struct Tie {
 struct Compared<'s, 'a, C: Chart> {
     classes: &'s Classes<'a, C>,
     alike: &'s [(DirectedChain, DirectedChain)],
-}
-
-/// Compares two choices by their records of type 1.
-fn compare_by_type_1<C: Chart>(
-    classes: &Classes<'_, C>,
-    shape_order: &ShapeOrder,
-    one: &NumberedArrangement,
-    other: &NumberedArrangement,
-) -> Ordering
-    requires known { LeavesChoices (classed_county classes.now) shape_order.now }
-    requires one { IsChosen shape_order.now one.now }
-    requires other { IsChosen shape_order.now other.now }
-    ensures { result ≡ ones_cmp (classed_county classes.now) one.now.number other.now.number }
-{
-    compare_ones(
-        classes.chart(),
-        shape_order.open_places(),
-        &one.chains,
-        &other.chains,
-    )
 }
 
 fn arrange_choice<'a, C: Shared>(
@@ -155,67 +133,33 @@ fn compare_ties<'a, C: Shared>(
     Ok(ordering)
 }
 
-/// Forgets what is kept of the first of two choices if it comes after the second one.
-fn forget_greater<V: Drop>(ordering: Ordering, kept: &mut Option<V>)
-    ensures { kept.new ≡ cond (is_gt ordering) None kept.old }
-{
-    if ordering.is_gt() {
-        put(kept, None);
-    }
-}
-
-/// Compares the texts of two choices. If `arranged` has a county, it's that of the first choice; then it's that of the lesser one.
-fn compare_choices<'a, C: Shared>(
-    alloc: Global,
-    county: &Compared<'_, 'a, C>,
-    shape_order: &ShapeOrder,
-    one: &NumberedArrangement,
-    other: &NumberedArrangement,
-    arranged: &mut Option<Arranged<C>>,
-) -> Result<Ordering, AllocError>
-    requires known { LeavesChoices (classed_county county.now.classes.now) shape_order.now }
-    requires one { IsChosen shape_order.now one.now }
-    requires other { IsChosen shape_order.now other.now }
-    requires alike { AreAlike (classed_county county.now.classes.now) county.now.alike.now }
-    requires arranged { IfSome arranged.old (λ view. arranged_county view ≡ chosen_county (classed_county county.now.classes.now) one.now.number) }
-    ensures ordering { IfOk result (λ ordering. ordering ≡ choices_cmp (classed_county county.now.classes.now) one.now.number other.now.number) }
-    ensures arranged { OnOk result (IfSome arranged.new
-        (λ view. arranged_county view ≡ chosen_county (classed_county county.now.classes.now) (lesser_choice (classed_county county.now.classes.now) one.now.number other.now.number))) }
-{
-    let classes = county.classes;
-    match compare_by_type_1(classes, shape_order, one, other) {
-        Ordering::Equal => {
-            let tie = Tie {
-                one: one.number,
-                other: other.number,
-                alike: count_alike(classes, shape_order, county.alike, one, other),
-            };
-            compare_ties(alloc, classes, shape_order, tie, arranged)
-        }
-        unequal => {
-            forget_greater(unequal, arranged);
-            Ok(unequal)
-        }
-    }
-}
-
-/// The number of the choice with the least text. `arranged` has no county, and may then have that of the choice.
+/// The number of the choice with the least text among these, which have the same records of type 1. `arranged` has no county, and may
+/// then have that of the choice.
 fn search_least<'a, C: Shared>(
     alloc: Global,
     county: &Compared<'_, 'a, C>,
     shape_order: &ShapeOrder,
+    numbers: &[u64],
     arranged: &mut Option<Arranged<C>>,
 ) -> Result<u64, AllocError>
     requires known { LeavesChoices (classed_county county.now.classes.now) shape_order.now }
     requires alike { AreAlike (classed_county county.now.classes.now) county.now.alike.now }
+    requires some { 0 < length numbers.now }
+    requires ones { HaveSameOnes (classed_county county.now.classes.now) numbers.now }
     requires none { arranged.old ≡ None }
-    ensures { IfOk result (IsLeastBelow (classed_county county.now.classes.now) (choices (classed_county county.now.classes.now))) }
+    ensures { IfOk result (IsLeastAmong (classed_county county.now.classes.now) numbers.now) }
 {
-    let mut least = NumberedArrangement::new(alloc, shape_order, 0)?;
-    let mut other = NumberedArrangement::new(alloc, shape_order, 0)?;
-    for number in 1..shape_order.choices() {
-        other.choose_again(shape_order, number);
-        let ordering = compare_choices(alloc, county, shape_order, &least, &other, arranged)?;
+    let classes = county.classes;
+    let mut least = NumberedArrangement::new(alloc, shape_order, numbers[0])?;
+    let mut other = NumberedArrangement::new(alloc, shape_order, numbers[0])?;
+    for place in 1..numbers.len() {
+        other.choose_again(shape_order, numbers[place]);
+        let tie = Tie {
+            one: least.number,
+            other: other.number,
+            alike: count_alike(classes, shape_order, county.alike, &least, &other),
+        };
+        let ordering = compare_ties(alloc, classes, shape_order, tie, arranged)?;
         if ordering.is_le() {
             continue;
         }
@@ -224,13 +168,17 @@ fn search_least<'a, C: Shared>(
     Ok(least.number)
 }
 
-/// The number of the choice with the least text.
+/// The number of the choice with the least text. It is one of these choices, which have the same records of type 1.
 pub(crate) fn least_among_choices<C: Shared>(
     alloc: Global,
     chart: &C,
     shape_order: &ShapeOrder,
+    numbers: &[u64],
 ) -> Result<u64, AllocError>
-    requires { LeavesChoices (C.county chart.now) shape_order.now }
+    requires known { LeavesChoices (C.county chart.now) shape_order.now }
+    requires some { 0 < length numbers.now }
+    requires ones { HaveSameOnes (C.county chart.now) numbers.now }
+    requires least { HaveLeast (C.county chart.now) numbers.now }
     ensures { IfOk result (IsLeastBelow (C.county chart.now) (choices (C.county chart.now))) }
 {
     let alike = alike_chains(alloc, chart, shape_order)?;
@@ -243,6 +191,7 @@ pub(crate) fn least_among_choices<C: Shared>(
             alike: &alike,
         },
         shape_order,
+        numbers,
         &mut arranged,
     );
     // One call each for the prover, which otherwise reads the drop of each table.

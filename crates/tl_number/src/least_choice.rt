@@ -3,10 +3,10 @@
 //! Two choices compare as they do in the small county: the chains that choices can move, the chains that bring their nodes, polygons and
 //! names first, and landmarks if they can differ. So the least choice is looked for there.
 
-ghost use Rattle.std.specs.Prelude.{IfOk, ◌≤◌};
+ghost use Rattle.std.specs.Prelude.{IfOk, length, ◌<◌, ◌≤◌};
 ghost use Rattle.county_chart.specs.CountyRules.{AllKeysContained, polygon_keys, polygons_along};
 ghost use Rattle.county_chart.specs.{Choices.choices, Choices.most_choices, ShapeOrder.IsShapeOrder};
-ghost use Rattle.tl_number.specs.ChoiceSearch.{LeavesChoices};
+ghost use Rattle.tl_number.specs.{ChoiceSearch.LeavesChoices, LeastOnes.HaveLeast, LeastOnes.HaveSameOnes};
 ghost use Rattle.canonical_form.specs.DirectedChains.{HasChainsOf, arrangement_of};
 ghost use Rattle.canonical_form.specs.{LeastNumber.IsLeastBelow, Tidy.IsLeastChoice, WholeArrangements.NamesEachOnce};
 
@@ -20,14 +20,17 @@ use county_chart::{Chart, DirectedChain};
 use std::alloc::{AllocError, Global};
 use tl_profile::{ShapeOrder, order_by_shape};
 
-/// The number of the choice with the least text.
-fn least_in_part<C: Shared>(alloc: Global, part: &C) -> Result<u64, AllocError>
+/// The number of the choice with the least text, which is one of these.
+fn least_in_part<C: Shared>(alloc: Global, part: &C, numbers: &[u64]) -> Result<u64, AllocError>
     requires few { choices (C.county part.now) ≤ most_choices }
     requires sides { AllKeysContained (polygons_along (C.county part.now).chains) (polygon_keys (C.county part.now)) }
+    requires some { 0 < length numbers.now }
+    requires ones { HaveSameOnes (C.county part.now) numbers.now }
+    requires least { HaveLeast (C.county part.now) numbers.now }
     ensures { IfOk result (IsLeastBelow (C.county part.now) (choices (C.county part.now))) }
 {
     let order = order_by_shape(alloc, part)?;
-    least_among_choices(alloc, part, &order)
+    least_among_choices(alloc, part, &order, numbers)
 }
 
 /// The number of the choice with the least text. Makes no part of the county if records of type 1 decide.
@@ -46,7 +49,7 @@ fn least_number<C: Chart>(
     }
     let kept = kept_chains(alloc, chart, shape_order)?;
     let tables = part_tables(alloc, chart, kept)?;
-    let found = least_in_part(alloc, &CountyPart::new(chart, &tables));
+    let found = least_in_part(alloc, &CountyPart::new(chart, &tables), least);
     // One call for the prover, which otherwise reads the drop of each table.
     drop(tables);
     found

@@ -1,5 +1,6 @@
 -- The lesser of two choices, choice by choice.
-use Rattle.tl_number.proofs.Common.{AllKeysContained, Bool, County, Equal, Four, Greater, IfSome, IsCounty, IsLeastBelow, IsNotAfter}
+use Rattle.tl_number.proofs.Common.{AllKeysContained, Bool, County, Equal, Four, Greater, IfSome, IsCounty, IsNotAfter, List, Some, [], all_append, all_weaker, slice_get, suc, take, zero, ◌++◌, ◌∷◌}
+use Rattle.tl_number.specs.LeastOnes.{IsLeastAmong}
 use Rattle.tl_number.proofs.Common.{IsWithinLimits, Less, None, Option, Ordering, Two, ap, arith, arrangement_within, choice_list}
 use Rattle.tl_number.proofs.Common.{choices_cmp, choices_same, chosen_county, cond, decided, false, false≢true, groups_cmp, is_gt, is_le}
 use Rattle.tl_number.proofs.Common.{lesser_choice, ltb-false, ltb-true, most_records, nat_lt, numbered_choice, numbered_is_choice, ones_cmp}
@@ -29,20 +30,22 @@ pub forgotten : {V : Type 0} (P : ℕ → V → Type 0) (b : Bool) (n m : ℕ) (
 forgotten P true n m kept p = tt
 forgotten P false n m kept p = p
 
--- The lesser of the least choice below a number and the choice with that number is the least up to the number.
-pub lesser_least : (county : County) (old number : ℕ) → IsLeastBelow county number old
-    → IsLeastBelow county (number + 1) (lesser_choice county old number)
-lesser_least county old number below m l = go (nat_lt m number) refl
+-- The lesser of the least of some choices and the next one is the least of all these.
+pub lesser_least : (county : County) (numbers : List ℕ) (place old next : ℕ) → slice_get numbers place ≡ Some next
+    → IsLeastAmong county (take place numbers) old → IsLeastAmong county (take (place + 1) numbers) (lesser_choice county old next)
+lesser_least county numbers place old next there among =
+    let lesser : ℕ = lesser_choice county old next in
+    let both = lesser_of county old next (choices_cmp county old next) refl in
+    subst (λ some. IsLeastAmong county some lesser) (sym (ap (λ count. take count numbers) (let more : place + 1 ≡ suc place = omega arith in more) ∙ taken numbers place next there))
+    (all_append (λ m. IsNotAfter (choice_list county lesser) (choice_list county m)) (take place numbers) (next ∷ [])
+    (all_weaker (λ m. IsNotAfter (choice_list county old) (choice_list county m)) (λ m. IsNotAfter (choice_list county lesser) (choice_list county m))
+    (λ m up. not_after_both county lesser old m both.0 up) (take place numbers) among)
+    (both.1, tt))
   where
-    go : (b : Bool) → nat_lt m number ≡ b → IsNotAfter (choice_list county (lesser_choice county old number)) (choice_list county m)
-    go true e =
-        not_after_both county (lesser_choice county old number) old m (lesser_of county old number (choices_cmp county old number) refl).0
-        (below m (ltb-true m number e))
-    go false e =
-        let past : number ≤ m = ltb-false m number e in
-        let same : number ≡ m = omega (arith, l, past) in
-        subst (λ k. IsNotAfter (choice_list county (lesser_choice county old number)) (choice_list county k)) same
-        (lesser_of county old number (choices_cmp county old number) refl).1
+    taken : (ns : List ℕ) (place next : ℕ) → slice_get ns place ≡ Some next → take (suc place) ns ≡ take place ns ++ (next ∷ [])
+    taken [] place next e = absurd (let none : None ≡ Some next = e in cc)
+    taken (n ∷ ns) zero next e = (let some : Some n ≡ Some next = e in let same : n ≡ next = cc in ap (λ m. m ∷ []) same)
+    taken (n ∷ ns) (suc place) next e = ap (λ ms. n ∷ ms) (taken ns place next e)
 
 module _ (county : County) (is : IsCounty county) (within : IsWithinLimits most_records county)
     (sides : AllKeysContained (polygons_along county.chains) (polygon_keys county)) where

@@ -255,6 +255,21 @@ module _ {K : Type 0} {cmp : K → K → Ordering} (o : IsTotalOrder cmp) where
             (contained_all (λ d. AllByRecursion (λ m. NotAfter (digit * ways + n) (d * ways + m)) numbers) digits each digit top)))));
       }
 
+  -- All of these values are the same,
+  pub least_tie : (value : ℕ → K) (bound : ℕ) (numbers : List ℕ) → AreLeastBelow cmp value bound numbers
+      → AllByRecursion (λ n. AllByRecursion (λ m. cmp (value n) (value m) ≡ Equal) numbers) numbers
+  least_tie value bound numbers are =
+      let all = all_both (λ n. n < bound) (λ n. (m : ℕ) → m < bound → NotAfter value n m) numbers are.within are.least in
+      all_weaker (λ n. (n < bound) × ((m : ℕ) → m < bound → NotAfter value n m)) (λ n. AllByRecursion (λ m. cmp (value n) (value m) ≡ Equal) numbers)
+      (λ n one. all_weaker (λ m. (m < bound) × ((k : ℕ) → k < bound → NotAfter value m k)) (λ m. cmp (value n) (value m) ≡ Equal)
+      (λ m other. tied (cmp (value n) (value m)) (cmp (value m) (value n)) (o.antisymm (value n) (value m)) (one.1 m other.0) (other.1 n one.0))
+      numbers all) numbers all
+    where
+      tied : (p q : Ordering) → p ≡ ordering_reverse q → is_gt p ≡ false → is_gt q ≡ false → p ≡ Equal
+      tied p Less e f g = absurd (false≢true (sym f ∙ ap is_gt e))
+      tied p Equal e f g = e
+      tied p Greater e f g = absurd (false≢true (sym g))
+
   -- If these values decide another order, the least of these numbers in that order is the least of all.
   pub least_leads : (value : ℕ → K) (bound : ℕ) (numbers : List ℕ) → AreLeastBelow cmp value bound numbers
       → {T : Type 0} {by : T → T → Ordering} (p : IsTotalOrder by) (text : ℕ → T)

@@ -1,15 +1,18 @@
 -- The least of the texts of numbered choices, number by number.
-use Rattle.tl_number.proofs.Common.{Bool, County, IsLeastBelow, IsNotAfter, List, Ordering, ap, arith, bytes_keys, choice_list, choices_cmp}
-use Rattle.tl_number.proofs.Common.{cond, false, is_gt, nat_cmp, not_after_itself, not_greater, one_more, refl, slice_cmp, sym, text_of}
+use Rattle.tl_number.specs.LeastOnes.{IsLeastAmong}
+use Rattle.tl_number.proofs.Common.{[], get_or, length, take, ◌<◌, ◌∷◌}
+use Rattle.tl_number.proofs.Common.{Bool, County, IsNotAfter, List, Ordering, ap, arith, bytes_keys, choice_list, choices_cmp}
+use Rattle.tl_number.proofs.Common.{cond, false, is_gt, nat_cmp, not_after_itself, not_greater, refl, slice_cmp, sym, text_of}
 use Rattle.tl_number.proofs.Common.{true, upto, ℕ, ◌∙◌, ◌≡◌}
 
 module _ (county : County) where
   abbrev text_at : ℕ → List ℕ
   text_at n = text_of (choice_list county n)
 
-  -- with only one number
-  pub first_least : IsLeastBelow county 1 0
-  first_least = one_more bytes_keys.total text_at 0 0 (λ m below. absurd (omega (arith, below))) (not_after_itself (choice_list county 0))
+  -- the first of some numbers
+  pub first_among : (numbers : List ℕ) → 0 < length numbers → IsLeastAmong county (take 1 numbers) (get_or numbers 0 0)
+  first_among [] some = absurd (omega (arith, some))
+  first_among (n ∷ numbers) some = (not_after_itself (choice_list county n), tt)
 
   -- the lesser of two texts isn't after either
   pub lesser_of : (n m : ℕ) (o : Ordering) → o ≡ choices_cmp county n m

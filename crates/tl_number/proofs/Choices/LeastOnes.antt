@@ -19,10 +19,10 @@ use Rattle.record_groups.specs.TypeOneOrder.{one_at, ones_cmp, ones_of}
 use Rattle.record_groups.proofs.Texts.GroupOrders.{records_total}
 use Rattle.record_groups.proofs.Texts.TypeOnes.{length-ones_arranged_by, ones_arranged_by, same_one}
 use Rattle.tl_layout.specs.RecordText.{text_of}
-use Rattle.tl_number.specs.LeastOnes.{ArePlacesApart, HaveLeast, HaveLeastOnes, IsDigitApart, ones_in, ways_of}
+use Rattle.tl_number.specs.LeastOnes.{ArePlacesApart, HaveLeast, HaveLeastOnes, HaveSameOnes, IsDigitApart, ones_in, ways_of}
 use Rattle.tl_number.proofs.Choices.ChoiceSteps.{ones_decide}
 use Rattle.tl_number.proofs.Choices.DigitsApart.{digits_apart, fewer_ways, some_ways, ways_running, ways_taken}
-use Rattle.tl_number.proofs.Choices.LeastBelow.{least_leads}
+use Rattle.tl_number.proofs.Choices.LeastBelow.{least_leads, least_tie}
 use Rattle.tl_number.proofs.Ties.OrderedCounty.{OrderedCounty, choice, count_in, directed_in, stated, whole_in}
 
 module _ (c : OrderedCounty) where
@@ -99,6 +99,10 @@ module _ (c : OrderedCounty) where
       ∙ digits_apart other_way spelling_cmp same_one c.shapes.by_shape c.shapes.places (λ i. ones_of (choice c i)) same_record as_many
       front back split c.known.within apart digit n m l k
       ∙ sym (by_ones n m)
+
+  -- Choices with the least records of type 1 have the same ones.
+  pub least_same : (bound : ℕ) (numbers : List ℕ) → HaveLeastOnes c.county bound numbers → HaveSameOnes c.county numbers
+  least_same bound numbers are = least_tie records_total (ones_in c.county) bound numbers are
 
   -- The least of the choices with the least records of type 1 is the least of all.
   pub least_of_these : (numbers : List ℕ) → HaveLeastOnes c.county (choices c.county) numbers → HaveLeast c.county numbers

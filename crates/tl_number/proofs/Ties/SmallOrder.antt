@@ -10,6 +10,10 @@ use Rattle.tl_number.proofs.Common.{or_parts, or_right, ordering_then, packed, p
 use Rattle.tl_number.proofs.Common.{polygons_along, refl, same_groups, slice_cmp, subst, sym, text_of, texts_in_order, then_total, times}
 use Rattle.tl_number.proofs.Common.{true, type_2_by_chain, type_5_by_name, type_8_together, types_1_to_4_cmp, types_5_to_7_cmp}
 use Rattle.tl_number.proofs.Common.{types_8_to_p_cmp, wanted_feats, wanted_nodes, wanted_polygons, ℕ, ◌+◌, ◌<◌, ◌∙◌, ◌≡◌}
+use Rattle.record_groups.specs.TypeOneOrder.{ones_cmp}
+use Rattle.tl_number.specs.LeastOnes.{HaveLeast, HaveSameOnes}
+use Rattle.tl_number.proofs.Common.{AllByRecursion, all_weaker}
+use Rattle.tl_number.proofs.Choices.LeastOnes.{by_ones}
 use Rattle.tl_number.proofs.Ties.KeyKinds.{AreSeenAlike, name_kind, node_kind, numbered_alike, opened_in, polygon_kind, polygon_number}
 use Rattle.tl_number.proofs.Ties.KeyKinds.{seen_alike, unopened_stays}
 use Rattle.tl_number.proofs.Ties.OrderedCounty.{IsKeptPart, OrderedCounty, arranges_in, choice, link_on_side, new_in, one_map, order_in}
@@ -194,7 +198,22 @@ module _ (whole : OrderedCounty) (order : OrderOfShapes) (small_known : LeavesCh
       (ordering_then (links_small n k i) (ordering_then (topologies_small part nodes polygons n k i) (polygon_records_small polygons polygons_seen_alike (contents_kept whole.county whole.shapes) n k i)))))
       ∙ sym (types_decide whole n k)
 
+  -- They are so by their records of type 1 too.
+  same_ones : (n k : ℕ) → ones_cmp small.county n k ≡ ones_cmp whole.county n k
+  same_ones n k = by_ones small n k ∙ sym (ones_small part n k) ∙ sym (by_ones whole n k)
+
 module _ (c : OrderedCounty) where
+  small_same_ones : (n k : ℕ) → ones_cmp (small_county c.county c.shapes) n k ≡ ones_cmp c.county n k
+  small_same_ones = same_ones c (own_order (small_county c.county c.shapes)) (small_leaves c.county c.shapes c.known c.is
+      (own_order (small_county c.county c.shapes)) (own_order_is (small_county c.county c.shapes)))
+
+  -- So choices with the same records of type 1 have the same ones there.
+  pub small_have_same : (numbers : List ℕ) → HaveSameOnes c.county numbers → HaveSameOnes (small_county c.county c.shapes) numbers
+  small_have_same numbers = all_weaker (λ n. AllByRecursion (λ m. ones_cmp c.county n m ≡ Equal) numbers)
+      (λ n. AllByRecursion (λ m. ones_cmp (small_county c.county c.shapes) n m ≡ Equal) numbers)
+      (λ n. all_weaker (λ m. ones_cmp c.county n m ≡ Equal) (λ m. ones_cmp (small_county c.county c.shapes) n m ≡ Equal)
+      (λ m e. small_same_ones n m ∙ e) numbers) numbers
+
   -- Two choices are in one order in a county and in its small county.
   small_same_order : (n k : ℕ) → choices_cmp (small_county c.county c.shapes) n k ≡ choices_cmp c.county n k
   small_same_order = same_order c (own_order (small_county c.county c.shapes)) (small_leaves c.county c.shapes c.known c.is
@@ -205,3 +224,10 @@ module _ (c : OrderedCounty) where
       → IsLeastBelow c.county (choices c.county) k
   small_least k least m l = subst (λ o. is_gt o ≡ false) (small_same_order k m)
       (least m (subst (λ count. m < count) (sym (small_choices c.county c.shapes c.known c.is)) l))
+
+  -- And if the least of some choices is the county's, it's the small county's.
+  pub small_have_least : (numbers : List ℕ) → HaveLeast c.county numbers → HaveLeast (small_county c.county c.shapes) numbers
+  small_have_least numbers least n among m l = subst (λ o. is_gt o ≡ false) (sym (small_same_order n m))
+      (least n (all_weaker (λ k. is_gt (choices_cmp (small_county c.county c.shapes) n k) ≡ false) (λ k. is_gt (choices_cmp c.county n k) ≡ false)
+      (λ k e. subst (λ o. is_gt o ≡ false) (small_same_order n k) e) numbers among) m
+      (subst (λ count. m < count) (small_choices c.county c.shapes c.known c.is) l))

@@ -3,8 +3,10 @@ use Rattle.tl_number.proofs.Common.{most_records, nat_cmp, part_of, part_with, p
 use Rattle.tl_number.proofs.Common.{◌∙◌, ◌≡◌, ◌≤◌}
 use Rattle.tl_number.proofs.Ties.SmallCounty.{small_choices, small_is, small_sides, small_within}
 use Rattle.tl_number.proofs.Common.{IsNotAfter, choice_list, get_or, not_after_itself, ℕ}
-use Rattle.tl_number.specs.LeastOnes.{HaveLeastOnes}
-use Rattle.tl_number.proofs.{Choices.LeastBelow.lone_all, Choices.LeastOnes.least_of_these, Ties.SmallOrder.small_least, least_choice.least_number.Given.Over}
+use Rattle.tl_number.specs.LeastOnes.{HaveLeast, HaveLeastOnes, HaveSameOnes}
+use Rattle.tl_number.proofs.Common.{County, List, length, ◌<◌}
+use Rattle.tl_number.proofs.Ties.OrderedCounty.{OrderedCounty}
+use Rattle.tl_number.proofs.{Choices.LeastBelow.lone_all, Choices.LeastOnes.least_of_these, Choices.LeastOnes.least_same, Ties.SmallOrder.small_have_least, Ties.SmallOrder.small_have_same, Ties.SmallOrder.small_least, least_choice.least_number.Given.Over}
 use Rattle.tl_number.specs.SmallCounty.{small_county}
 use Rattle.tl_number.proofs.least_choice.least_number.Goals.{In_ok-tables}
 use Rattle.tl_number.proofs.least_choice.least_number.Goals as goal
@@ -59,6 +61,35 @@ least_in_part-found-requires-clause-sides g c =
     subst (λ small. AllKeysContained (polygons_along small.chains) (polygon_keys small))
     (sym (c.new.ensures ∙ is_small g (goal.at.least_in_part-found-requires-clause-sides g c).In_ok-tables))
     (small_sides (g.C.Chart.county c.args.chart.now) c.args.shape_order.now c.requires (g.met.C.Chart.is_county c.args.chart.now))
+
+pub least_in_part-found-requires-clause-some : goal.least_in_part-found-requires-clause-some
+least_in_part-found-requires-clause-some g c = subst (λ numbers. 0 < length numbers) (sym c.as_slice-least.ensures.value) c.in_ok-numbers.ensures.some
+
+-- the county with its order of shapes
+abbrev ordered : (g : Over) (c : In_ok-tables g) → OrderedCounty
+ordered g c = record {
+  county = g.C.Chart.county c.args.chart.now;
+  shapes = c.args.shape_order.now;
+  known = c.requires;
+  is = g.met.C.Chart.is_county c.args.chart.now;
+  within = g.met.C.Chart.within_limits c.args.chart.now;
+}
+
+pub least_in_part-found-requires-clause-ones : goal.least_in_part-found-requires-clause-ones
+least_in_part-found-requires-clause-ones g c =
+    let there = (goal.at.least_in_part-found-requires-clause-ones g c).In_ok-tables in
+    subst (λ (p : County × List ℕ). HaveSameOnes p.0 p.1)
+    (λ i. (sym (c.new.ensures ∙ is_small g there) i, sym c.as_slice-least.ensures.value i))
+    (small_have_same (ordered g there) c.in_ok-numbers.numbers.items
+    (least_same (ordered g there) (choices (g.C.Chart.county c.args.chart.now)) c.in_ok-numbers.numbers.items c.in_ok-numbers.ensures))
+
+pub least_in_part-found-requires-clause-least : goal.least_in_part-found-requires-clause-least
+least_in_part-found-requires-clause-least g c =
+    let there = (goal.at.least_in_part-found-requires-clause-least g c).In_ok-tables in
+    subst (λ (p : County × List ℕ). HaveLeast p.0 p.1)
+    (λ i. (sym (c.new.ensures ∙ is_small g there) i, sym c.as_slice-least.ensures.value i))
+    (small_have_least (ordered g there) c.in_ok-numbers.numbers.items
+    (least_of_these (ordered g there) c.in_ok-numbers.numbers.items c.in_ok-numbers.ensures))
 
 pub returns : goal.returns
 returns g c =
