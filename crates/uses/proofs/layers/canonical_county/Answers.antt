@@ -1,5 +1,6 @@
 use Rattle.tigercanon.proofs.Common.{IsAccepted, IsLeastChoice, arranged, arrangement_in, county_of, packed, subst, sym, ◌≡◌}
-use Rattle.tl_number.proofs.Common.{IsInProfile, arranged_county}
+use Rattle.tl_number.proofs.Common.{IsInProfile}
+use Rattle.arranged_county.specs.Views.{arranged_county}
 use Rattle.canonical_form.proofs.Common.{IsCanonicalOf}
 use Rattle.uses.proofs.layers.canonical_county.Goals as goal
 
