@@ -15,6 +15,7 @@ from support import FAKES, packed, shell
 from tigercanon import commands
 from tigercanon.diff import page as pages
 from tigercanon.diff.page import carried_by
+from tigercanon.errors import Failure
 from tigercanon.layout import file_name
 from tigercanon.progress import Console
 from tigercanon.resources import Resources
@@ -93,7 +94,7 @@ def test_a_page_that_would_be_too_large(room: Path, program: str, monkeypatch: p
     for name in ("page.html", "map.geojson"):
         os.unlink(name)
     monkeypatch.setattr(pages, "LARGEST_PAGE", size - 1)
-    with pytest.raises(pages.Failure) as failed:
+    with pytest.raises(Failure) as failed:
         commands.perform(options, Console(), Resources(prints=True))
     assert (
         str(failed.value)
@@ -110,7 +111,7 @@ def test_which_page(room: Path, monkeypatch: pytest.MonkeyPatch) -> None:
     monkeypatch.delenv("TIGERCANON_PAGE")
     places = ["package", "out/page", "prebuilt", "release"]
     monkeypatch.setattr(pages, "PLACES", [room / place for place in places])
-    with pytest.raises(pages.Failure, match="there is no tigercanon.html here: scripts/build-page makes it"):
+    with pytest.raises(Failure, match="there is no tigercanon.html here: scripts/build-page makes it"):
         pages.find_page()
     for place in reversed(places):
         (room / place).mkdir(parents=True)
