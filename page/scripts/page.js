@@ -177,9 +177,10 @@ function listen() {
 // What this page can't do without.
 const isAble = () => typeof WebAssembly === "object" && typeof DecompressionStream === "function" && typeof crypto.subtle === "object";
 
-// Compares the counties that the page carries.
+// Compares the counties that the page carries, in their masks. At a new start the user's own come back.
 async function openCarried(carried) {
   const { counties, masks } = await unpackCarried(carried);
+  state.ownMasks = masksNow();
   setMasks(masks);
   Object.assign(state, { counties });
   show();
