@@ -2,12 +2,9 @@
 
 use super::super::Host;
 use super::super::comparing::same;
-use std::alloc::AllocError;
 use std::io::ErrorKind;
-use test_support::devices::{SlowReader, failing_writer, kinds};
-use tigercanon::{
-    FIRST, Job, Opened, PlanFault, SECOND, exit_status, job_status, open_set, report,
-};
+use test_support::devices::{failing_writer, kinds};
+use tigercanon::{PlanFault, exit_status, report};
 use tl_write::{CountedOut, Sink};
 
 /// As much of this text is written as the device takes if it fails in this way, and the status is this one.
@@ -70,44 +67,4 @@ fn the_program_exits_with_the_status_of_its_job(rt: HostRuntime) {
         &found,
         &wanted,
     );
-}
-
-/// The job of this set ends in this way, where the outcomes of opening its files, of which there are as many as the status, or the want
-/// of memory for them are given.
-fn ends_as_opened(
-    rt: &impl Host,
-    (job, set): (Job, u8),
-    opened: Result<Vec<Opened<SlowReader<'_>>>, AllocError>,
-    (status, line): (u8, &str),
-) {
-    let mut err = CountedOut::new(failing_writer(rt.alloc(), 7, 100, ErrorKind::Other));
-    let outcome = open_set(rt.alloc(), job, set, opened).map(|files| files.len() as u8);
-    let found = job_status(outcome, &mut err);
-    let held = err.into_inner().held;
-    let told = (found, held.as_slice());
-    same(rt, line, &told, &(status, line.as_bytes()));
-}
-
-#[test]
-fn want_of_memory_for_files_is_reported_of_their_set(rt: HostRuntime) {
-    let first = (Job::Compare, FIRST);
-    ends_as_opened(
-        &rt,
-        first,
-        Err(AllocError),
-        (5, "refused 9 Memory in set 1\n"),
-    );
-    let second = (Job::Compare, SECOND);
-    ends_as_opened(
-        &rt,
-        second,
-        Err(AllocError),
-        (5, "refused 9 Memory in set 2\n"),
-    );
-    let alone = (Job::Check, FIRST);
-    ends_as_opened(&rt, alone, Err(AllocError), (5, "refused 9 Memory\n"));
-    let mut files = Vec::new(rt.alloc());
-    files.push(Opened::Absent).expect(&rt, "there is memory");
-    files.push(Opened::Failed).expect(&rt, "there is memory");
-    ends_as_opened(&rt, first, Ok(files), (2, ""));
 }
