@@ -71,8 +71,8 @@ def test_at_any_moment(archive: Path) -> None:
         number = pauses.choice(SIGNALS[:3])
         run.send_signal(number)
         status = end(run, 10).status
-        # Python ends with status 1 if it is interrupted before the command has started.
-        assert status in (0, -number, *([1] if number == signal.SIGINT else []))
+        # Python, or the shell that starts it, ends with 1 or 2 if it is interrupted before the command has started.
+        assert status in (0, -number, *([1, 2] if number == signal.SIGINT else []))
         assert_nothing_is_left(archive)
         text = listed("m") or HEAD
         assert text.startswith(HEAD) and set(text.splitlines()) <= set(WANTED.splitlines()) and text.endswith("\n")
