@@ -15,7 +15,7 @@ export class Pointers {
     on("pointercancel", (event) => this.cancel(event));
     on("pointerleave", () => this.show(""));
     // One finger scrolls the page past the map, if the page can be scrolled. Two fingers are the map's.
-    on("touchmove", (event) => event.touches.length > 1 && event.preventDefault(), { passive: false });
+    on("touchmove", (event) => event.touches.length > 1 && event.cancelable && event.preventDefault(), { passive: false });
   }
 
   at(event) {
