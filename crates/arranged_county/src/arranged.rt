@@ -54,7 +54,7 @@ pub struct Arranged<C: Chart, S: Evidence = Unknown> {
     ghost stands: { ∥ S.holds (C.county chart) (arranged_by (C.county chart) arrangement.items) ∥₁ },
 }
 
-/// The old place for a new one, or `None` past the last one.
+/// Returns the old place for a new one, or `None` past the last one.
 pub(crate) fn old_place(places: &[u32], place: usize) -> Option<usize>
     ensures { result ≡ slice_get places.now place }
 {
@@ -72,7 +72,7 @@ impl<C: Chart, S: Evidence> Arranged<C, S> {
         self.arrangement.as_slice().get(place).copied()
     }
 
-    /// The directed chain at a place in the new order. Past the last one it's one that the source county doesn't have.
+    /// Returns the directed chain at a place in the new order. Past the last one it's one that the source county doesn't have.
     pub(crate) fn directed_or_past(&self, place: usize) -> DirectedChain
         ensures chain { chain_at (arranged_by (C.county self.now.chart) self.now.arrangement.items) place
             ≡ option_map (renumbered (renaming_of (C.county self.now.chart) (arrangement_of (C.county self.now.chart) self.now.arrangement.items)))
@@ -89,7 +89,7 @@ impl<C: Chart, S: Evidence> Arranged<C, S> {
         }
     }
 
-    /// A further name with its new FEAT.
+    /// Returns a further name with its new FEAT.
     pub(crate) fn renumbered_feat(&self, feat: u32) -> u32
         ensures { result ≡ image nat_cmp (renaming_of (C.county self.now.chart) (arrangement_of (C.county self.now.chart) self.now.arrangement.items)).names feat }
     {
@@ -110,7 +110,7 @@ impl<C: Chart, S: Evidence> Arranged<C, S> {
         self.polygon_body_there(place)
     }
 
-    /// The polygon at a place in the order of the new numbers, or `None` past the last one: its new key, and the content of its
+    /// Returns the polygon at a place in the order of the new numbers, or `None` past the last one: its new key, and the content of its
     /// type P record, if it has one.
     pub(crate) fn polygon_at_number(&self, place: usize) -> Option<(PolygonKey, Option<BodyP>)>
         ensures { result ≡ slice_get (polygons_by_number (arranged_by (C.county self.now.chart) self.now.arrangement.items)) place }
@@ -129,8 +129,8 @@ impl<C: Chart, S: Evidence> Arranged<C, S> {
 impl<C: Chart, S: Evidence> Arranged<C, S> {
     ghost use Rattle.arranged_county.specs.Views.{arranged_county};
 
-    /// The polygon with the POLYID `place + 1`: its key, and the content of its type P record, if it has one. `place` must be
-    /// below the number of polygons.
+    /// Returns the polygon with the POLYID `place + 1`: its key, and the content of its type P record, if it has one. `place` must be below
+    /// the number of polygons.
     pub fn polygon_by_number(&self, place: usize) -> (PolygonKey, Option<BodyP>)
         requires { place < length (arranged_county self.now).polygons }
         ensures { Some result ≡ slice_get (polygons_by_number (arranged_county self.now)) place }
@@ -138,7 +138,7 @@ impl<C: Chart, S: Evidence> Arranged<C, S> {
         self.polygon_at_number(place).unwrap()
     }
 
-    /// The links of all landmarks and their polygons (type 8 records), in order.
+    /// Returns the links of all landmarks and their polygons (type 8 records), in order.
     pub fn links(&self) -> &[Rec8]
         ensures { result.now ≡ (arranged_county self.now).links }
     {

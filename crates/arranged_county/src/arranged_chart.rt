@@ -22,7 +22,7 @@ fn number_of_place(_count: usize, place: usize) -> u64
     place as u64 + 1
 }
 
-/// The place of a number, counted from 0, or `None` if it isn't one of them.
+/// Returns the place of a number, counted from 0, or `None` if it isn't one of them.
 pub(crate) fn place_of_number(count: usize, number: u64) -> Option<usize>
     ensures found { IfSome result (λ place. slice_get (up_to count) place ≡ Some number) }
     ensures known { is_some result ≡ contains nat_cmp number (up_to count) }

@@ -85,7 +85,7 @@ fn with_tables<C: Chart + Drop>(
     }
 }
 
-/// A county in this arrangement, given its names and landmarks in classes. Its polygons on sides must be in the county, and the
+/// Returns a county in this arrangement, given its names and landmarks in classes. Its polygons on sides must be in the county, and the
 /// arrangement must name each of its chains once.
 ///
 /// # Errors
@@ -125,7 +125,8 @@ fn tables_of<C: Chart>(
     arrange_tables(alloc, &classes, arrangement)
 }
 
-/// A county in this arrangement. Its polygons on sides must be in the county, and the arrangement must name each of its chains once.
+/// Returns a county in this arrangement. Its polygons on sides must be in the county, and the arrangement must name each of its chains
+/// once.
 ///
 /// # Errors
 ///
@@ -147,7 +148,7 @@ pub fn arrange<C: Chart + Drop>(
     Ok(with_tables(chart, arrangement, tables))
 }
 
-/// The same arranged county with a further fact about it, which must hold of its source county and of itself.
+/// Returns the same arranged county with a further fact about it, which must hold of its source county and of itself.
 pub fn with_evidence<C: Chart + Drop, S: Evidence>(view: Arranged<C>) -> Arranged<C, S>
     requires { S.holds (C.county (source_of view)) (arranged_county view) }
     ensures source { source_of result ≡ source_of view }

@@ -42,7 +42,7 @@ pub(crate) trait Contents {
     ghost total: { (contents : Self) → IsTotalOrder (order contents) };
 }
 
-/// All places, ascending.
+/// Returns all places, ascending.
 pub(crate) fn all_places<T: Contents>(alloc: Global, contents: &T) -> Result<Vec<u32>, AllocError>
     ensures { IfOk result (λ places. places.items ≡ range_with_len 0 (T.places contents.now)) }
 {
@@ -138,7 +138,7 @@ impl<'a, C: Chart> Classes<'a, C> {
         })
     }
 
-    /// The county.
+    /// Returns the county.
     pub fn chart(&self) -> &'a C
         ensures { C.county result.now ≡ classed_county self.now }
     {

@@ -7,7 +7,7 @@ use crate::arranged_tables::{Ends, Sides};
 use county_chart::{Chart, DirectedChain};
 use tl_layout::NumberOrNone;
 
-/// The nodes at the start and the end of a directed chain. Its place is below the number of chains.
+/// Returns the nodes at the start and the end of a directed chain. Its place is below the number of chains.
 pub(crate) fn ends_of_directed<C: Chart>(chart: &C, directed: DirectedChain) -> Ends
     requires { directed.place < length (C.county chart.now).chains }
     ensures { Some result ≡ option_map ends_of (directed_chain (C.county chart.now) directed) }
@@ -22,7 +22,7 @@ pub(crate) fn ends_of_directed<C: Chart>(chart: &C, directed: DirectedChain) -> 
     }
 }
 
-/// The left and the right side of a directed chain. Its place is below the number of chains.
+/// Returns the left and the right side of a directed chain. Its place is below the number of chains.
 pub(crate) fn sides_of_directed<C: Chart>(chart: &C, directed: DirectedChain) -> Sides
     requires { directed.place < length (C.county chart.now).chains }
     ensures { Some result ≡ option_map sides_of (directed_chain (C.county chart.now) directed) }

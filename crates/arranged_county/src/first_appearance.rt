@@ -23,8 +23,8 @@ use std::alloc::{AllocError, Global};
 use std::hash::Hash;
 use tl_layout::{NumberOrNone, Side};
 
-/// The ends and the sides of these directed chains, each one after the other. They are read before any node or polygon is numbered, so
-/// that reading one chain need not wait for another, and in one walk, since a chain may lie anywhere in memory.
+/// Returns the ends and the sides of these directed chains, each one after the other. They are read before any node or polygon is numbered,
+/// so that reading one chain need not wait for another, and in one walk, since a chain may lie anywhere in memory.
 ///
 /// # Errors
 ///
@@ -159,7 +159,7 @@ fn see_pairs<T: Half>(
     Ok(())
 }
 
-/// The keys of these ends or sides in the order of their first appearance, and the ends or sides with these numbers.
+/// Returns the keys of these ends or sides in the order of their first appearance, and the ends or sides with these numbers.
 pub(crate) fn number_pairs<T: Half>(
     alloc: Global,
     pairs: Vec<(T, T)>,
@@ -175,8 +175,8 @@ pub(crate) fn number_pairs<T: Half>(
     if_done((numbers, pairs), seen)
 }
 
-/// The nodes and the polygons of a county in the order of their first appearance along these directed chains, start before end and left
-/// before right, and the ends and the sides of these chains with the new numbers and keys.
+/// Returns the nodes and the polygons of a county in the order of their first appearance along these directed chains, start before end and
+/// left before right, and the ends and the sides of these chains with the new numbers and keys.
 pub(crate) fn number_topologies<C: Chart>(
     alloc: Global,
     chart: &C,

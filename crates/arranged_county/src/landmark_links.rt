@@ -102,8 +102,8 @@ fn order_links(alloc: Global, links: &mut Vec<Rec8>, polygons: u64) -> Result<()
     sort_by_keys::<LinkKey, Rec8>(links)
 }
 
-/// The links of a county in order, with these numbers of their polygons, and with their landmarks numbered by their places in a table.
-/// They are gathered along `places`, all places of landmarks in any order. If it's the order of the table, there is little to sort.
+/// Returns the links of a county in order, with these numbers of their polygons, and with their landmarks numbered by their places in a
+/// table. They are gathered along `places`, all places of landmarks in any order. If it's the order of the table, there is little to sort.
 pub(crate) fn links_under<C: Chart>(
     alloc: Global,
     chart: &C,
@@ -121,7 +121,7 @@ pub(crate) fn links_under<C: Chart>(
     Ok(links)
 }
 
-/// For each of 0, 1, 2, .., up to `count`, how many links have a LAND up to it.
+/// Returns for each of 0, 1, 2, .., up to `count`, how many links have a LAND up to it.
 pub(crate) fn bounds_of(
     alloc: Global,
     links: &[Rec8],
@@ -141,7 +141,7 @@ pub(crate) fn bounds_of(
     Ok(bounds)
 }
 
-/// The links of the landmark at a place, for LANDs counted from 1. `bounds` are how many links have a LAND up to 0, 1, 2, ..
+/// Returns the links of the landmark at a place, for LANDs counted from 1. `bounds` are how many links have a LAND up to 0, 1, 2, ..
 pub(crate) fn links_of_landmark<'a>(links: &'a [Rec8], bounds: &[usize], place: usize) -> &'a [Rec8]
     requires in_order { IsInOrder (on eight_land nat_cmp) links.now }
     requires some { 0 < length bounds.now }

@@ -66,7 +66,7 @@ fn cmp_landmarks(lists: &LinkLists<'_>, a: ClassedPlace, b: ClassedPlace) -> Ord
     a.1.cmp(&b.1)
 }
 
-/// The LANDs at places, one after another.
+/// Returns the LANDs at places, one after another.
 pub(crate) fn lands_there<C: Chart>(
     alloc: Global,
     chart: &C,
@@ -148,7 +148,7 @@ fn places_in_order<C: Chart>(
     sorted_places(alloc, &classes.landmarks, &lists)
 }
 
-/// The landmarks of a county in this arrangement, which numbers its polygons in this way.
+/// Returns the landmarks of a county in this arrangement, which numbers its polygons in this way.
 pub(crate) fn arrange_landmarks<C: Chart>(
     alloc: Global,
     classes: &Classes<'_, C>,

@@ -140,7 +140,7 @@ fn places_in_order<C: Chart>(
     sorted_places(alloc, keys, ranks)
 }
 
-/// The names of a county in this arrangement. There are fewer than 2^32.
+/// Returns the names of a county in this arrangement. There are fewer than 2^32.
 pub(crate) fn arrange_names<C: Chart>(
     alloc: Global,
     classes: &Classes<'_, C>,

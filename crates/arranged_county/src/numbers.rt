@@ -36,7 +36,7 @@ const MANY_ITEMS: usize = 1 << 13;
 /// The most items that slots are counted for.
 const MOST_ITEMS: usize = 1 << 40;
 
-/// The number of slots for marks for this many items: at most eight an item.
+/// Returns the number of slots for marks for this many items: at most eight an item.
 pub fn marks_for(items: usize) -> usize
     ensures { result ≤ 8 * items }
 {
@@ -54,7 +54,7 @@ pub trait NumericKey {
     /// The number.
     ghost number_of: { Self → ℕ };
 
-    /// The number.
+    /// Returns the number.
     fn number(&self) -> u64
         ensures { result ≡ number_of self.now };
 }
@@ -233,7 +233,7 @@ fn push_into_table<K: Key + Hash>(
 }
 
 impl<K: Key + Hash + NumericKey> Interner<K> {
-    /// No keys. Takes no memory.
+    /// Makes a numbering without keys. Takes no memory.
     pub fn new(alloc: Global) -> Interner<K>
         ensures { result ≡ [] }
     {
@@ -244,8 +244,8 @@ impl<K: Key + Hash + NumericKey> Interner<K> {
         }
     }
 
-    /// No keys, with this many slots for marks. The numbers are the same with any number of slots; numbering is faster with a few more
-    /// slots than keys.
+    /// Makes a numbering without keys, with this many slots for marks. The numbers are the same with any number of slots; numbering is
+    /// faster with a few more slots than keys.
     ///
     /// # Errors
     ///
@@ -320,7 +320,7 @@ impl<K: Key + Hash + NumericKey> Interner<K> {
         self.keys.len()
     }
 
-    /// The keys, in the order of their numbers.
+    /// Returns the keys, in the order of their numbers.
     pub fn keys(&self) -> &[K]
         ensures { result.now ≡ self.now }
     {
@@ -355,14 +355,14 @@ impl<K: Key + Hash + NumericKey> Interner<K> {
         if_done(numbers, seen)
     }
 
-    /// The key at a place, counted from 0, or `None` past the end.
+    /// Returns the key at a place, counted from 0, or `None` past the end.
     pub fn key_at(&self, place: usize) -> Option<K>
         ensures { result ≡ slice_get self.now place }
     {
         self.keys.get(place).copied()
     }
 
-    /// The place of a key, counted from 0, or `None` if it wasn't seen.
+    /// Returns the place of a key, counted from 0, or `None` if it wasn't seen.
     pub fn place(&self, key: K) -> Option<usize>
         ensures found { IfSome result (λ place. slice_get self.now place ≡ Some key) }
         ensures known { is_some result ≡ contains K.cmp key self.now }

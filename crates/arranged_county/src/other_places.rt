@@ -35,7 +35,7 @@ fn is_absent<K: Key>(many: &BTreeMap<K, usize>, key: K) -> bool
 }
 
 impl<K: Key + Hash> OtherPlaces<K> {
-    /// No places, without memory.
+    /// Makes a list without places. Takes no memory.
     pub(crate) fn new(alloc: Global) -> OtherPlaces<K> {
         OtherPlaces {
             few: IndexMap::new(alloc),
@@ -43,7 +43,7 @@ impl<K: Key + Hash> OtherPlaces<K> {
         }
     }
 
-    /// The place of a key, or none if it isn't known.
+    /// Returns the place of a key, or none if it isn't known.
     pub(crate) fn get(&self, key: K) -> Option<usize>
         ensures { result ≡ found_by_either (found_in_order K.cmp self.now.many) (found_by_hash K.eq self.now.few) key }
     {

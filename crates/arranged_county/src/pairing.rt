@@ -6,7 +6,7 @@ ghost use Rattle.std.specs.Prelude.{◌≡◌, IfOk, Ok, OnOk};
 
 use std::alloc::AllocError;
 
-/// A value and another one, if that could be made.
+/// Pairs a value with another one, if that could be made.
 ///
 /// # Errors
 ///
@@ -18,7 +18,7 @@ pub fn both<A: Drop, B: Drop>(first: A, second: Result<B, AllocError>) -> Result
     Ok((first, second?))
 }
 
-/// A value, if what was done after it was made succeeded.
+/// Returns a value, if what was done after it was made succeeded.
 ///
 /// # Errors
 ///

@@ -20,7 +20,7 @@ pub(crate) fn new_land(lands: &Interner<u64>, land: u64) -> u64
     }
 }
 
-/// The new FEAT of a name.
+/// Returns the new FEAT of a name.
 pub(crate) fn new_feat(feats: &Interner<u32>, feat: u32) -> u32
     requires { length feats.now < 2 ^ 32 }
     ensures { result ≡ image nat_cmp (numbered feats.now) feat }
@@ -31,7 +31,7 @@ pub(crate) fn new_feat(feats: &Interner<u32>, feat: u32) -> u32
     }
 }
 
-/// The new key of a polygon: its CENID with its new POLYID. A polygon that wasn't seen keeps its key.
+/// Returns the new key of a polygon: its CENID with its new POLYID. A polygon that wasn't seen keeps its key.
 pub(crate) fn new_key(polygons: &Interner<PolygonKey>, key: PolygonKey) -> PolygonKey
     ensures image { result ≡ image key_cmp (map under_cenid (numbered polygons.now)) key }
     ensures cenid { result.0 ≡ key.0 }

@@ -11,7 +11,8 @@ use tl_layout::{Rec1, Rec2, Rec4, Rec5, Rec6, Rec7, Rec8, RecI, RecP, Tabled, is
 
 /// A record type that can recognise lines in canonical spelling, whatever their version, without reading them.
 pub trait CanonicalLine: Tabled {
-    /// Whether the full line is recognised: it is in canonical spelling, except for its version. `false` says nothing about the line.
+    /// Checks whether the full line is recognised: it is in canonical spelling, except for its version. `false` says nothing about the
+    /// line.
     fn is_canonical(line: &[u8]) -> bool
         requires { IsLine Self.RTYPE Self.LEN line.now }
         ensures { IsTrue result → (r : Self) × IsSpeltLine Self.reading Self.spelling line.now r };

@@ -70,7 +70,7 @@ fn is_number_or_none(columns: &[u8]) -> bool
     }
 }
 
-/// Whether the columns hold the canonical text of a number: blanks, and then digits without leading zeros.
+/// Checks whether the columns hold the canonical text of a number: blanks, and then digits without leading zeros.
 #[inline(always)]
 pub(crate) fn is_number(columns: &[u8]) -> bool
     ensures { IsTrue result → IsNumberText columns.now }
@@ -81,7 +81,7 @@ pub(crate) fn is_number(columns: &[u8]) -> bool
     }
 }
 
-/// Whether two fields each hold the canonical text of a number, or only blanks.
+/// Checks whether two fields each hold the canonical text of a number, or only blanks.
 #[inline(always)]
 pub(crate) fn are_numbers_or_none(left: &[u8], right: &[u8]) -> bool
     ensures { IsTrue result → IsNumberOrNoneText left.now × IsNumberOrNoneText right.now }

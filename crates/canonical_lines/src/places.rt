@@ -104,7 +104,7 @@ impl LinePlaces for NumberPlaces {
     }
 }
 
-/// Whether the columns hold the canonical text of places. It goes through them from the last one.
+/// Checks whether the columns hold the canonical text of places. It goes through them from the last one.
 #[inline(always)]
 pub(crate) fn are_places<P: LinePlaces>(columns: &[u8]) -> bool
     requires { length columns.now ≡ P.WIDTH * P.COUNT }

@@ -40,7 +40,7 @@ fn is_latitude(columns: &[u8]) -> bool
     are_digits(u8x8::from_slice(&columns[1..])) && is_sign(columns[0], &columns[1..], &UNUSED[11..])
 }
 
-/// Whether the columns hold the canonical text of an unused place.
+/// Checks whether the columns hold the canonical text of an unused place.
 #[inline(always)]
 pub(crate) fn is_unused(columns: &[u8]) -> bool
     requires { length columns.now ≡ 19 }
@@ -50,7 +50,7 @@ pub(crate) fn is_unused(columns: &[u8]) -> bool
     columns[0] == b'+' && columns[..] == UNUSED[..]
 }
 
-/// Whether the columns hold the canonical text of a point.
+/// Checks whether the columns hold the canonical text of a point.
 #[inline(always)]
 pub(crate) fn is_point(columns: &[u8]) -> bool
     requires { length columns.now ≡ 19 }
@@ -62,7 +62,7 @@ pub(crate) fn is_point(columns: &[u8]) -> bool
     is_longitude(&columns[..10]) && is_latitude(&columns[10..])
 }
 
-/// Whether the columns hold the canonical text of a point, or only blanks.
+/// Checks whether the columns hold the canonical text of a point, or only blanks.
 #[inline(always)]
 pub(crate) fn is_point_or_none(columns: &[u8]) -> bool
     requires { length columns.now ≡ 19 }

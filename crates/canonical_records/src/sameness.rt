@@ -55,8 +55,8 @@ fn have_same_groups<A: Chart, B: Chart>(a: &CanonCounty<A>, b: &CanonCounty<B>) 
         && have_same_entries(a, b, &mut buffer, &mut other)
 }
 
-/// Whether two canonical counties have the same records and are therefore the same map. It stops at the first record that
-/// differs, makes no text and takes no memory.
+/// Checks whether two canonical counties have the same records and are therefore the same map. It stops at the first record that differs,
+/// makes no text and takes no memory.
 pub fn same_records<A: Chart, B: Chart>(a: &CanonCounty<A>, b: &CanonCounty<B>) -> bool
     ensures { Decides result (packed (arranged_county a.now) ≡ packed (arranged_county b.now)) }
 {

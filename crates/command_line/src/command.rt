@@ -175,7 +175,7 @@ fn with_map_job<'a>(
     program.subcommand(masked(alloc, over_one_set(alloc, name, about, "SET")?)?)
 }
 
-/// The grammar of the command line: the subcommands and their arguments.
+/// Returns the grammar of the command line: the subcommands and their arguments.
 pub(crate) fn command<'a>(alloc: Global) -> Result<Command<'a>, AllocError>
     ensures { IfOk result (λ c. app_of c ≡ understood) }
 {

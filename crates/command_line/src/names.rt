@@ -28,7 +28,7 @@ fn with_suffixes(alloc: Global, stem: &str, suffixes: &[&str]) -> Result<Vec<Str
     Ok(names)
 }
 
-/// The file names of a set, which is named by its only file, or by the stem of its file names.
+/// Returns the file names of a set, which is named by its only file, or by the stem of its file names.
 pub(crate) fn files_of(alloc: Global, name: &str, is_stem: bool) -> Result<Vec<String>, AllocError>
     ensures { IfOk result (λ names. map string_bytes names.items ≡ files_named is_stem name.now) }
 {

@@ -20,77 +20,77 @@ pub trait Chart {
     /// The county.
     ghost county: { Self → County };
 
-    /// The number of chains.
+    /// Returns the number of chains.
     fn chain_count(&self) -> usize
         ensures { result ≡ length (county self.now).chains };
 
-    /// The TLID of the chain at a place, which must be less than the number of chains.
+    /// Returns the TLID of the chain at a place, which must be less than the number of chains.
     fn tlid_there(&self, place: usize) -> u64
         requires { place < length (county self.now).chains }
         ensures { Some result ≡ slice_get (tlids (county self.now)) place };
 
-    /// The place of the chain with this TLID, or `None` if no chain has it.
+    /// Returns the place of the chain with this TLID, or `None` if no chain has it.
     fn chain_place(&self, tlid: u64) -> Option<usize>
         ensures found { IfSome result (λ place. slice_get (tlids (county self.now)) place ≡ Some tlid) }
         ensures known { is_some result ≡ contains nat_cmp tlid (tlids (county self.now)) };
 
-    /// The number of names.
+    /// Returns the number of names.
     fn name_count(&self) -> usize
         ensures { result ≡ length (county self.now).names };
 
-    /// The FEAT of the name at a place, which must be less than the number of names.
+    /// Returns the FEAT of the name at a place, which must be less than the number of names.
     fn feat_there(&self, place: usize) -> u32
         requires { place < length (county self.now).names }
         ensures { Some result ≡ slice_get (feats (county self.now)) place };
 
-    /// The place of the name with this FEAT, or `None` if no name has it.
+    /// Returns the place of the name with this FEAT, or `None` if no name has it.
     fn name_place(&self, feat: u32) -> Option<usize>
         ensures found { IfSome result (λ place. slice_get (feats (county self.now)) place ≡ Some feat) }
         ensures known { is_some result ≡ contains nat_cmp feat (feats (county self.now)) };
 
-    /// The number of polygons.
+    /// Returns the number of polygons.
     fn polygon_count(&self) -> usize
         ensures { result ≡ length (county self.now).polygons };
 
-    /// The key of the polygon at a place, which must be less than the number of polygons.
+    /// Returns the key of the polygon at a place, which must be less than the number of polygons.
     fn polygon_key_there(&self, place: usize) -> PolygonKey
         requires { place < length (county self.now).polygons }
         ensures { Some result ≡ slice_get (polygon_keys (county self.now)) place };
 
-    /// The place of the polygon with this key, or `None` if no polygon has it.
+    /// Returns the place of the polygon with this key, or `None` if no polygon has it.
     fn polygon_place(&self, key: PolygonKey) -> Option<usize>
         ensures found { IfSome result (λ place. slice_get (polygon_keys (county self.now)) place ≡ Some key) }
         ensures known { is_some result ≡ contains key_cmp key (polygon_keys (county self.now)) };
 
-    /// The number of landmarks.
+    /// Returns the number of landmarks.
     fn landmark_count(&self) -> usize
         ensures { result ≡ length (county self.now).landmarks };
 
-    /// The LAND of the landmark at a place, which must be less than the number of landmarks.
+    /// Returns the LAND of the landmark at a place, which must be less than the number of landmarks.
     fn land_there(&self, place: usize) -> u64
         requires { place < length (county self.now).landmarks }
         ensures { Some result ≡ slice_get (lands (county self.now)) place };
 
-    /// The place of the landmark with this LAND, or `None` if no landmark has it.
+    /// Returns the place of the landmark with this LAND, or `None` if no landmark has it.
     fn landmark_place(&self, land: u64) -> Option<usize>
         ensures found { IfSome result (λ place. slice_get (lands (county self.now)) place ≡ Some land) }
         ensures known { is_some result ≡ contains nat_cmp land (lands (county self.now)) };
 
-    /// The number of nodes.
+    /// Returns the number of nodes.
     fn node_count(&self) -> usize
         ensures { result ≡ length (nodes (county self.now)) };
 
-    /// The number of the node at a place, which must be less than the number of nodes.
+    /// Returns the number of the node at a place, which must be less than the number of nodes.
     fn node_there(&self, place: usize) -> u64
         requires { place < length (nodes (county self.now)) }
         ensures { Some result ≡ slice_get (nodes (county self.now)) place };
 
-    /// The place of a node, or `None` if no chain starts or ends there.
+    /// Returns the place of a node, or `None` if no chain starts or ends there.
     fn node_place(&self, node: u64) -> Option<usize>
         ensures found { IfSome result (λ place. slice_get (nodes (county self.now)) place ≡ Some node) }
         ensures known { is_some result ≡ contains nat_cmp node (nodes (county self.now)) };
 
-    /// The content of the type 1 record of the chain at a place, which must be less than the number of chains.
+    /// Returns the content of the type 1 record of the chain at a place, which must be less than the number of chains.
     fn chain_body_there(&self, place: usize) -> Body1
         requires { place < length (county self.now).chains }
         ensures { Some result ≡ option_map (λ c. c.body) (chain_at (county self.now) place) };
@@ -108,80 +108,81 @@ pub trait Chart {
         body.put_towards(turned, out);
     }
 
-    /// A byte made from the content of the type 1 record of the chain at a place. Reading it only brings the content into the cache.
+    /// Returns a byte made from the content of the type 1 record of the chain at a place. Reading it only brings the content into the
+    /// cache.
     fn chain_byte(&self, _place: usize) -> u8 {
         0
     }
 
-    /// The number of points of the chain at a place: its start node, its shape points (record type 2) and its end node.
+    /// Returns the number of points of the chain at a place: its start node, its shape points (record type 2) and its end node.
     fn point_count_at(&self, place: usize) -> usize
         ensures { result ≡ length (points_of (chain_at (county self.now) place)) };
 
-    /// A point of the chain at a place. Point 0 is at the start node; `point` must be less than the number of the chain's points.
+    /// Returns a point of the chain at a place. Point 0 is at the start node; `point` must be less than the number of the chain's points.
     fn point_there(&self, place: usize, point: usize) -> Point
         requires { point < length (points_of (chain_at (county self.now) place)) }
         ensures { Some result ≡ slice_get (points_of (chain_at (county self.now) place)) point };
 
-    /// The number of further names (record type 4) of the chain at a place.
+    /// Returns the number of further names (record type 4) of the chain at a place.
     fn feat_count_at(&self, place: usize) -> usize
         ensures { result ≡ length (feats_of (chain_at (county self.now) place)) };
 
-    /// The FEAT of a further name (record type 4) of the chain at a place. `name` must be less than the number of its further
+    /// Returns the FEAT of a further name (record type 4) of the chain at a place. `name` must be less than the number of its further
     /// names.
     fn chain_feat_there(&self, place: usize, name: usize) -> u32
         requires { name < length (feats_of (chain_at (county self.now) place)) }
         ensures { Some result ≡ slice_get (feats_of (chain_at (county self.now) place)) name };
 
-    /// The number of further address ranges (record type 6) of the chain at a place.
+    /// Returns the number of further address ranges (record type 6) of the chain at a place.
     fn range_count_at(&self, place: usize) -> usize
         ensures { result ≡ length (ranges_of (chain_at (county self.now) place)) };
 
-    /// A further address range (record type 6) of the chain at a place. `range` must be less than the number of its further ranges.
+    /// Returns a further address range (record type 6) of the chain at a place. `range` must be less than the number of its further ranges.
     fn range_there(&self, place: usize, range: usize) -> Ranges
         requires { range < length (ranges_of (chain_at (county self.now) place)) }
         ensures { Some result ≡ slice_get (ranges_of (chain_at (county self.now) place)) range };
 
-    /// The content of the type I record of the chain at a place, which must be less than the number of chains.
+    /// Returns the content of the type I record of the chain at a place, which must be less than the number of chains.
     fn topology_there(&self, place: usize) -> BodyI
         requires { place < length (county self.now).chains }
         ensures { Some result ≡ option_map (λ c. c.topology) (chain_at (county self.now) place) };
 
-    /// The start node and the end node of the chain at a place (record type I, TZIDS and TZIDE), each if it has one. The place must
+    /// Returns the start node and the end node of the chain at a place (record type I, TZIDS and TZIDE), each if it has one. The place must
     /// be less than the number of chains.
     fn ends_there(&self, place: usize) -> (Option<u64>, Option<u64>)
         requires { place < length (county self.now).chains }
         ensures { Some result ≡ option_map ends_of (chain_at (county self.now) place) };
 
-    /// The left and the right side of the chain at a place, which must be less than the number of chains.
+    /// Returns the left and the right side of the chain at a place, which must be less than the number of chains.
     fn sides_there(&self, place: usize) -> (Side, Side)
         requires { place < length (county self.now).chains }
         ensures { Some result ≡ option_map sides_of (chain_at (county self.now) place) };
 
-    /// The content of the name at a place (record type 5), which must be less than the number of names.
+    /// Returns the content of the name at a place (record type 5), which must be less than the number of names.
     fn name_body_there(&self, place: usize) -> Body5
         requires { place < length (county self.now).names }
         ensures { Some result ≡ name_at (county self.now) place };
 
-    /// The content of the type P record of the polygon at a place, or none if the polygon has no such record. The place must be
+    /// Returns the content of the type P record of the polygon at a place, or none if the polygon has no such record. The place must be
     /// less than the number of polygons.
     fn polygon_body_there(&self, place: usize) -> Option<BodyP>
         requires { place < length (county self.now).polygons }
         ensures { Some result ≡ polygon_at (county self.now) place };
 
-    /// The number of type 7 records of the landmark at a place.
+    /// Returns the number of type 7 records of the landmark at a place.
     fn body_count_at(&self, place: usize) -> usize
         ensures { result ≡ length (bodies_at (county self.now) place) };
 
-    /// The content of a type 7 record of the landmark at a place. `body` must be less than the number of its type 7 records.
+    /// Returns the content of a type 7 record of the landmark at a place. `body` must be less than the number of its type 7 records.
     fn landmark_body_there(&self, place: usize, body: usize) -> Body7
         requires { body < length (bodies_at (county self.now) place) }
         ensures { Some result ≡ slice_get (bodies_at (county self.now) place) body };
 
-    /// The number of type 8 records of the landmark at a place.
+    /// Returns the number of type 8 records of the landmark at a place.
     fn link_count_at(&self, place: usize) -> usize
         ensures { result ≡ length (links_at (county self.now) place) };
 
-    /// A type 8 record of the landmark at a place. `link` must be less than the number of its type 8 records.
+    /// Returns a type 8 record of the landmark at a place. `link` must be less than the number of its type 8 records.
     fn landmark_link_there(&self, place: usize, link: usize) -> Rec8
         requires { link < length (links_at (county self.now) place) }
         ensures { Some result ≡ slice_get (links_at (county self.now) place) link };

@@ -25,7 +25,7 @@ impl Same for DirectedChain {
 
 /// What a county has of the chain, as read in its direction. There is nothing past the county's last chain.
 impl DirectedChain {
-    /// The content of its type 1 record.
+    /// Returns the content of its type 1 record.
     pub fn body<C: Chart>(self, chart: &C) -> Body1
         requires { self.place < length (C.county chart.now).chains }
         ensures { Some result ≡ option_map (λ c. c.body) (directed_chain (C.county chart.now) self) }
@@ -49,7 +49,7 @@ impl DirectedChain {
         chart.put_chain_body(self.place as usize, seen_from_end, out);
     }
 
-    /// The content of its type I record.
+    /// Returns the content of its type I record.
     pub fn topology<C: Chart>(self, chart: &C) -> BodyI
         requires { self.place < length (C.county chart.now).chains }
         ensures { Some result ≡ option_map (λ c. c.topology) (directed_chain (C.county chart.now) self) }
@@ -57,7 +57,7 @@ impl DirectedChain {
         chart.topology_there(self.place as usize)
     }
 
-    /// The node where it starts (record type I, TZIDS, or TZIDE if it's turned).
+    /// Returns the node where it starts (record type I, TZIDS, or TZIDE if it's turned).
     pub fn start_node<C: Chart>(self, chart: &C) -> Option<Option<u64>>
         ensures { result ≡ option_map (λ c. c.start_node) (directed_chain (C.county chart.now) self) }
     {
@@ -69,7 +69,7 @@ impl DirectedChain {
         }
     }
 
-    /// The node where it ends (record type I, TZIDE, or TZIDS if it's turned).
+    /// Returns the node where it ends (record type I, TZIDE, or TZIDS if it's turned).
     pub fn end_node<C: Chart>(self, chart: &C) -> Option<Option<u64>>
         ensures { result ≡ option_map (λ c. c.end_node) (directed_chain (C.county chart.now) self) }
     {
@@ -81,7 +81,7 @@ impl DirectedChain {
         }
     }
 
-    /// Its left side (record type I, CENIDL and POLYIDL, or the right ones if it's turned).
+    /// Returns its left side (record type I, CENIDL and POLYIDL, or the right ones if it's turned).
     pub fn left<C: Chart>(self, chart: &C) -> Option<Side>
         ensures { result ≡ option_map (λ c. c.left) (directed_chain (C.county chart.now) self) }
     {
@@ -93,7 +93,7 @@ impl DirectedChain {
         }
     }
 
-    /// Its right side (record type I, CENIDR and POLYIDR, or the left ones if it's turned).
+    /// Returns its right side (record type I, CENIDR and POLYIDR, or the left ones if it's turned).
     pub fn right<C: Chart>(self, chart: &C) -> Option<Side>
         ensures { result ≡ option_map (λ c. c.right) (directed_chain (C.county chart.now) self) }
     {
@@ -105,7 +105,7 @@ impl DirectedChain {
         }
     }
 
-    /// Its points (record types 1 and 2).
+    /// Returns its points (record types 1 and 2).
     pub fn points<'a, C: Chart>(self, chart: &'a C) -> ChainPoints<'a, C>
         ensures { ⟦<ChainPoints<'a, C> as Listed>⟧.items result ≡ points_of (directed_chain (C.county chart.now) self) }
     {
@@ -116,7 +116,7 @@ impl DirectedChain {
         }
     }
 
-    /// Its further address ranges (record type 6).
+    /// Returns its further address ranges (record type 6).
     pub fn ranges<'a, C: Chart>(self, chart: &'a C) -> ChainRanges<'a, C>
         ensures { ⟦<ChainRanges<'a, C> as Listed>⟧.items result ≡ ranges_of (directed_chain (C.county chart.now) self) }
     {
@@ -127,7 +127,7 @@ impl DirectedChain {
         }
     }
 
-    /// The FEATs of its further names (record type 4), which are the same in both directions.
+    /// Returns the FEATs of its further names (record type 4), which are the same in both directions.
     pub fn feats<'a, C: Chart>(self, chart: &'a C) -> ChainFeats<'a, C>
         ensures { ⟦<ChainFeats<'a, C> as Listed>⟧.items result ≡ feats_of (directed_chain (C.county chart.now) self) }
     {

@@ -34,7 +34,7 @@ pub enum SequencedType {
 }
 
 impl LinkedType {
-    /// The byte in column 1 of the record type's lines.
+    /// Returns the byte in column 1 of the record type's lines.
     pub fn byte(self) -> u8
         ensures { result ≡ byte_of self }
     {
@@ -48,7 +48,7 @@ impl LinkedType {
 }
 
 impl SequencedType {
-    /// The record type, among all whose records belong to a chain.
+    /// Returns the record type, among all whose records belong to a chain.
     pub fn linked(self) -> LinkedType
         ensures { result ≡ linked_type self }
     {
@@ -145,7 +145,7 @@ impl LinkFault {
     ghost use Rattle.std.specs.Prelude.{◌≡◌};
     ghost use Rattle.county_chart.specs.Reports.{link_report};
 
-    /// The fault as every interface reports it: its number, its name and its places.
+    /// Returns the fault as every interface reports it: its number, its name and its places.
     pub fn report(&self) -> FaultReport
         ensures { result ≡ link_report self.now }
     {

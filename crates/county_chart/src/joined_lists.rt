@@ -24,7 +24,7 @@ impl<T: Copy> Model for JoinedLists<T> {
 }
 
 impl<T: Copy> JoinedLists<T> {
-    /// No lists. It allocates nothing.
+    /// Makes an empty list of lists. It allocates nothing.
     pub(crate) fn new(alloc: Global) -> JoinedLists<T>
         ensures { result ≡ [] }
     {
@@ -44,7 +44,7 @@ impl<T: Copy> JoinedLists<T> {
         Ok(())
     }
 
-    /// The list at a place, from 0, empty past the last one.
+    /// Returns the list at a place, from 0, empty past the last one.
     pub(crate) fn at(&self, place: usize) -> &[T]
         ensures { result.now ≡ unwrap_or (slice_get self.now place) [] }
     {

@@ -12,7 +12,7 @@ pub trait Same: Copy + Drop {
     ghost use Rattle.std.specs.Bool.{Decides};
     ghost use Rattle.std.specs.Prelude.{◌≡◌};
 
-    /// Whether the two values are equal.
+    /// Checks whether the two values are equal.
     fn is_same(self, other: Self) -> bool
         ensures { Decides result (self ≡ other) };
 }
@@ -124,11 +124,11 @@ pub trait Listed {
     /// The items.
     ghost items: { Self → List Self.Item };
 
-    /// The number of items.
+    /// Returns the number of items.
     fn count(&self) -> usize
         ensures { result ≡ length (items self.now) };
 
-    /// The item at a place, which is below their number.
+    /// Returns the item at a place, which is below their number.
     fn item(&self, place: usize) -> Self::Item
         requires { place < length (items self.now) }
         ensures { Some result ≡ slice_get (items self.now) place };
@@ -160,7 +160,7 @@ impl<T: Copy> Listed for &[T] {
     }
 }
 
-/// Whether two lists have the same items in the same order.
+/// Checks whether two lists have the same items in the same order.
 pub fn are_same<A: Listed, B: Listed<Item = A::Item>>(a: &A, b: &B) -> bool
 where
     A::Item: Same,
@@ -231,17 +231,17 @@ pub trait Tested {
     /// The property that is tested.
     ghost Holds: { Self → Entry → Type 0 };
 
-    /// The number of entries.
+    /// Returns the number of entries.
     fn count(&self) -> usize
         ensures { result ≡ length (entries self.now) };
 
-    /// Whether the entry at a place, which is below their number, has the property.
+    /// Checks whether the entry at a place, which is below their number, has the property.
     fn holds(&self, place: usize) -> bool
         requires { place < length (entries self.now) }
         ensures { Decides result (IfSome (slice_get (entries self.now) place) (Holds self.now)) };
 }
 
-/// Whether all entries have the property.
+/// Checks whether all entries have the property.
 pub fn all_hold<T: Tested>(tested: &T) -> bool
     ensures { Decides result (AllByRecursion (T.Holds tested.now) (T.entries tested.now)) }
 {

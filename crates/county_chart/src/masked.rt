@@ -34,7 +34,7 @@ fn content_masked<B: Blank + Copy>(content: B, mask: Mask) -> B
 }
 
 impl<C: Chart + Drop> Masked<C> {
-    /// The county of a chart under a mask. If the mask leaves out SOURCE, the contents of landmarks are copied, blanked and sorted.
+    /// Makes the county of a chart under a mask. If the mask leaves out SOURCE, the contents of landmarks are copied, blanked and sorted.
     /// Otherwise the call allocates nothing and doesn't fail.
     ///
     /// # Errors

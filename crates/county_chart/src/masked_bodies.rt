@@ -47,7 +47,7 @@ fn fill_masked<C: Chart>(
     Ok(())
 }
 
-/// The contents of each landmark of a county under a mask that leaves out SOURCE.
+/// Returns the contents of each landmark of a county under a mask that leaves out SOURCE.
 pub(crate) fn masked_lists<C: Chart>(
     alloc: Global,
     chart: &C,

@@ -15,14 +15,14 @@ pub struct OpenPlace {
 }
 
 impl OpenPlace {
-    /// The number of directions of a chain at the place: 1 or 2.
+    /// Returns the number of directions of a chain at the place: 1 or 2.
     pub fn ways(&self) -> u64
         ensures { result ≡ ways_at self.now }
     {
         if self.either_way { 2 } else { 1 }
     }
 
-    /// Whether the place leaves no choice.
+    /// Checks whether the place leaves no choice.
     pub fn is_settled(&self) -> bool
         ensures { result ≡ is_settled self.now }
     {

@@ -21,7 +21,7 @@ pub enum ProfileFault {
 }
 
 impl ProfileFault {
-    /// The fault as every interface reports it: its number, its name and its places.
+    /// Returns the fault as every interface reports it: its number, its name and its places.
     pub fn report(&self) -> FaultReport
         ensures { result ≡ profile_report self.now }
     {

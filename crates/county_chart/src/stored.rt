@@ -50,9 +50,9 @@ pub type CountyIn<'a> = StoredCounty<ChainIn<'a>, NameIn<'a>, LandmarkIn<'a>>;
 
 #[tactic(auto, using(crate::proofs::Lists::StoredParts::stored_parts))]
 impl<C: StoredChain, N: StoredName, L: StoredLandmark> StoredCounty<C, N, L> {
-    /// The county of these tables: chains under their TLIDs, names under their FEATs, the contents of polygons under their keys,
-    /// landmarks under their LANDs, and the nodes at the ends of chains, ascending and each once. The numbers that a part names must
-    /// be in the tables, there may be at most 10,000,000 records of each type, and each link must have the LAND of its landmark.
+    /// Makes the county of these tables: chains under their TLIDs, names under their FEATs, the contents of polygons under their keys,
+    /// landmarks under their LANDs, and the nodes at the ends of chains, ascending and each once. The numbers that a part names must be in
+    /// the tables, there may be at most 10,000,000 records of each type, and each link must have the LAND of its landmark.
     pub fn new(
         chains: Table<u64, C>,
         names: Table<u32, N>,
@@ -75,7 +75,7 @@ impl<C: StoredChain, N: StoredName, L: StoredLandmark> StoredCounty<C, N, L> {
         }
     }
 
-    /// The content of a polygon's record of type P, or none if the county doesn't have the polygon or it has no such record.
+    /// Returns the content of a polygon's record of type P, or none if the county doesn't have the polygon or it has no such record.
     pub fn polygon_body(&self, key: PolygonKey) -> Option<BodyP>
         ensures { result ≡ option_and_then (λ body. body) (value_under key_cmp key (⟦<StoredCounty<C, N, L> as Chart>⟧.county self.now).polygons) }
     {
@@ -85,49 +85,49 @@ impl<C: StoredChain, N: StoredName, L: StoredLandmark> StoredCounty<C, N, L> {
         }
     }
 
-    /// The TLIDs of the chains, ascending.
+    /// Returns the TLIDs of the chains, ascending.
     pub fn tlids(&self) -> &[u64]
         ensures { result.now ≡ tlids (⟦<StoredCounty<C, N, L> as Chart>⟧.county self.now) }
     {
         self.chains.keys()
     }
 
-    /// The FEATs of the names, ascending.
+    /// Returns the FEATs of the names, ascending.
     pub fn feats(&self) -> &[u32]
         ensures { result.now ≡ feats (⟦<StoredCounty<C, N, L> as Chart>⟧.county self.now) }
     {
         self.names.keys()
     }
 
-    /// The keys of the polygons, ascending by the bytes of the CENID and then by POLYID.
+    /// Returns the keys of the polygons, ascending by the bytes of the CENID and then by POLYID.
     pub fn polygons(&self) -> &[PolygonKey]
         ensures { result.now ≡ polygon_keys (⟦<StoredCounty<C, N, L> as Chart>⟧.county self.now) }
     {
         self.polygons.keys()
     }
 
-    /// The LANDs of the landmarks, ascending.
+    /// Returns the LANDs of the landmarks, ascending.
     pub fn lands(&self) -> &[u64]
         ensures { result.now ≡ lands (⟦<StoredCounty<C, N, L> as Chart>⟧.county self.now) }
     {
         self.landmarks.keys()
     }
 
-    /// The nodes at the ends of chains, ascending and each once.
+    /// Returns the nodes at the ends of chains, ascending and each once.
     pub fn nodes(&self) -> &[u64]
         ensures { result.now ≡ nodes_in_order (⟦<StoredCounty<C, N, L> as Chart>⟧.county self.now) }
     {
         self.nodes.as_slice()
     }
 
-    /// The chain at a place, or none after the last one.
+    /// Returns the chain at a place, or none after the last one.
     pub(crate) fn chain_of_place(&self, place: usize) -> Option<&C>
         ensures { option_map C.chain (option_copied result) ≡ chain_at (⟦<StoredCounty<C, N, L> as Chart>⟧.county self.now) place }
     {
         self.chains.value_at(place)
     }
 
-    /// The chain at a place, which must be less than the number of chains.
+    /// Returns the chain at a place, which must be less than the number of chains.
     pub(crate) fn chain_there(&self, place: usize) -> &C
         requires { place < length (⟦<StoredCounty<C, N, L> as Chart>⟧.county self.now).chains }
         ensures { Some (C.chain result.now) ≡ chain_at (⟦<StoredCounty<C, N, L> as Chart>⟧.county self.now) place }
@@ -135,7 +135,7 @@ impl<C: StoredChain, N: StoredName, L: StoredLandmark> StoredCounty<C, N, L> {
         self.chains.value_there(place)
     }
 
-    /// The contents of the landmark at a place, or an empty list after the last one.
+    /// Returns the contents of the landmark at a place, or an empty list after the last one.
     pub(crate) fn bodies_of_place(&self, place: usize) -> &[Body7]
         ensures { result.now ≡ bodies_at (⟦<StoredCounty<C, N, L> as Chart>⟧.county self.now) place }
     {
@@ -145,7 +145,7 @@ impl<C: StoredChain, N: StoredName, L: StoredLandmark> StoredCounty<C, N, L> {
         }
     }
 
-    /// The links of the landmark at a place, or an empty list after the last one.
+    /// Returns the links of the landmark at a place, or an empty list after the last one.
     pub(crate) fn links_of_place(&self, place: usize) -> &[Rec8]
         ensures { result.now ≡ links_at (⟦<StoredCounty<C, N, L> as Chart>⟧.county self.now) place }
     {
@@ -158,21 +158,21 @@ impl<C: StoredChain, N: StoredName, L: StoredLandmark> StoredCounty<C, N, L> {
 
 #[tactic(auto, using(crate::proofs::Lists::StoredParts::stored_parts))]
 impl County {
-    /// The chain with this TLID, or none if no chain has it.
+    /// Returns the chain with this TLID, or none if no chain has it.
     pub fn chain(&self, tlid: u64) -> Option<&Chain>
         ensures { option_copied result ≡ value_under nat_cmp tlid (⟦<County as Chart>⟧.county self.now).chains }
     {
         self.chains.get(tlid)
     }
 
-    /// The content of the name with this FEAT (record type 5), or none if no name has it.
+    /// Returns the content of the name with this FEAT (record type 5), or none if no name has it.
     pub fn name(&self, feat: u32) -> Option<&Body5>
         ensures { option_copied result ≡ value_under nat_cmp feat (⟦<County as Chart>⟧.county self.now).names }
     {
         self.names.get(feat)
     }
 
-    /// The contents of the type 7 records with this LAND, ordered by FILE, SOURCE, CFCC, LANAME and the point, with no point first.
+    /// Returns the contents of the type 7 records with this LAND, ordered by FILE, SOURCE, CFCC, LANAME and the point, with no point first.
     /// The list is empty if no landmark has the LAND.
     pub fn landmark_bodies(&self, land: u64) -> &[Body7]
         ensures { result.now ≡ unwrap_or (value_under nat_cmp land (⟦<County as Chart>⟧.county self.now).landmarks) [] }
@@ -183,7 +183,7 @@ impl County {
         }
     }
 
-    /// The type 8 records with this LAND, ordered by POLYID, CENID and FILE. The list is empty if no landmark has the LAND.
+    /// Returns the type 8 records with this LAND, ordered by POLYID, CENID and FILE. The list is empty if no landmark has the LAND.
     pub fn landmark_links(&self, land: u64) -> &[Rec8]
         ensures { result.now ≡ of_number eight_land land (⟦<County as Chart>⟧.county self.now).links }
     {
@@ -196,14 +196,14 @@ impl County {
 
 #[tactic(auto, using(crate::proofs::Lists::StoredParts::stored_parts))]
 impl<'a> CountyIn<'a> {
-    /// The chain with this TLID, or none if no chain has it.
+    /// Returns the chain with this TLID, or none if no chain has it.
     pub fn chain(&self, tlid: u64) -> Option<&ChainIn<'a>>
         ensures { option_copied result ≡ value_under nat_cmp tlid (⟦<CountyIn<'a> as Chart>⟧.county self.now).chains }
     {
         self.chains.get(tlid)
     }
 
-    /// The content of the name with this FEAT (record type 5), or none if no name has it.
+    /// Returns the content of the name with this FEAT (record type 5), or none if no name has it.
     pub fn name(&self, feat: u32) -> Option<&'a Body5>
         ensures { option_copied result ≡ value_under nat_cmp feat (⟦<CountyIn<'a> as Chart>⟧.county self.now).names }
     {
@@ -213,7 +213,7 @@ impl<'a> CountyIn<'a> {
         }
     }
 
-    /// The contents of the type 7 records with this LAND, ordered by FILE, SOURCE, CFCC, LANAME and the point, with no point first.
+    /// Returns the contents of the type 7 records with this LAND, ordered by FILE, SOURCE, CFCC, LANAME and the point, with no point first.
     /// The list is empty if no landmark has the LAND.
     pub fn landmark_bodies(&self, land: u64) -> &'a [Body7]
         ensures { result.now ≡ unwrap_or (value_under nat_cmp land (⟦<CountyIn<'a> as Chart>⟧.county self.now).landmarks) [] }
@@ -224,7 +224,7 @@ impl<'a> CountyIn<'a> {
         }
     }
 
-    /// The type 8 records with this LAND, ordered by POLYID, CENID and FILE. The list is empty if no landmark has the LAND.
+    /// Returns the type 8 records with this LAND, ordered by POLYID, CENID and FILE. The list is empty if no landmark has the LAND.
     pub fn landmark_links(&self, land: u64) -> &'a [Rec8]
         ensures { result.now ≡ of_number eight_land land (⟦<CountyIn<'a> as Chart>⟧.county self.now).links }
     {

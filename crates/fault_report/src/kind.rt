@@ -53,7 +53,7 @@ pub enum FaultKind {
 }
 
 impl FaultKind {
-    /// The number of the refusal, from 1 to 24; 21 and 22 are no longer used.
+    /// Returns the number of the refusal, from 1 to 24; 21 and 22 are no longer used.
     pub fn number(self) -> u8
         ensures { result ≡ refusal_number self }
     {
@@ -83,7 +83,7 @@ impl FaultKind {
         }
     }
 
-    /// The name of the refusal, at most 19 letters.
+    /// Returns the name of the refusal, at most 19 letters.
     pub fn name(self) -> &'static str
         ensures name { result.now ≡ refusal_name self }
         ensures short { length result.now ≤ 19 }

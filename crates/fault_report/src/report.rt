@@ -31,28 +31,28 @@ pub struct FaultReport {
 }
 
 impl FaultReport {
-    /// A fault without a place.
+    /// Makes a fault without a place.
     pub fn bare(kind: FaultKind) -> FaultReport
         ensures { result ≡ bare kind }
     {
         FaultReport::at(kind, FaultPlace::Nowhere)
     }
 
-    /// A fault with one place.
+    /// Makes a fault with one place.
     pub fn at(kind: FaultKind, first: FaultPlace) -> FaultReport
         ensures { result ≡ at kind first }
     {
         FaultReport::at_two(kind, first, FaultPlace::Nowhere)
     }
 
-    /// A fault with two places.
+    /// Makes a fault with two places.
     pub fn at_two(kind: FaultKind, first: FaultPlace, second: FaultPlace) -> FaultReport
         ensures { result ≡ at_two kind first second }
     {
         FaultReport::at_three(kind, first, second, FaultPlace::Nowhere)
     }
 
-    /// A fault with three places.
+    /// Makes a fault with three places.
     pub fn at_three(
         kind: FaultKind,
         first: FaultPlace,
@@ -67,7 +67,7 @@ impl FaultReport {
         }
     }
 
-    /// The line that reports the fault, without its line ending: `refused`, the number, the name and the places.
+    /// Returns the line that reports the fault, without its line ending: `refused`, the number, the name and the places.
     pub fn line(&self) -> Line
         ensures bytes { result.items ≡ report_line self.now }
         ensures short { length result.items ≤ 111 }

@@ -14,7 +14,7 @@ trait Host: Abort + AllocGlobal + Print {}
 
 impl<R: Abort + AllocGlobal + Print> Host for R {}
 
-/// The lines of the patterns, each terminated by LF.
+/// Returns the lines of the patterns, each terminated by LF.
 fn lines_of(rt: &impl Host, patterns: &[&str]) -> Vec<u8> {
     sets::lines_of(rt.alloc(), patterns).expect(rt, "there is memory")
 }

@@ -56,7 +56,7 @@ pub fn sort_distinct<K: Key>(keys: &mut Vec<K>)
     keys.dedup();
 }
 
-/// The place of a key in a list of keys in order, counted from 0, or none if the list doesn't have it.
+/// Returns the place of a key in a list of keys in order, counted from 0, or none if the list doesn't have it.
 pub fn place_of<K: Key>(keys: &[K], key: K) -> Option<usize>
     requires { IsInOrder K.cmp keys.now }
     ensures found { IfSome result (λ place. slice_get keys.now place ≡ Some key) }

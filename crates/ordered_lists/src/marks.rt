@@ -40,7 +40,7 @@ pub fn marks_of(alloc: Global, numbers: &[u32]) -> Result<Vec<bool>, AllocError>
     Ok(marks)
 }
 
-/// Whether a list in order has a number, read from the list's marks. The list is searched only if the number has no place for a
+/// Checks whether a list in order has a number, read from the list's marks. The list is searched only if the number has no place for a
 /// mark.
 pub fn is_marked(marks: &[bool], numbers: &[u32], number: u32) -> bool
     requires marks { AreMarksOf numbers.now marks.now }

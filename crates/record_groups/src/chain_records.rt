@@ -17,7 +17,8 @@ const POINTS_A_RECORD: usize = 10;
 /// The number of further names in a full record of type 4.
 pub const NAMES_A_RECORD: usize = 5;
 
-/// The number of a record among the chain's records of the same type (RTSQ), counted from 1. `place` is counted from 0, and below 999.
+/// Returns the number of a record among the chain's records of the same type (RTSQ), counted from 1. `place` is counted from 0, and below
+/// 999.
 pub fn sequence_number(place: usize) -> u16
     requires { place < 999 }
     ensures number { result ≡ place + 1 }
@@ -35,7 +36,7 @@ fn chain_tlid<C: Chart>(chart: &C, place: usize) -> u64
     chart.tlid_there(place)
 }
 
-/// The items of a list from one of them on, at most `N`. `first` is below the number of items.
+/// Returns the items of a list from one of them on, at most `N`. `first` is below the number of items.
 pub fn items_from<const N: usize, L: Listed>(list: &L, first: usize) -> ArrayVec<L::Item, N>
 where
     L::Item: Default + Drop,

@@ -13,7 +13,7 @@ pub(crate) struct Cursor {
 }
 
 impl Cursor {
-    /// The position before the first record of a group.
+    /// Returns the position before the first record of a group.
     pub(crate) fn at_group(group: usize) -> Cursor
         ensures group { result.group ≡ group }
         ensures place { result.place ≡ 0 }

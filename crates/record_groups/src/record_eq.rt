@@ -9,7 +9,7 @@ use tl_layout::{
 
 /// Records that are the same if all their fields are.
 pub trait RecordEq: Tabled {
-    /// Whether the other record is the same.
+    /// Checks whether the other record is the same.
     fn is_same(&self, other: &Self) -> bool
         ensures { Decides result (self.now ≡ other.now) };
 }

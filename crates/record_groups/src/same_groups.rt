@@ -34,7 +34,7 @@ fn is_same_record<L: RecordEq, G: RecordGroups<Item = L>, H: RecordGroups<Item =
         .is_same(&b.record(group, other, place))
 }
 
-/// Whether a group that both counties have is the same in both, record by record.
+/// Checks whether a group that both counties have is the same in both, record by record.
 pub(crate) fn is_same_group<L: RecordEq, G: RecordGroups<Item = L>, H: RecordGroups<Item = L>>(
     a: &G,
     b: &H,
@@ -79,7 +79,7 @@ fn are_same_headed<L: RecordEq, G: RecordGroups<Item = L>, H: RecordGroups<Item 
     true
 }
 
-/// Whether records are in the same groups, group by group. The heads are read into buffers of the same size, which is above 0.
+/// Checks whether records are in the same groups, group by group. The heads are read into buffers of the same size, which is above 0.
 pub fn are_same_groups<L: RecordEq, G: RecordGroups<Item = L>, H: RecordGroups<Item = L>>(
     a: &G,
     b: &H,
@@ -170,8 +170,8 @@ fn have_same_lists<A: Chart, B: Chart>(
         && have_same_sequenced::<Rec6, A, B>(a, b, buffer, other)
 }
 
-/// Whether two counties have equally many chains, names, polygons and landmarks, and the same records for each chain. The heads
-/// are read into the caller's buffers.
+/// Checks whether two counties have equally many chains, names, polygons and landmarks, and the same records for each chain. The heads are
+/// read into the caller's buffers.
 pub fn have_same_chains<A: Chart, B: Chart>(
     a: &A,
     b: &B,

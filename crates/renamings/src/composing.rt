@@ -9,8 +9,8 @@ use crate::turning::{turned_back, turned_once};
 use std::alloc::AllocError;
 
 impl Renaming {
-    /// The renaming back. It turns the new chains of those that this one turns. A turned TLID that `chains` doesn't name is
-    /// left out.
+    /// Returns the renaming back. It turns the new chains of those that this one turns. A turned TLID that `chains` doesn't name is left
+    /// out.
     ///
     /// # Errors
     ///
@@ -30,8 +30,8 @@ impl Renaming {
         Ok(Renaming::new(chains, names, polygons, lands, nodes, turned))
     }
 
-    /// This renaming and then the next one. A number whose new number `next` doesn't name is left out. A chain is turned if
-    /// exactly one of the two renamings turns it.
+    /// Returns the renaming that is this one and then the next one. A number whose new number `next` doesn't name is left out. A chain is
+    /// turned if exactly one of the two renamings turns it.
     ///
     /// # Errors
     ///

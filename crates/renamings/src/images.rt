@@ -30,7 +30,7 @@ impl<'a, K: Key + Hash> Model for Images<'a, K> {
 }
 
 impl<'a, K: Key + Hash> Images<'a, K> {
-    /// The pairs with their table.
+    /// Returns the pairs with their table.
     pub fn new(alloc: Global, pairs: &'a [(K, K)]) -> Result<Images<'a, K>, AllocError>
         ensures { IfOk result (λ images. images ≡ pairs.now) }
     {
@@ -43,14 +43,14 @@ impl<'a, K: Key + Hash> Images<'a, K> {
         Ok(Images { table, pairs })
     }
 
-    /// The new number of an old one, or `None` if no pair names it.
+    /// Returns the new number of an old one, or `None` if no pair names it.
     pub fn of(&self, old: K) -> Option<K>
         ensures { result ≡ value_under K.cmp old self.now }
     {
         self.table.get(&old).copied()
     }
 
-    /// The new number of an old one, or the old number itself if no pair names it.
+    /// Returns the new number of an old one, or the old number itself if no pair names it.
     pub fn image(&self, old: K) -> K
         ensures { result ≡ image K.cmp self.now old }
     {

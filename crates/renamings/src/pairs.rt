@@ -9,14 +9,14 @@ use ordered_lists::Key;
 use std::alloc::{AllocError, Global};
 use std::hash::Hash;
 
-/// The pairs with their numbers swapped.
+/// Returns the pairs with their numbers swapped.
 pub(crate) fn swap_pairs<K: Key>(alloc: Global, pairs: &[(K, K)]) -> Result<Vec<(K, K)>, AllocError>
     ensures { IfOk result (λ others. others.items ≡ swapped pairs.now) }
 {
     pairs.iter().map(|pair| (pair.1, pair.0)).collect(alloc)
 }
 
-/// The new numbers of old ones, in the same order. A number that no pair names is left out.
+/// Returns the new numbers of old ones, in the same order. A number that no pair names is left out.
 pub(crate) fn named_images_of<K: Key + Hash>(
     alloc: Global,
     images: &Images<K>,
@@ -51,7 +51,7 @@ fn pairs_after<K: Key + Hash>(
         .collect(alloc)
 }
 
-/// The pairs of two steps: each old number of `firsts` with the number that it has after both lists. A pair whose new number
+/// Returns the pairs of two steps: each old number of `firsts` with the number that it has after both lists. A pair whose new number
 /// `nexts` doesn't name is left out.
 pub(crate) fn join_pairs<K: Key + Hash>(
     alloc: Global,

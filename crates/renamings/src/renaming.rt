@@ -47,7 +47,7 @@ impl Model for Renaming {
 }
 
 impl Renaming {
-    /// The renaming of these pairs of an old and a new number, which turns the chains of these old TLIDs.
+    /// Makes the renaming of these pairs of an old and a new number, which turns the chains of these old TLIDs.
     pub fn new(
         chains: Vec<(u64, u64)>,
         names: Vec<(u32, u32)>,
@@ -75,7 +75,7 @@ impl Renaming {
         })
     }
 
-    /// The renaming of these parts.
+    /// Makes the renaming of these parts.
     pub fn of_parts(parts: RenamingParts) -> Renaming
         ensures { result ≡ record {
           chains = parts.chains.items;
@@ -89,49 +89,49 @@ impl Renaming {
         Renaming { parts }
     }
 
-    /// Each old TLID with its new one.
+    /// Returns each old TLID with its new one.
     pub fn chains(&self) -> &[(u64, u64)]
         ensures { result.now ≡ self.now.chains }
     {
         &self.parts.chains
     }
 
-    /// Each old FEAT with its new one.
+    /// Returns each old FEAT with its new one.
     pub fn names(&self) -> &[(u32, u32)]
         ensures { result.now ≡ self.now.names }
     {
         &self.parts.names
     }
 
-    /// Each old polygon with its new one. If the renaming carries a county, the two have the same CENID.
+    /// Returns each old polygon with its new one. If the renaming carries a county, the two have the same CENID.
     pub fn polygons(&self) -> &[(PolygonKey, PolygonKey)]
         ensures { result.now ≡ self.now.polygons }
     {
         &self.parts.polygons
     }
 
-    /// Each old LAND with its new one.
+    /// Returns each old LAND with its new one.
     pub fn lands(&self) -> &[(u64, u64)]
         ensures { result.now ≡ self.now.lands }
     {
         &self.parts.lands
     }
 
-    /// Each old node with its new one.
+    /// Returns each old node with its new one.
     pub fn nodes(&self) -> &[(u64, u64)]
         ensures { result.now ≡ self.now.nodes }
     {
         &self.parts.nodes
     }
 
-    /// The old TLIDs of the chains that are turned.
+    /// Returns the old TLIDs of the chains that are turned.
     pub fn turned(&self) -> &[u64]
         ensures { result.now ≡ self.now.turned }
     {
         &self.parts.turned
     }
 
-    /// The allocator that its lists use.
+    /// Returns the allocator that its lists use.
     pub(crate) fn allocator(&self) -> Global {
         *self.parts.chains.allocator()
     }

@@ -27,7 +27,7 @@ impl<'a> Model for SortedNumbers<'a> {
 }
 
 impl<'a> SortedNumbers<'a> {
-    /// The numbers with their sorted copy.
+    /// Returns the numbers with their sorted copy.
     pub fn new(alloc: Global, numbers: &'a [u64]) -> Result<SortedNumbers<'a>, AllocError>
         ensures { IfOk result (λ set. set ≡ numbers.now) }
     {
@@ -36,14 +36,14 @@ impl<'a> SortedNumbers<'a> {
         Ok(SortedNumbers { sorted, numbers })
     }
 
-    /// Whether a number is in the list.
+    /// Checks whether a number is in the list.
     pub fn contains(&self, number: u64) -> bool
         ensures { result ≡ contains nat_cmp number self.now }
     {
         place_of(&self.sorted, number).is_some()
     }
 
-    /// Whether no number is in the list twice.
+    /// Checks whether no number is in the list twice.
     pub fn has_no_repeat(&self) -> bool
         ensures { Decides result (has_repeat nat_cmp self.now ≡ false) }
     {

@@ -43,7 +43,7 @@ fn turned_by_one(
         .collect(alloc)
 }
 
-/// The old TLIDs of those pairs whose chains exactly one of two renamings turns. The first one has the pairs `chains` and turns the
+/// Returns the old TLIDs of those pairs whose chains exactly one of two renamings turns. The first one has the pairs `chains` and turns the
 /// chains of `firsts`; the next one turns those of `nexts`.
 pub(crate) fn turned_once(
     alloc: Global,
@@ -62,7 +62,7 @@ pub(crate) fn turned_once(
     Ok(turned)
 }
 
-/// The new TLIDs of the turned chains. A TLID that no pair names is left out.
+/// Returns the new TLIDs of the turned chains. A TLID that no pair names is left out.
 pub(crate) fn turned_back(
     alloc: Global,
     chains: &[(u64, u64)],

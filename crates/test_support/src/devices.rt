@@ -4,7 +4,7 @@ use std::alloc::Global;
 use std::cell::Cell;
 use std::io::{self, Error, ErrorKind, Read, Write};
 
-/// All kinds of failures.
+/// Returns all kinds of failures.
 pub fn kinds() -> &'static [ErrorKind] {
     &[
         ErrorKind::NotFound,
@@ -115,7 +115,7 @@ impl Write for SlowWriter {
     }
 }
 
-/// A reader of these bytes. A read returns at most `step` of them, and the read after `reads` fails.
+/// Makes a reader of these bytes. A read returns at most `step` of them, and the read after `reads` fails.
 pub fn reader(
     bytes: Vec<u8>,
     step: usize,
@@ -133,7 +133,7 @@ pub fn reader(
     }
 }
 
-/// A writer that holds nothing yet, and fails with this kind of error.
+/// Makes a writer that holds nothing yet, and fails with this kind of error.
 pub fn failing_writer(alloc: Global, step: usize, capacity: usize, kind: ErrorKind) -> SlowWriter {
     SlowWriter {
         held: Vec::new(alloc),
@@ -144,7 +144,7 @@ pub fn failing_writer(alloc: Global, step: usize, capacity: usize, kind: ErrorKi
     }
 }
 
-/// A writer that holds nothing yet, and is interrupted.
+/// Makes a writer that holds nothing yet, and is interrupted.
 pub fn writer(alloc: Global, step: usize, capacity: usize) -> SlowWriter {
     failing_writer(alloc, step, capacity, ErrorKind::Interrupted)
 }

@@ -23,12 +23,12 @@ const NO_MORE: usize = 40_961;
 /// More growths than a call has.
 const MANY: usize = 1000;
 
-/// From here growths are refused as requested.
+/// Refuses growths from here on, as requested.
 pub fn refuse(alloc: Global, asked: usize) {
     let _ = Vec::<u8>::with_capacity(alloc, asked);
 }
 
-/// From here no growth is refused. Returns whether one was.
+/// Refuses no growth from here on. Returns whether one was refused.
 pub fn has_refused(alloc: Global) -> bool {
     Vec::<u8>::with_capacity(alloc, NO_MORE).is_err()
 }
@@ -43,7 +43,7 @@ pub struct Run {
 }
 
 impl Run {
-    /// The run with this outcome, as `Debug` prints it.
+    /// Returns the run with this outcome, as `Debug` prints it.
     ///
     /// # Errors
     ///
@@ -57,7 +57,7 @@ impl Run {
         })
     }
 
-    /// The run that was out of memory.
+    /// Returns the run that was out of memory.
     pub fn out_of_memory(refused: bool) -> Run {
         Run {
             answer: None,
@@ -66,12 +66,12 @@ impl Run {
         }
     }
 
-    /// Whether the run was out of memory.
+    /// Checks whether the run was out of memory.
     pub fn is_out_of_memory(&self) -> bool {
         self.answer.is_none()
     }
 
-    /// The same run, counted at this place.
+    /// Returns the same run, counted at this place.
     pub fn counted_at(mut self, place: usize) -> Run {
         self.place = place;
         self
@@ -201,7 +201,7 @@ pub struct Swept<'a> {
     pub mask: Mask,
 }
 
-/// These sets, under a mask that leaves out everything that masks can leave out.
+/// Returns these sets, under a mask that leaves out everything that masks can leave out.
 pub fn on_sets<'a>(what: &'a str, sets: &'a [SetLines]) -> Swept<'a> {
     Swept {
         what,
@@ -230,7 +230,7 @@ pub fn count_on_sets<R, C: Call<R>>(
     Ok(count)
 }
 
-/// Two calls have the same result on a set with ample memory.
+/// Checks that two calls have the same result on a set with ample memory.
 ///
 /// # Errors
 ///

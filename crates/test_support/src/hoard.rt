@@ -25,7 +25,7 @@ fn take_all(alloc: Global, pieces: &mut Vec<Vec<u8>>, size: usize) {
     }
 }
 
-/// All memory that is left, in pieces that are never used.
+/// Takes all memory that is left, in pieces that are never used.
 ///
 /// # Errors
 ///
@@ -41,7 +41,7 @@ pub fn all_memory(alloc: Global) -> Result<Vec<Vec<u8>>, AllocError> {
     Ok(pieces)
 }
 
-/// Whether a single byte is refused.
+/// Checks whether a single byte is refused.
 pub fn is_all_taken(alloc: Global) -> bool {
     Vec::<u8>::with_capacity(alloc, 1).is_err()
 }

@@ -38,7 +38,7 @@ fn add_link(lines: &mut Spelling, tlid: u64, chain: u64, turned: bool)
     lines.add("I200601001{117}", &fields);
 }
 
-/// The street, its last chain first, with other TLIDs, and every third chain turned.
+/// Returns the street, its last chain first, with other TLIDs, and every third chain turned.
 ///
 /// # Errors
 ///
@@ -54,7 +54,7 @@ pub fn long_street(alloc: Global) -> Result<Vec<u8>, AllocError> {
     lines.into_text()
 }
 
-/// Its canonical text: the chains from left to right, each running to the right.
+/// Returns its canonical text: the chains from left to right, each running to the right.
 ///
 /// # Errors
 ///

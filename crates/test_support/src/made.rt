@@ -130,7 +130,7 @@ fn line_of(alloc: Global, pattern: &str, fields: &[(usize, u64)]) -> Result<Vec<
 }
 
 impl Spelling {
-    /// No lines so far.
+    /// Starts without lines.
     pub fn new(alloc: Global, other: bool) -> Spelling {
         Spelling {
             alloc,
@@ -140,7 +140,7 @@ impl Spelling {
         }
     }
 
-    /// The lines as they are.
+    /// Returns the lines as they are.
     ///
     /// # Errors
     ///
@@ -347,7 +347,7 @@ impl Spelling {
     }
 }
 
-/// The map in one spelling or the other.
+/// Returns the map in one spelling or the other.
 ///
 /// # Errors
 ///

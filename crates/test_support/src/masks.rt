@@ -24,7 +24,7 @@ pub const BOTH: Mask = Mask {
     reserved: true,
 };
 
-/// Records of the types with fields that masks leave out.
+/// Returns records of the types with fields that masks leave out.
 pub fn plain() -> &'static [&'static str] {
     &[
         "12006{7}5001AN Main{26}St{2}SWA41{8}101{8}199{8}100{8}198678936003360067000170002LR45012800105190001900028000180002600016000202020002030010012002-086468669+32424914-086468545+32424948",
@@ -33,7 +33,7 @@ pub fn plain() -> &'static [&'static str] {
     ]
 }
 
-/// The same records without these fields.
+/// Returns the same records without these fields.
 pub fn without_either() -> &'static [&'static str] {
     &[
         "12006{7}5001{1}N Main{26}St{2}SWA41{8}101{8}199{8}100{8}198678936003360067000170002LR{2}012800105190001900028000180002600016000202020002030010012002-086468669+32424914-086468545+32424948",
@@ -61,7 +61,7 @@ fn is_masked(record: &Record, mask: Mask, other: &Record) -> bool {
     }
 }
 
-/// Whether the first records have, under the mask, the contents of the others.
+/// Checks whether the first records have, under the mask, the contents of the others.
 pub fn are_masked(records: &[Record], others: &[Record], mask: Mask) -> bool {
     records
         .iter()
@@ -93,7 +93,7 @@ fn decided() -> [Row; 2] {
     ]
 }
 
-/// The name of a mask in the printed lines, and the mask.
+/// Returns each mask, with its name in the printed lines.
 pub fn masks() -> [(&'static str, Mask); 3] {
     [
         (" without sources", SOURCES),
@@ -102,7 +102,7 @@ pub fn masks() -> [(&'static str, Mask); 3] {
     ]
 }
 
-/// Sets with records of each type and with all fields that masks leave out, twins, and sets in which such a field decides an order.
+/// Returns sets with records of each type and with all fields that masks leave out, twins, and sets in which such a field decides an order.
 ///
 /// # Errors
 ///

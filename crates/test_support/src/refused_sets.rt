@@ -32,7 +32,7 @@ const TOO_SYMMETRIC: &[&str] = &[
 /// The line of the refusal, without its first word, and a set that is rejected for it.
 pub type Refused = (&'static str, &'static [&'static str]);
 
-/// Sets with a faulty line.
+/// Returns sets with a faulty line.
 pub fn of_lines() -> [Refused; 7] {
     [
         ("1 UnknownType 1 3", &[CHAIN, LINK, "A"]),
@@ -48,7 +48,7 @@ pub fn of_lines() -> [Refused; 7] {
     ]
 }
 
-/// Sets whose records don't fit together.
+/// Returns sets whose records don't fit together.
 pub fn of_rules() -> [Refused; 10] {
     [
         ("11 ChainTwice 500", &[CHAIN, CHAIN]),
@@ -82,7 +82,7 @@ pub fn of_rules() -> [Refused; 10] {
     ]
 }
 
-/// Sets whose county is outside the profile.
+/// Returns sets whose county is outside the profile.
 pub fn of_clauses() -> [Refused; 2] {
     [
         (
@@ -93,7 +93,7 @@ pub fn of_clauses() -> [Refused; 2] {
     ]
 }
 
-/// The sets of this table.
+/// Returns the sets of this table.
 ///
 /// # Errors
 ///

@@ -14,7 +14,7 @@ pub struct Lists<'a> {
 }
 
 impl<'a> Lists<'a> {
-    /// Those of this renaming.
+    /// Returns the lists of this renaming.
     pub fn of(renaming: &'a Renaming) -> Lists<'a> {
         Lists {
             chains: renaming.chains(),

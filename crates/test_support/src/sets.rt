@@ -33,7 +33,7 @@ fn put_line(bytes: &mut Vec<u8>, pattern: &str) -> Result<(), AllocError> {
     Ok(())
 }
 
-/// The lines of the patterns, each terminated by LF.
+/// Returns the lines of the patterns, each terminated by LF.
 pub fn lines_of(alloc: Global, patterns: &[&str]) -> Result<Vec<u8>, AllocError> {
     let mut bytes = Vec::new(alloc);
     for pattern in patterns {
@@ -67,7 +67,7 @@ pub struct SetLines {
 }
 
 impl SetLines {
-    /// The set of this row.
+    /// Returns the set of this row.
     pub fn of(alloc: Global, row: &Row) -> Result<SetLines, AllocError> {
         let bytes = lines_of(alloc, row.1)?;
         let text = lines_of(alloc, row.2)?;
@@ -75,12 +75,12 @@ impl SetLines {
         Ok(SetLines { row, bytes, text })
     }
 
-    /// The set with its text, borrowed, and a mask that leaves out everything that masks can leave out.
+    /// Returns the set with its text, borrowed, and a mask that leaves out everything that masks can leave out.
     pub fn set(&self) -> Set<'_> {
         self.under(BOTH)
     }
 
-    /// The set with its text, borrowed, and this mask.
+    /// Returns the set with its text, borrowed, and this mask.
     pub fn under(&self, mask: Mask) -> Set<'_> {
         Set {
             row: self.row,
@@ -99,7 +99,7 @@ fn put_sets(sets: &mut Vec<SetLines>, alloc: Global, rows: &[Row]) -> Result<(),
     Ok(())
 }
 
-/// The sets of these tables.
+/// Returns the sets of these tables.
 pub fn sets_of(alloc: Global, tables: &[&[Row]]) -> Result<Vec<SetLines>, AllocError> {
     let mut sets = Vec::new(alloc);
     for rows in tables {
@@ -108,7 +108,7 @@ pub fn sets_of(alloc: Global, tables: &[&[Row]]) -> Result<Vec<SetLines>, AllocE
     Ok(sets)
 }
 
-/// The records of this set.
+/// Returns the records of this set.
 ///
 /// # Errors
 ///
@@ -122,7 +122,7 @@ pub fn records_of(alloc: Global, set: &[u8]) -> Result<Vec<Record>, LoadFault>
     loader.finish()
 }
 
-/// The county of this set. Nothing if the set has a fault, or an allocation failed.
+/// Returns the county of this set, or nothing if the set has a fault or an allocation failed.
 pub fn county_of(alloc: Global, set: &[u8]) -> Option<County> {
     match records_of(alloc, set) {
         Ok(records) => link(alloc, records).ok(),
@@ -130,7 +130,7 @@ pub fn county_of(alloc: Global, set: &[u8]) -> Option<County> {
     }
 }
 
-/// The same in an arena.
+/// Returns the same county in an arena.
 pub fn county_in_of<'a>(alloc: Global, arena: &'a Bump, set: &[u8]) -> Option<CountyIn<'a>> {
     match records_of(alloc, set) {
         Ok(records) => link_in(alloc, arena, records).ok(),
@@ -138,7 +138,7 @@ pub fn county_in_of<'a>(alloc: Global, arena: &'a Bump, set: &[u8]) -> Option<Co
     }
 }
 
-/// The admitted county of this set. Nothing if the set is rejected, or an allocation failed.
+/// Returns the admitted county of this set, or nothing if the set is rejected or an allocation failed.
 pub fn admitted_of(alloc: Global, set: &[u8]) -> Option<Admitted> {
     match county_of(alloc, set) {
         Some(county) => admit(alloc, county).ok(),
@@ -146,7 +146,7 @@ pub fn admitted_of(alloc: Global, set: &[u8]) -> Option<Admitted> {
     }
 }
 
-/// The same in an arena.
+/// Returns the same county in an arena.
 pub fn admitted_in_of<'a>(alloc: Global, arena: &'a Bump, set: &[u8]) -> Option<AdmittedIn<'a>> {
     match county_in_of(alloc, arena, set) {
         Some(county) => admit_in(alloc, county).ok(),
@@ -154,7 +154,7 @@ pub fn admitted_in_of<'a>(alloc: Global, arena: &'a Bump, set: &[u8]) -> Option<
     }
 }
 
-/// Whether the renaming carries the county of one set onto that of another. Nothing if a set has a fault, or an allocation failed.
+/// Checks whether the renaming carries one set's county onto another's. Returns nothing if a set has a fault or an allocation failed.
 pub fn carries(alloc: Global, here: &[u8], there: &[u8], renaming: &Renaming) -> Option<bool> {
     let (here, there) = (county_of(alloc, here), county_of(alloc, there));
     match (&here, &there) {
@@ -163,7 +163,7 @@ pub fn carries(alloc: Global, here: &[u8], there: &[u8], renaming: &Renaming) ->
     }
 }
 
-/// The lines of records in canonical spelling, each terminated by LF.
+/// Returns the lines of records in canonical spelling, each terminated by LF.
 pub fn spelled(alloc: Global, records: &[Record]) -> Result<Vec<u8>, AllocError> {
     let mut text = Vec::new(alloc);
     for record in records {

@@ -265,7 +265,7 @@ const RING_TEXT: &[&str] = &[
     "I200601001{9}7{9}7{9}1{87}",
 ];
 
-/// Chains that are their own reverse, and streets twice.
+/// Returns chains that are their own reverse, and streets twice.
 pub fn twins() -> [Row; 5] {
     [
         ("a chain that is its own reverse", CLOSED, CLOSED_TEXT),
@@ -284,7 +284,7 @@ pub fn twins() -> [Row; 5] {
     ]
 }
 
-/// Chains that are nearly alike, and groups of chains of one shape.
+/// Returns chains that are nearly alike, and groups of chains of one shape.
 pub fn groups() -> [Row; 5] {
     [
         ("five and seven names", NAMES_5_AND_7, NAMES_5_AND_7_TEXT),

@@ -102,7 +102,7 @@ const LANDMARKS: &[&str] = &[
 /// A landmark with zeros as its point, which means no point.
 const WITHOUT_A_POINT: &[&str] = &[CHAIN, LINK, "7{4}01001{8}30AD43Barn{26}+000000000+00000000"];
 
-/// Two chains that share a node and a polygon.
+/// Returns two chains that share a node and a polygon.
 pub fn two_chains() -> &'static [&'static str] {
     &[
         "1{13}5{183}+2{7}+1{8}+3{7}+1",
@@ -112,7 +112,7 @@ pub fn two_chains() -> &'static [&'static str] {
     ]
 }
 
-/// One chain, and a record of each other type that adds to it.
+/// Returns one chain, and a record of each other type that adds to it.
 pub fn record_of_each_type() -> &'static [&'static str] {
     &[
         "8{4}0100100001{8}12{8}30{1}",
@@ -131,7 +131,7 @@ pub fn record_of_each_type() -> &'static [&'static str] {
     ]
 }
 
-/// The chain of that county as seen from its other end, and the names that it uses.
+/// Returns the chain of that county as seen from its other end, and the names that it uses.
 pub fn chain_of_each_type_turned() -> &'static [&'static str] {
     &[
         TURNED,
@@ -275,7 +275,7 @@ fn names() -> [Row; 3] {
     ]
 }
 
-/// Landmarks, and records of each type.
+/// Returns landmarks, and records of each type.
 pub fn types() -> [Row; 3] {
     [
         ("landmarks", LANDMARKS, LANDMARKS_TEXT),
@@ -284,7 +284,7 @@ pub fn types() -> [Row; 3] {
     ]
 }
 
-/// The sets that are accepted.
+/// Returns the sets that are accepted.
 pub fn worked(alloc: Global) -> Result<Vec<SetLines>, AllocError> {
     sets_of(
         alloc,
@@ -299,22 +299,22 @@ pub fn worked(alloc: Global) -> Result<Vec<SetLines>, AllocError> {
     )
 }
 
-/// Main St.
+/// Returns Main St.
 pub fn street() -> &'static [&'static str] {
     MAIN
 }
 
-/// Main St from its other end.
+/// Returns Main St from its other end.
 pub fn street_turned() -> &'static [&'static str] {
     MAIN_TURNED
 }
 
-/// The canonical text of both.
+/// Returns the canonical text of both.
 pub fn street_text() -> &'static [&'static str] {
     MAIN_TEXT
 }
 
-/// Main St in canonical spelling, with its numbers.
+/// Returns Main St in canonical spelling, with its numbers.
 pub fn street_respelt() -> &'static [&'static str] {
     RESPELT
 }

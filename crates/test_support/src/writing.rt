@@ -4,7 +4,7 @@ use tl_county::Chart;
 use tl_number::CanonCounty;
 use tl_write::{SlowSink, write_in, write_to};
 
-/// Whether both calls that write a canonical county write this text. The buffer is at least as long as the text.
+/// Checks whether both calls that write a canonical county write this text. The buffer is at least as long as the text.
 pub fn are_written<C: Chart>(county: &CanonCounty<C>, text: &[u8], buffer: &mut [u8]) -> [bool; 2] {
     let len = text.len() as u64;
     let mut sink = SlowSink::new(buffer, 100);

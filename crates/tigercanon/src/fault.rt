@@ -30,7 +30,7 @@ pub enum Fault {
 }
 
 impl Fault {
-    /// The fault as every interface reports it: its number, its name and its places.
+    /// Returns the fault as every interface reports it: its number, its name and its places.
     pub fn report(&self) -> FaultReport
         ensures { result ≡ report_of self.now }
     {
@@ -43,7 +43,7 @@ impl Fault {
         }
     }
 
-    /// The exit status of a job that stops because of it: 3 for a refused set, 4 for an I/O error, 5 if an allocation failed.
+    /// Returns the exit status of a job that stops because of it: 3 for a refused set, 4 for an I/O error, 5 if an allocation failed.
     pub fn status(&self) -> u8
         ensures { result ≡ status_of self.now }
     {
@@ -56,7 +56,7 @@ impl Fault {
         }
     }
 
-    /// The line of the fault's report, without its line ending. If one of two sets is at fault, the line names it.
+    /// Returns the line of the fault's report, without its line ending. If one of two sets is at fault, the line names it.
     pub(crate) fn line(&self, set: Option<u8>) -> Line
         ensures bytes { result.items ≡ reported_of self.now set }
         ensures short { length result.items ≤ 139 }

@@ -47,7 +47,7 @@ fn handed_out<'t>(text: Vec<u8>) -> &'t [u8]
     if text.is_empty() { &[] } else { text.leak() }
 }
 
-/// Whether the parts are accepted.
+/// Checks whether the parts are accepted.
 pub(crate) fn check_parts(alloc: Global, parts: &[Part]) -> Result<(), Fault>
     ensures accepted { OnOk result ((records : List Record) × IsAcceptedSet (bytes_of_lent parts.now) records) }
     ensures refused { IfErr result (ReportsRefusalOfRead (bytes_of_lent parts.now)) }
@@ -57,7 +57,7 @@ pub(crate) fn check_parts(alloc: Global, parts: &[Part]) -> Result<(), Fault>
     check(alloc, slices.as_slice())
 }
 
-/// The records of the parts in canonical spelling.
+/// Returns the records of the parts in canonical spelling.
 pub(crate) fn respell_parts<'t>(alloc: Global, parts: &[Part]) -> Result<&'t [u8], Fault>
     ensures respelt { IfOk result (λ text. IsRespelt (bytes_of_lent parts.now) text.now) }
     ensures faulty { IfErr result (ReportsFirstFaultOfRead (bytes_of_lent parts.now)) }
@@ -71,7 +71,7 @@ pub(crate) fn respell_parts<'t>(alloc: Global, parts: &[Part]) -> Result<&'t [u8
     }
 }
 
-/// The canonical text of the parts under a mask.
+/// Returns the canonical text of the parts under a mask.
 pub(crate) fn normalise_parts<'t>(
     alloc: Global,
     parts: &[Part],
@@ -107,7 +107,7 @@ pub(crate) fn fingerprint_parts(
     fingerprint_masked(alloc, slices.as_slice(), mask)
 }
 
-/// Whether two sets of parts are one map under a mask.
+/// Checks whether two sets of parts are one map under a mask.
 pub(crate) fn compare_parts(
     alloc: Global,
     first: &[Part],

@@ -47,9 +47,9 @@ fn carries_parts<A: Chart, B: Chart>(
     Ok(links)
 }
 
-/// Whether the renaming carries `a` onto `b`: its lists name each number of `a` once on the left and each of `b` once
-/// on the right, and under their new numbers, with the listed chains turned, the parts of `a` are those of `b`. It copies
-/// the lists and the links a few times, and looks numbers up in tables.
+/// Checks whether the renaming carries `a` onto `b`: its lists name each number of `a` once on the left and each of `b` once on the right,
+/// and under their new numbers, with the listed chains turned, the parts of `a` are those of `b`. It copies the lists and the links a few
+/// times, and looks numbers up in tables.
 ///
 /// # Errors
 ///
@@ -70,8 +70,8 @@ pub fn check<A: Chart, B: Chart>(
     carries_parts(alloc, a, b, &tables)
 }
 
-/// Whether the renaming carries `a` onto `b`, both under a mask. It allocates what [`check`] does, and if the mask leaves out
-/// SOURCE also a copy of the contents of each county's landmarks.
+/// Checks whether the renaming carries `a` onto `b`, both under a mask. It allocates what [`check`] does, and if the mask leaves out SOURCE
+/// also a copy of the contents of each county's landmarks.
 ///
 /// # Errors
 ///

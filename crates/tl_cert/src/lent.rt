@@ -12,7 +12,7 @@ pub struct Lent<'a, C: Chart> {
 }
 
 impl<'a, C: Chart> Lent<'a, C> {
-    /// The reference as a chart.
+    /// Makes a chart of the reference.
     pub fn new(chart: &'a C) -> Lent<'a, C>
         ensures { ⟦<Lent<'a, C> as Chart>⟧.county result ≡ C.county chart.now }
     {

@@ -103,7 +103,7 @@ fn are_turned_once<C: Chart>(
     Ok(turned.has_no_repeat() && has_chains(chart, renaming.turned()))
 }
 
-/// Whether the renaming pairs the numbers of the two counties: each old number is once on the left, each new one once on the right,
+/// Checks whether the renaming pairs the numbers of the two counties: each old number is once on the left, each new one once on the right,
 /// and no other number is there; polygons keep their CENIDs; and each turned TLID is one of `a` and is listed once.
 pub(crate) fn numbers_are_paired<A: Chart, B: Chart>(
     alloc: Global,

@@ -8,7 +8,7 @@ use county_chart::{Listed, push_all, sort_by_keys};
 use ordered_lists::Key;
 use std::alloc::{AllocError, Global};
 
-/// Whether the ones are a permutation of the others.
+/// Checks whether the ones are a permutation of the others.
 pub(crate) fn are_reordered<K: Key>(ones: Vec<K>, others: Vec<K>) -> Result<bool, AllocError>
     ensures { IfOk result (λ yes. Decides yes (IsPermutation ones.items others.items)) }
 {
@@ -46,7 +46,7 @@ fn are_items_of<K: Key, L: Listed<Item = K>>(
     are_reordered(numbers, items)
 }
 
-/// Whether the pairs have each of the olds once on the left, each of the news once on the right, and no other.
+/// Checks whether the pairs have each of the olds once on the left, each of the news once on the right, and no other.
 pub(crate) fn are_paired<K: Key, A: Listed<Item = K>, B: Listed<Item = K>>(
     alloc: Global,
     pairs: &[(K, K)],

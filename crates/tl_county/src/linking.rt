@@ -138,7 +138,7 @@ fn build_landmarks<L: StoredLandmark, B: LandmarkBuilder<L>>(
     Ok(Table::new(lands, landmarks))
 }
 
-/// The county of linked tables in order. `names` are the names of its type 5 records, in their order.
+/// Returns the county of linked tables in order. `names` are the names of its type 5 records, in their order.
 pub(crate) fn build_county<
     't,
     C: StoredChain,
@@ -209,7 +209,7 @@ pub(crate) fn sort_and_check(
     })
 }
 
-/// The county of a list of records. The list's order has no meaning. It may hold at most 10,000,000 records of each type.
+/// Returns the county of a list of records. The list's order has no meaning. It may hold at most 10,000,000 records of each type.
 ///
 /// # Errors
 ///
@@ -224,7 +224,7 @@ pub fn link(alloc: Global, records: Vec<Record>) -> Result<County, LinkFault>
     Ok(linked.into_county(alloc)?)
 }
 
-/// The county of a list of records, in an arena that outlives it. The list's order has no meaning. It may hold at most 10,000,000
+/// Returns the county of a list of records, in an arena that outlives it. The list's order has no meaning. It may hold at most 10,000,000
 /// records of each type.
 ///
 /// # Errors

@@ -85,7 +85,7 @@ fn bad_point(column: usize) -> FieldFault
     }
 }
 
-/// The fault of a used place after an unused one, reported at this column.
+/// Returns the fault of a used place after an unused one, reported at this column.
 pub fn gap(column: usize) -> FieldFault
     requires { column ≤ longest_line }
     ensures { result ≡ gap column }

@@ -19,7 +19,7 @@ impl Mask {
         reserved: false,
     };
 
-    /// Whether the mask leaves nothing out.
+    /// Checks whether the mask leaves nothing out.
     pub fn is_none(self) -> bool
         ensures none { result ≡ true → self ≡ no_mask }
         ensures is { self ≡ no_mask → result ≡ true }

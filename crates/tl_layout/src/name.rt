@@ -43,7 +43,7 @@ impl FeatureName {
         }
     }
 
-    /// The name that begins at this column of a line.
+    /// Returns the name that begins at this column of a line.
     pub(crate) fn at(line: &[u8], first: usize) -> FeatureName
         requires allowed { AreAllowed line.now }
         requires from_one { 1 ≤ first }

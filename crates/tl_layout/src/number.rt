@@ -9,7 +9,7 @@ ghost use Rattle.tl_layout.specs.{FieldTexts.number_text, NumberField.is_blank, 
 use crate::digits::{put_behind, put_eight_columns, put_eight_digits};
 use std::simd::prelude::*;
 
-/// The field without its leading blanks.
+/// Returns the field without its leading blanks.
 #[inline(never)]
 pub fn trim_start(field: &[u8]) -> &[u8]
     ensures value { result.now ≡ drop_blanks field.now }
@@ -22,7 +22,7 @@ pub fn trim_start(field: &[u8]) -> &[u8]
     rest
 }
 
-/// Whether the field has only blanks.
+/// Checks whether the field has only blanks.
 #[inline(always)]
 pub fn is_blank(field: &[u8]) -> bool
     ensures { result ≡ list_all is_blank field.now }
@@ -30,7 +30,7 @@ pub fn is_blank(field: &[u8]) -> bool
     field.iter().all(|byte| *byte == b' ')
 }
 
-/// Whether each of eight bytes is a digit.
+/// Checks whether each of eight bytes is a digit.
 #[inline(always)]
 pub fn are_digits(bytes: u8x8) -> bool
     ensures { Decides result ((k : ℕ) → k < 8 → is_digit (slice_index bytes k) ≡ true) }
@@ -39,8 +39,8 @@ pub fn are_digits(bytes: u8x8) -> bool
     values.simd_lt(u8x8::splat(10)).to_bitmask() == 0xff
 }
 
-/// The number that eight bytes spell, if each of them is a digit. Within one word, it joins neighbouring digits into pairs,
-/// the pairs into fours, and the fours into the number.
+/// Returns the number that eight bytes spell, if each of them is a digit. Within one word, it joins neighbouring digits into pairs, the
+/// pairs into fours, and the fours into the number.
 #[inline(always)]
 pub fn eight_digits(bytes: u8x8) -> Option<u64>
     ensures value { IfSome result (λ number. number_after 0 bytes ≡ Some number) }
@@ -58,7 +58,7 @@ pub fn eight_digits(bytes: u8x8) -> Option<u64>
     Some((10_000 * fours + (fours >> 32)) & 0xffff_ffff)
 }
 
-/// The number that nine bytes spell, if each of them is a digit.
+/// Returns the number that nine bytes spell, if each of them is a digit.
 #[inline(always)]
 pub fn nine_digits(first: u8, rest: u8x8) -> Option<u64>
     ensures value { IfSome result (λ number. number_after 0 (first ∷ rest) ≡ Some number) }
@@ -106,7 +106,7 @@ fn usual_number(field: &[u8]) -> Option<u64>
     }
 }
 
-/// The number that digits spell, with only blanks after them.
+/// Returns the number that digits spell, with only blanks after them.
 #[inline(never)]
 #[tactic(auto, using(crate::proofs::NumberLemmas::stepping), unfolding(crate::specs::NumberReading::number_after))]
 pub fn digits(field: &[u8]) -> Option<u64>
@@ -127,7 +127,7 @@ pub fn digits(field: &[u8]) -> Option<u64>
     Some(value)
 }
 
-/// The number that a field spells: 0 if it is blank, `None` if it is malformed.
+/// Returns the number that a field spells: 0 if it is blank, `None` if it is malformed.
 #[inline(always)]
 #[tactic(auto, unfolding(crate::specs::NumberReading::number_of))]
 pub fn number(field: &[u8]) -> Option<u64>

@@ -29,7 +29,7 @@ impl<const N: usize> LeftRight<N> {
         }
     }
 
-    /// The pair that begins at this column of a line.
+    /// Returns the pair that begins at this column of a line.
     pub(crate) fn at(line: &[u8], first: usize) -> LeftRight<N>
         requires allowed { AreAllowed line.now }
         requires from_one { 1 ≤ first }

@@ -37,7 +37,7 @@ pub trait Places: Sized {
     /// The canonical text of a place.
     ghost text: { Option Self.Item → List ℕ };
 
-    /// The empty list.
+    /// Makes the empty list.
     fn empty() -> Self
         ensures { items result ≡ [] };
 

@@ -33,7 +33,7 @@ impl Point {
         Point { long, lat }
     }
 
-    /// The longitude, in millionths of a degree.
+    /// Returns the longitude, in millionths of a degree.
     pub fn long(&self) -> i32
         ensures value { result ≡ self.now.long }
         ensures on_map { IsOnMap self.now }
@@ -41,7 +41,7 @@ impl Point {
         self.long
     }
 
-    /// The latitude, in millionths of a degree.
+    /// Returns the latitude, in millionths of a degree.
     pub fn lat(&self) -> i32
         ensures value { result ≡ self.now.lat }
         ensures on_map { IsOnMap self.now }

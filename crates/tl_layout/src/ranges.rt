@@ -81,7 +81,7 @@ impl Ranges {
         }
     }
 
-    /// Start address, left (FRADDL).
+    /// Returns the start address, left (FRADDL).
     pub fn fraddl(&self) -> [u8; 11]
         ensures value { result ≡ self.now.fraddl }
         ensures text { IsText 11 result }
@@ -89,7 +89,7 @@ impl Ranges {
         self.fraddl.bytes()
     }
 
-    /// End address, left (TOADDL).
+    /// Returns the end address, left (TOADDL).
     pub fn toaddl(&self) -> [u8; 11]
         ensures value { result ≡ self.now.toaddl }
         ensures text { IsText 11 result }
@@ -97,7 +97,7 @@ impl Ranges {
         self.toaddl.bytes()
     }
 
-    /// Start address, right (FRADDR).
+    /// Returns the start address, right (FRADDR).
     pub fn fraddr(&self) -> [u8; 11]
         ensures value { result ≡ self.now.fraddr }
         ensures text { IsText 11 result }
@@ -105,7 +105,7 @@ impl Ranges {
         self.fraddr.bytes()
     }
 
-    /// End address, right (TOADDR).
+    /// Returns the end address, right (TOADDR).
     pub fn toaddr(&self) -> [u8; 11]
         ensures value { result ≡ self.now.toaddr }
         ensures text { IsText 11 result }
@@ -113,7 +113,7 @@ impl Ranges {
         self.toaddr.bytes()
     }
 
-    /// Start imputed address flag, left (FRIADDL).
+    /// Returns the start imputed address flag, left (FRIADDL).
     pub fn friaddl(&self) -> [u8; 1]
         ensures value { result ≡ self.now.friaddl }
         ensures text { IsText 1 result }
@@ -121,7 +121,7 @@ impl Ranges {
         self.friaddl.bytes()
     }
 
-    /// End imputed address flag, left (TOIADDL).
+    /// Returns the end imputed address flag, left (TOIADDL).
     pub fn toiaddl(&self) -> [u8; 1]
         ensures value { result ≡ self.now.toiaddl }
         ensures text { IsText 1 result }
@@ -129,7 +129,7 @@ impl Ranges {
         self.toiaddl.bytes()
     }
 
-    /// Start imputed address flag, right (FRIADDR).
+    /// Returns the start imputed address flag, right (FRIADDR).
     pub fn friaddr(&self) -> [u8; 1]
         ensures value { result ≡ self.now.friaddr }
         ensures text { IsText 1 result }
@@ -137,7 +137,7 @@ impl Ranges {
         self.friaddr.bytes()
     }
 
-    /// End imputed address flag, right (TOIADDR).
+    /// Returns the end imputed address flag, right (TOIADDR).
     pub fn toiaddr(&self) -> [u8; 1]
         ensures value { result ≡ self.now.toiaddr }
         ensures text { IsText 1 result }
@@ -145,7 +145,7 @@ impl Ranges {
         self.toiaddr.bytes()
     }
 
-    /// ZIP code, left (ZIPL).
+    /// Returns the ZIP code, left (ZIPL).
     pub fn zipl(&self) -> [u8; 5]
         ensures value { result ≡ self.now.zip.left }
         ensures text { IsText 5 result }
@@ -153,7 +153,7 @@ impl Ranges {
         self.zip.left.bytes()
     }
 
-    /// ZIP code, right (ZIPR).
+    /// Returns the ZIP code, right (ZIPR).
     pub fn zipr(&self) -> [u8; 5]
         ensures value { result ≡ self.now.zip.right }
         ensures text { IsText 5 result }
@@ -161,7 +161,7 @@ impl Ranges {
         self.zip.right.bytes()
     }
 
-    /// The ranges that begin at this column of a line.
+    /// Returns the ranges that begin at this column of a line.
     pub(crate) fn at(line: &[u8], first: usize) -> Ranges
         requires allowed { AreAllowed line.now }
         requires from_one { 1 ≤ first }

@@ -32,7 +32,7 @@ pub enum Record {
 }
 
 impl Record {
-    /// The record type: the byte in column 1.
+    /// Returns the record type: the byte in column 1.
     #[tactic(auto, unfolding(crate::specs::RecordText::type_of))]
     pub fn record_type(&self) -> u8
         ensures value { result ≡ type_of self.now }
@@ -51,7 +51,7 @@ impl Record {
         }
     }
 
-    /// The length of the record's full line, in bytes, without a line ending.
+    /// Returns the length of the record's full line, in bytes, without a line ending.
     #[tactic(auto, unfolding(crate::specs::RecordText::len_of))]
     pub fn line_len(&self) -> usize
         ensures value { result ≡ len_of self.now }

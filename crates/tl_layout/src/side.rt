@@ -45,7 +45,7 @@ impl Side {
         }
     }
 
-    /// The CENID (CENIDL or CENIDR).
+    /// Returns the CENID (CENIDL or CENIDR).
     pub fn cenid(&self) -> [u8; 5]
         ensures value { result ≡ self.now.cenid }
         ensures text { IsText 5 result }
@@ -53,14 +53,14 @@ impl Side {
         self.cenid.bytes()
     }
 
-    /// The CENID, by reference.
+    /// Returns the CENID, by reference.
     pub(crate) fn cenid_text(&self) -> &Text<5>
         ensures { result.now ≡ self.now.cenid }
     {
         &self.cenid
     }
 
-    /// The POLYID, or none (POLYIDL or POLYIDR).
+    /// Returns the POLYID, or none (POLYIDL or POLYIDR).
     pub fn polyid(&self) -> Option<u64>
         ensures value { result ≡ self.now.polyid }
         ensures in_range { IsNumberOrNone 10 result }

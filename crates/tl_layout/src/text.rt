@@ -22,7 +22,7 @@ impl<const N: usize> Model for Text<N> {
 }
 
 impl<const N: usize> Text<N> {
-    /// A field with these bytes.
+    /// Makes a field with these bytes.
     pub fn new(bytes: [u8; N]) -> Text<N>
         requires { AreAllowed bytes }
         ensures { result ≡ bytes.entry }
@@ -30,7 +30,7 @@ impl<const N: usize> Text<N> {
         Text { bytes }
     }
 
-    /// A field with these bytes. There must be exactly `N` of them.
+    /// Makes a field with these bytes. There must be exactly `N` of them.
     #[inline(always)]
     pub fn from_slice(bytes: &[u8]) -> Text<N>
         requires { IsText N bytes.now }
@@ -41,7 +41,7 @@ impl<const N: usize> Text<N> {
         Text { bytes: field }
     }
 
-    /// The bytes of the field.
+    /// Returns the bytes of the field.
     pub fn bytes(&self) -> [u8; N]
         ensures value { result ≡ self.now }
         ensures text { IsText N result }
@@ -49,7 +49,7 @@ impl<const N: usize> Text<N> {
         self.bytes
     }
 
-    /// The bytes of the field, by reference.
+    /// Returns the bytes of the field, by reference.
     #[inline(always)]
     pub fn as_bytes(&self) -> &[u8; N]
         ensures value { result.now ≡ self.now }

@@ -49,7 +49,7 @@ impl Rec1 {
         }
     }
 
-    /// Number of the chain (TLID), from 1 to 9,999,999,999.
+    /// Returns the number of the chain (TLID), from 1 to 9,999,999,999.
     pub fn tlid(&self) -> u64
         ensures value { result ≡ self.now.tlid }
         ensures in_range { IsNumber 10 result }
@@ -57,21 +57,21 @@ impl Rec1 {
         self.tlid
     }
 
-    /// The content: all except the TLID and the two points.
+    /// Returns the content: all except the TLID and the two points.
     pub fn body(&self) -> &Body1
         ensures { result.now ≡ self.now.body }
     {
         &self.body
     }
 
-    /// The chain's first point (FRLONG, FRLAT).
+    /// Returns the chain's first point (FRLONG, FRLAT).
     pub fn start(&self) -> Point
         ensures { result ≡ self.now.start }
     {
         self.start
     }
 
-    /// The chain's last point (TOLONG, TOLAT).
+    /// Returns the chain's last point (TOLONG, TOLAT).
     pub fn end(&self) -> Point
         ensures { result ≡ self.now.end }
     {

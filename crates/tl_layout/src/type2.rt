@@ -41,7 +41,7 @@ impl Rec2 {
         Rec2 { tlid, rtsq, points }
     }
 
-    /// Number of the chain (TLID), from 1 to 9,999,999,999.
+    /// Returns the number of the chain (TLID), from 1 to 9,999,999,999.
     pub fn tlid(&self) -> u64
         ensures value { result ≡ self.now.tlid }
         ensures in_range { IsNumber 10 result }
@@ -49,7 +49,7 @@ impl Rec2 {
         self.tlid
     }
 
-    /// Position of the record among the chain's (RTSQ), from 1 to 999.
+    /// Returns the position of the record among the chain's (RTSQ), from 1 to 999.
     pub fn rtsq(&self) -> u16
         ensures value { result ≡ self.now.rtsq }
         ensures in_range { IsNumber 3 result }
@@ -57,7 +57,7 @@ impl Rec2 {
         self.rtsq
     }
 
-    /// The used places, from left to right.
+    /// Returns the used places, from left to right.
     pub fn points(&self) -> &[Point]
         ensures value { result.now ≡ self.now.points }
         ensures len { length result.now ≤ 10 }

@@ -44,7 +44,7 @@ impl Rec4 {
         Rec4 { tlid, rtsq, feats }
     }
 
-    /// Number of the chain (TLID), from 1 to 9,999,999,999.
+    /// Returns the number of the chain (TLID), from 1 to 9,999,999,999.
     pub fn tlid(&self) -> u64
         ensures value { result ≡ self.now.tlid }
         ensures in_range { IsNumber 10 result }
@@ -52,7 +52,7 @@ impl Rec4 {
         self.tlid
     }
 
-    /// Position of the record among the chain's (RTSQ), from 1 to 999.
+    /// Returns the position of the record among the chain's (RTSQ), from 1 to 999.
     pub fn rtsq(&self) -> u16
         ensures value { result ≡ self.now.rtsq }
         ensures in_range { IsNumber 3 result }
@@ -60,7 +60,7 @@ impl Rec4 {
         self.rtsq
     }
 
-    /// The used places, from left to right.
+    /// Returns the used places, from left to right.
     pub fn feats(&self) -> &[u32]
         ensures value { result.now ≡ self.now.feats }
         ensures len { length result.now ≤ 5 }

@@ -52,7 +52,7 @@ impl Body5 {
         }
     }
 
-    /// State and county of the file (FILE).
+    /// Returns the state and county of the file (FILE).
     pub fn file(&self) -> [u8; 5]
         ensures value { result ≡ self.now.file }
         ensures text { IsText 5 result }
@@ -60,7 +60,7 @@ impl Body5 {
         self.file.bytes()
     }
 
-    /// Direction before the name (FEDIRP).
+    /// Returns the direction before the name (FEDIRP).
     pub fn fedirp(&self) -> [u8; 2]
         ensures value { result ≡ self.now.name.fedirp }
         ensures text { IsText 2 result }
@@ -68,7 +68,7 @@ impl Body5 {
         self.name.fedirp.bytes()
     }
 
-    /// The name itself (FENAME).
+    /// Returns the name itself (FENAME).
     pub fn fename(&self) -> [u8; 30]
         ensures value { result ≡ self.now.name.fename }
         ensures text { IsText 30 result }
@@ -76,7 +76,7 @@ impl Body5 {
         self.name.fename.bytes()
     }
 
-    /// Type of the feature, such as `St` (FETYPE).
+    /// Returns the type of the feature, such as `St` (FETYPE).
     pub fn fetype(&self) -> [u8; 4]
         ensures value { result ≡ self.now.name.fetype }
         ensures text { IsText 4 result }
@@ -84,7 +84,7 @@ impl Body5 {
         self.name.fetype.bytes()
     }
 
-    /// Direction after the name (FEDIRS).
+    /// Returns the direction after the name (FEDIRS).
     pub fn fedirs(&self) -> [u8; 2]
         ensures value { result ≡ self.now.name.fedirs }
         ensures text { IsText 2 result }
@@ -114,7 +114,7 @@ impl Rec5 {
         Rec5 { feat, body }
     }
 
-    /// Number of the feature (FEAT), from 1 to 99,999,999.
+    /// Returns the number of the feature (FEAT), from 1 to 99,999,999.
     pub fn feat(&self) -> u32
         ensures value { result ≡ self.now.feat }
         ensures in_range { IsNumber 8 result }
@@ -122,7 +122,7 @@ impl Rec5 {
         self.feat
     }
 
-    /// The content: all except the FEAT.
+    /// Returns the content: all except the FEAT.
     pub fn body(&self) -> &Body5
         ensures { result.now ≡ self.now.body }
     {

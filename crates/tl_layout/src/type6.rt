@@ -41,7 +41,7 @@ impl Rec6 {
         Rec6 { tlid, rtsq, ranges }
     }
 
-    /// Number of the chain (TLID), from 1 to 9,999,999,999.
+    /// Returns the number of the chain (TLID), from 1 to 9,999,999,999.
     pub fn tlid(&self) -> u64
         ensures value { result ≡ self.now.tlid }
         ensures in_range { IsNumber 10 result }
@@ -49,7 +49,7 @@ impl Rec6 {
         self.tlid
     }
 
-    /// Position of the record among the chain's (RTSQ), from 1 to 999.
+    /// Returns the position of the record among the chain's (RTSQ), from 1 to 999.
     pub fn rtsq(&self) -> u16
         ensures value { result ≡ self.now.rtsq }
         ensures in_range { IsNumber 3 result }

@@ -59,7 +59,7 @@ impl Body7 {
         }
     }
 
-    /// State and county of the file (FILE).
+    /// Returns the state and county of the file (FILE).
     pub fn file(&self) -> [u8; 5]
         ensures value { result ≡ self.now.file }
         ensures text { IsText 5 result }
@@ -67,7 +67,7 @@ impl Body7 {
         self.file.bytes()
     }
 
-    /// Source of the landmark (SOURCE).
+    /// Returns the source of the landmark (SOURCE).
     pub fn source(&self) -> [u8; 1]
         ensures value { result ≡ self.now.source }
         ensures text { IsText 1 result }
@@ -83,7 +83,7 @@ impl Body7 {
         self.cfcc.bytes()
     }
 
-    /// Name of the landmark (LANAME).
+    /// Returns the name of the landmark (LANAME).
     pub fn laname(&self) -> [u8; 30]
         ensures value { result ≡ self.now.laname }
         ensures text { IsText 30 result }
@@ -91,7 +91,7 @@ impl Body7 {
         self.laname.bytes()
     }
 
-    /// The location of the landmark, if the record has one (LALONG, LALAT).
+    /// Returns the location of the landmark, if the record has one (LALONG, LALAT).
     pub fn point(&self) -> Option<Point>
         ensures { result ≡ self.now.point }
     {
@@ -120,7 +120,7 @@ impl Rec7 {
         Rec7 { land, body }
     }
 
-    /// Number of the landmark (LAND), from 1 to 9,999,999,999.
+    /// Returns the number of the landmark (LAND), from 1 to 9,999,999,999.
     pub fn land(&self) -> u64
         ensures value { result ≡ self.now.land }
         ensures in_range { IsNumber 10 result }
@@ -128,7 +128,7 @@ impl Rec7 {
         self.land
     }
 
-    /// The content: all except the LAND.
+    /// Returns the content: all except the LAND.
     pub fn body(&self) -> &Body7
         ensures { result.now ≡ self.now.body }
     {

@@ -49,7 +49,7 @@ impl Rec8 {
         }
     }
 
-    /// State and county of the file (FILE).
+    /// Returns the state and county of the file (FILE).
     pub fn file(&self) -> [u8; 5]
         ensures value { result ≡ self.now.file }
         ensures text { IsText 5 result }
@@ -57,7 +57,7 @@ impl Rec8 {
         self.file.bytes()
     }
 
-    /// CENID of the polygon (CENID).
+    /// Returns the CENID of the polygon (CENID).
     pub fn cenid(&self) -> [u8; 5]
         ensures value { result ≡ self.now.cenid }
         ensures text { IsText 5 result }
@@ -65,7 +65,7 @@ impl Rec8 {
         self.cenid.bytes()
     }
 
-    /// POLYID of the polygon (POLYID), from 1 to 9,999,999,999.
+    /// Returns the POLYID of the polygon (POLYID), from 1 to 9,999,999,999.
     pub fn polyid(&self) -> u64
         ensures value { result ≡ self.now.polyid }
         ensures in_range { IsNumber 10 result }
@@ -73,7 +73,7 @@ impl Rec8 {
         self.polyid
     }
 
-    /// Number of the landmark (LAND), from 1 to 9,999,999,999.
+    /// Returns the number of the landmark (LAND), from 1 to 9,999,999,999.
     pub fn land(&self) -> u64
         ensures value { result ≡ self.now.land }
         ensures in_range { IsNumber 10 result }

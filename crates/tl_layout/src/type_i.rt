@@ -87,7 +87,7 @@ impl BodyI {
         }
     }
 
-    /// State and county of the file (FILE).
+    /// Returns the state and county of the file (FILE).
     pub fn file(&self) -> [u8; 5]
         ensures value { result ≡ self.now.file }
         ensures text { IsText 5 result }
@@ -95,7 +95,7 @@ impl BodyI {
         self.file.bytes()
     }
 
-    /// Source of the chain's coordinates (SOURCE).
+    /// Returns the source of the chain's coordinates (SOURCE).
     pub fn source(&self) -> [u8; 10]
         ensures value { result ≡ self.now.source }
         ensures text { IsText 10 result }
@@ -103,7 +103,7 @@ impl BodyI {
         self.source.bytes()
     }
 
-    /// Feature segment (FTSEG).
+    /// Returns the feature segment (FTSEG).
     pub fn ftseg(&self) -> [u8; 17]
         ensures value { result ≡ self.now.ftseg }
         ensures text { IsText 17 result }
@@ -111,7 +111,7 @@ impl BodyI {
         self.ftseg.bytes()
     }
 
-    /// Reserved (RS_I1).
+    /// Returns the reserved field (RS_I1).
     pub fn rs_i1(&self) -> [u8; 10]
         ensures value { result ≡ self.now.rs_i1 }
         ensures text { IsText 10 result }
@@ -119,7 +119,7 @@ impl BodyI {
         self.rs_i1.bytes()
     }
 
-    /// Reserved (RS_I2).
+    /// Returns the reserved field (RS_I2).
     pub fn rs_i2(&self) -> [u8; 10]
         ensures value { result ≡ self.now.rs_i2 }
         ensures text { IsText 10 result }
@@ -127,7 +127,7 @@ impl BodyI {
         self.rs_i2.bytes()
     }
 
-    /// Reserved (RS_I3).
+    /// Returns the reserved field (RS_I3).
     pub fn rs_i3(&self) -> [u8; 10]
         ensures value { result ≡ self.now.rs_i3 }
         ensures text { IsText 10 result }
@@ -175,7 +175,7 @@ impl RecI {
         }
     }
 
-    /// Number of the chain (TLID), from 1 to 9,999,999,999.
+    /// Returns the number of the chain (TLID), from 1 to 9,999,999,999.
     pub fn tlid(&self) -> u64
         ensures value { result ≡ self.now.tlid }
         ensures in_range { IsNumber 10 result }
@@ -183,14 +183,14 @@ impl RecI {
         self.tlid
     }
 
-    /// The content: all except the TLID, the nodes and the sides.
+    /// Returns the content: all except the TLID, the nodes and the sides.
     pub fn body(&self) -> &BodyI
         ensures { result.now ≡ self.now.body }
     {
         &self.body
     }
 
-    /// Number of the node at the chain's start (TZIDS), from 1 to 9,999,999,999, or none.
+    /// Returns the number of the node at the chain's start (TZIDS), from 1 to 9,999,999,999, or none.
     pub fn start_node(&self) -> Option<u64>
         ensures value { result ≡ self.now.start_node }
         ensures in_range { IsNumberOrNone 10 result }
@@ -198,7 +198,7 @@ impl RecI {
         self.start_node.get()
     }
 
-    /// Number of the node at the chain's end (TZIDE), from 1 to 9,999,999,999, or none.
+    /// Returns the number of the node at the chain's end (TZIDE), from 1 to 9,999,999,999, or none.
     pub fn end_node(&self) -> Option<u64>
         ensures value { result ≡ self.now.end_node }
         ensures in_range { IsNumberOrNone 10 result }
@@ -206,14 +206,14 @@ impl RecI {
         self.end_node.get()
     }
 
-    /// The polygon on the left side (CENIDL, POLYIDL).
+    /// Returns the polygon on the left side (CENIDL, POLYIDL).
     pub fn left(&self) -> &Side
         ensures { result.now ≡ self.now.left }
     {
         &self.left
     }
 
-    /// The polygon on the right side (CENIDR, POLYIDR).
+    /// Returns the polygon on the right side (CENIDR, POLYIDR).
     pub fn right(&self) -> &Side
         ensures { result.now ≡ self.now.right }
     {

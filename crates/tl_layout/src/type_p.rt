@@ -45,7 +45,7 @@ impl BodyP {
         }
     }
 
-    /// State and county of the file (FILE).
+    /// Returns the state and county of the file (FILE).
     pub fn file(&self) -> [u8; 5]
         ensures value { result ≡ self.now.file }
         ensures text { IsText 5 result }
@@ -53,14 +53,14 @@ impl BodyP {
         self.file.bytes()
     }
 
-    /// A point inside the polygon, if the record has one (POLYLONG, POLYLAT).
+    /// Returns a point inside the polygon, if the record has one (POLYLONG, POLYLAT).
     pub fn point(&self) -> Option<Point>
         ensures { result ≡ self.now.point }
     {
         self.point
     }
 
-    /// Whether the polygon is water (WATER).
+    /// Returns whether the polygon is water (WATER).
     pub fn water(&self) -> [u8; 1]
         ensures value { result ≡ self.now.water }
         ensures text { IsText 1 result }
@@ -96,7 +96,7 @@ impl RecP {
         }
     }
 
-    /// CENID of the polygon (CENID).
+    /// Returns the CENID of the polygon (CENID).
     pub fn cenid(&self) -> [u8; 5]
         ensures value { result ≡ self.now.cenid }
         ensures text { IsText 5 result }
@@ -104,7 +104,7 @@ impl RecP {
         self.cenid.bytes()
     }
 
-    /// POLYID of the polygon (POLYID), from 1 to 9,999,999,999.
+    /// Returns the POLYID of the polygon (POLYID), from 1 to 9,999,999,999.
     pub fn polyid(&self) -> u64
         ensures value { result ≡ self.now.polyid }
         ensures in_range { IsNumber 10 result }
@@ -112,7 +112,7 @@ impl RecP {
         self.polyid
     }
 
-    /// The content: all except the polygon's key.
+    /// Returns the content: all except the polygon's key.
     pub fn body(&self) -> &BodyP
         ensures { result.now ≡ self.now.body }
     {

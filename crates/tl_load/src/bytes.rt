@@ -56,8 +56,8 @@ fn past_controls(bytes: &[u8], at: usize) -> u8x32
     next + next
 }
 
-/// If this returns true, there are at least 16 bytes and all of them are printable ASCII. It reads 16 bytes at a time, the last
-/// of them together with the bytes before them. It keeps the minimum of each lane and tests only that.
+/// Returns true only if there are at least 16 bytes and all of them are printable ASCII. It reads 16 bytes at a time, the last of them
+/// together with the bytes before them. It keeps the minimum of each lane and tests only that.
 #[inline(always)]
 pub(crate) fn is_ascii(bytes: &[u8]) -> bool
     ensures { IsTrue result → AreAllowed bytes.now }

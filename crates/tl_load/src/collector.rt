@@ -14,7 +14,7 @@ pub trait Collector: Drop + Sized {
     /// another.
     ghost holds: { Self → List Record → Type 0 };
 
-    /// A collector without records. Takes no memory.
+    /// Makes a collector without records. Takes no memory.
     fn empty(alloc: Global) -> Self
         ensures { holds result [] };
 

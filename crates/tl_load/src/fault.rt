@@ -51,7 +51,7 @@ pub enum LoadFault {
 }
 
 impl LoadFault {
-    /// The fault as every interface reports it: its number, its name and its places.
+    /// Returns the fault as every interface reports it: its number, its name and its places.
     pub fn report(&self) -> FaultReport
         ensures { result ≡ load_report self.now }
     {

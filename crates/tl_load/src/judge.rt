@@ -38,7 +38,7 @@ fn judge_short<L: Layout>(line: &[u8]) -> Result<L, LineFault>
     judge_full::<L>(&filled[..L::LEN], false)
 }
 
-/// Whether the line, which begins with the layout's type, is known to be a full line of allowed bytes.
+/// Checks whether the line, which begins with the layout's type, is known to be a full line of allowed bytes.
 #[inline(always)]
 pub(crate) fn is_full_line<L: Layout>(line: &[u8], is_clean: bool) -> bool
     requires begins { take 1 line.now ≡ L.RTYPE ∷ [] }

@@ -98,7 +98,7 @@ fn feed_after(bytes: &[u8], len: usize) -> Option<usize>
     None
 }
 
-/// The line without one CR at its end, if there is one.
+/// Returns the line without one CR at its end, if there is one.
 #[tactic(auto, unfolding(crate::specs::Lines::without_return))]
 #[inline(always)]
 pub(crate) fn without_carriage_return(line: &[u8]) -> &[u8]

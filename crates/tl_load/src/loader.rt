@@ -58,7 +58,7 @@ impl Loader {
         }
     }
 
-    /// The number of closed parts.
+    /// Returns the number of closed parts.
     pub fn parts(&self) -> u64
         ensures { result ≡ self.now.parts }
     {

@@ -81,7 +81,7 @@ impl<K: Collector> LoaderFor<K> {
         }
     }
 
-    /// The number of closed parts.
+    /// Returns the number of closed parts.
     pub fn parts(&self) -> u64
         ensures { result ≡ self.now.parts }
     {

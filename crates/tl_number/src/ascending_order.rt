@@ -7,7 +7,7 @@ use county_chart::{Chart, DirectedChain};
 use std::alloc::{AllocError, Global};
 use tl_profile::{ShapeOrder, order_by_shape};
 
-/// A copy of the directed chains, which are in the order of their shapes.
+/// Returns a copy of the directed chains, which are in the order of their shapes.
 pub(crate) fn arrangement_in_order(
     alloc: Global,
     shape_order: &ShapeOrder,
@@ -17,7 +17,7 @@ pub(crate) fn arrangement_in_order(
     Vec::from_slice(alloc, shape_order.by_shape())
 }
 
-/// The ascending arrangement of a county: each chain runs so that its points come before their reverse, and the chains are in the
+/// Returns the ascending arrangement of a county: each chain runs so that its points come before their reverse, and the chains are in the
 /// order of their points. Chains with equal points stay in the order of their TLIDs.
 ///
 /// # Errors

@@ -34,8 +34,8 @@ fn canonise_in_order<C: Chart + Drop>(
     Ok(with_evidence(view))
 }
 
-/// The canonical county of an admitted county, without the renaming onto it. Its chains have the order and the directions that their
-/// points decide; what the points leave open is decided by the least text. All other numbers follow, and it is the same map.
+/// Returns the canonical county of an admitted county, without the renaming onto it. Its chains have the order and the directions that
+/// their points decide; what the points leave open is decided by the least text. All other numbers follow, and it is the same map.
 ///
 /// # Errors
 ///

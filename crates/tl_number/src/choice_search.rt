@@ -168,7 +168,7 @@ fn search_least<'a, C: Shared>(
     Ok(least.number)
 }
 
-/// The number of the choice with the least text. It is one of these choices, which have the same records of type 1.
+/// Returns the number of the choice with the least text. It is one of these choices, which have the same records of type 1.
 pub(crate) fn least_among_choices<C: Shared>(
     alloc: Global,
     chart: &C,

@@ -56,7 +56,7 @@ fn if_linked(linked: bool, one: usize, other: usize) -> usize
 }
 
 impl<'a, C: Chart> CountyPart<'a, C> {
-    /// The part that tables keep of a county. The polygons of its landmarks are on its chains.
+    /// Makes the part that tables keep of a county. The polygons of its landmarks are on its chains.
     pub(crate) fn new(chart: &'a C, tables: &'a PartTables) -> CountyPart<'a, C>
         requires tables { HoldsPart (C.county chart.now) tables.now }
         requires county { IsCounty (part_with (C.county chart.now) tables.now) }

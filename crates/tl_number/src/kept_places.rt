@@ -93,7 +93,7 @@ fn has_open_links<C: Chart>(
     Ok(has_any(&links, &opened))
 }
 
-/// The chains at open places.
+/// Returns the chains at open places.
 pub(crate) fn open_chains(
     alloc: Global,
     shape_order: &ShapeOrder,
@@ -226,7 +226,7 @@ fn kept_along<C: Chart>(
     Ok(tlids)
 }
 
-/// The chains by which the choices of a county are compared, given the order of its chains by their shapes.
+/// Returns the chains by which the choices of a county are compared, given the order of its chains by their shapes.
 ///
 /// # Errors
 ///

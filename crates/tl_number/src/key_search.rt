@@ -23,7 +23,7 @@ pub(crate) struct KeySearch<K: Key + Hash + NumericKey> {
 }
 
 impl<K: Key + Hash + NumericKey> KeySearch<K> {
-    /// A search for these keys, at the first place.
+    /// Starts a search for these keys, at the first place.
     pub(crate) fn new(alloc: Global, wanted: Interner<K>) -> KeySearch<K>
         ensures wanted { result.wanted ≡ wanted }
         ensures met { result.met ≡ [] }
@@ -99,7 +99,7 @@ fn brings_new<K: Key + Hash + NumericKey>(
     Ok(new)
 }
 
-/// Whether the chain at a place has a wanted key that no fixed place before it has. The search goes on to the next place.
+/// Checks whether the chain at a place has a wanted key that no fixed place before it has. The search goes on to the next place.
 pub(crate) fn search_place<G: KeyGroups>(
     places: &[OpenPlace],
     groups: &G,

@@ -55,7 +55,7 @@ fn least_number<C: Chart>(
     found
 }
 
-/// A choice with the least text, given the order of the chains by their shapes.
+/// Returns a choice with the least text, given the order of the chains by their shapes.
 pub(crate) fn least_arrangement<C: Chart>(
     alloc: Global,
     chart: &C,

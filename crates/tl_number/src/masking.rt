@@ -13,8 +13,8 @@ use std::alloc::{AllocError, Global};
 use tl_layout::Mask;
 use tl_profile::{Admitted, AdmittedIn};
 
-/// An admitted county under a mask. It is in the profile too, and the order of its chains by their shapes is the same: neither depends
-/// on a field that a mask leaves out.
+/// Returns an admitted county under a mask. It is in the profile too, and the order of its chains by their shapes is the same: neither
+/// depends on a field that a mask leaves out.
 ///
 /// # Errors
 ///
@@ -32,7 +32,7 @@ pub fn admitted_masked<C: Chart + Drop>(
     Ok(Admitted::known(masked_chart, order))
 }
 
-/// The canonical county of an admitted county under a mask, and the renaming that carries the county under the mask onto it. All
+/// Returns the canonical county of an admitted county under a mask, and the renaming that carries the county under the mask onto it. All
 /// fields that the mask leaves out are blank in it, and all counties that are the same map under the mask have the same one.
 ///
 /// # Errors

@@ -78,7 +78,7 @@ pub(crate) struct NumberedArrangement {
 }
 
 impl NumberedArrangement {
-    /// The choice with this number.
+    /// Makes the choice with this number.
     pub(crate) fn new(
         alloc: Global,
         shape_order: &ShapeOrder,

@@ -21,7 +21,7 @@ fn covers(at: OpenPlace, place: usize) -> bool
     first <= place && place < first + at.alike as usize
 }
 
-/// Whether one of these open places moves a chain to or from a place.
+/// Checks whether one of these open places moves a chain to or from a place.
 pub(crate) fn is_open_at(places: &[OpenPlace], place: usize) -> bool
     ensures { result ≡ is_open places.now place }
 {
@@ -89,7 +89,7 @@ fn see_groups<G: KeyGroups>(
     Ok(())
 }
 
-/// The keys of chains in the order of their first appearance, and those of them that first appear at an open place.
+/// Returns the keys of chains in the order of their first appearance, and those of them that first appear at an open place.
 pub(crate) fn see_along<G: KeyGroups>(
     alloc: Global,
     places: &[OpenPlace],
@@ -104,7 +104,7 @@ pub(crate) fn see_along<G: KeyGroups>(
     if_done((all, opened), seen)
 }
 
-/// The keys of chains in the order of their first appearance.
+/// Returns the keys of chains in the order of their first appearance.
 pub(crate) fn keys_of<G: KeyGroups>(
     alloc: Global,
     groups: &G,

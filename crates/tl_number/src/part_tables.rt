@@ -153,7 +153,7 @@ fn names_and_polygons<C: Chart>(
     both(names, polygons)
 }
 
-/// What is kept of a county.
+/// Makes the tables of the part.
 pub(crate) fn part_tables<C: Chart>(
     alloc: Global,
     chart: &C,

@@ -179,7 +179,7 @@ fn with_digit<C: Chart>(
     combine(alloc, &digits, ways, numbers)
 }
 
-/// The numbers of the choices with the least records of type 1.
+/// Returns the numbers of the choices with the least records of type 1.
 pub(crate) fn least_by_type_1<C: Chart>(
     alloc: Global,
     chart: &C,

@@ -42,7 +42,7 @@ impl<C: Chart> Admitted<C> {
         Admitted { chart, shape_order }
     }
 
-    /// The county's chart.
+    /// Returns the county's chart.
     pub fn chart(&self) -> &C
         ensures value { result.now ≡ self.now }
         ensures in_profile { IsInProfile (C.county self.now) }
@@ -50,7 +50,7 @@ impl<C: Chart> Admitted<C> {
         &self.chart
     }
 
-    /// The chains in the order of their shapes.
+    /// Returns the chains in the order of their shapes.
     pub fn shape_order(&self) -> &ShapeOrder
         ensures { IsShapeOrder (C.county self.now) result.now }
     {
@@ -78,7 +78,7 @@ impl<C: Chart> Admitted<C> {
 }
 
 impl Admitted<County> {
-    /// The county.
+    /// Returns the county.
     pub fn county(&self) -> &County
         ensures value { result.now ≡ self.now }
         ensures in_profile { IsInProfile (⟦<County as Chart>⟧.county self.now) }
@@ -91,7 +91,7 @@ impl Admitted<County> {
 pub type AdmittedIn<'a> = Admitted<CountyIn<'a>>;
 
 impl<'a> Admitted<CountyIn<'a>> {
-    /// The county.
+    /// Returns the county.
     pub fn county(&self) -> &CountyIn<'a>
         ensures value { result.now ≡ self.now }
         ensures in_profile { IsInProfile (⟦<CountyIn<'a> as Chart>⟧.county self.now) }

@@ -56,21 +56,21 @@ impl ShapeOrder {
         })
     }
 
-    /// The chains in the order of their shapes, each in the direction of its shape.
+    /// Returns the chains in the order of their shapes, each in the direction of its shape.
     pub fn by_shape(&self) -> &[DirectedChain]
         ensures { result.now ≡ self.now.by_shape }
     {
         &self.by_shape
     }
 
-    /// The places in this order that leave a choice, provided that the county leaves at most 5,040 choices.
+    /// Returns the places in this order that leave a choice, provided that the county leaves at most 5,040 choices.
     pub fn open_places(&self) -> &[OpenPlace]
         ensures { result.now ≡ self.now.places }
     {
         &self.open_places
     }
 
-    /// The number of choices that the county leaves open: 1 if there is no choice, and 5,041 for more than 5,040.
+    /// Returns the number of choices that the county leaves open: 1 if there is no choice, and 5,041 for more than 5,040.
     pub fn choices(&self) -> u64
         ensures { result ≡ self.now.choices }
     {

@@ -33,7 +33,7 @@ pub(crate) struct PlacedShape {
 }
 
 impl PlacedShape {
-    /// The chain in the direction in which its points are its shape.
+    /// Returns the chain in the direction in which its points are its shape.
     pub(crate) fn directed(&self) -> DirectedChain
         ensures { result ≡ placed_directed self.now }
     {
@@ -148,7 +148,7 @@ fn order_shapes<C: Chart>(chart: &C, shapes: &mut Vec<PlacedShape>)
     shapes.sort_unstable_by(|shape, other| compare_placed(chart, shape, other));
 }
 
-/// The chains of a county with the beginnings of their shapes, sorted by shape.
+/// Returns the chains of a county with the beginnings of their shapes, sorted by shape.
 pub(crate) fn ordered_shapes<C: Chart>(
     alloc: Global,
     chart: &C,

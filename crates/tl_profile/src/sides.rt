@@ -58,7 +58,7 @@ fn polygons_with_body<C: Chart>(alloc: Global, chart: &C) -> Result<Vec<PolygonK
         .collect(alloc)
 }
 
-/// The least polygon with a record of type P that is on no side of a chain, by the bytes of the CENID and then by POLYID.
+/// Returns the least polygon with a record of type P that is on no side of a chain, by the bytes of the CENID and then by POLYID.
 pub(crate) fn least_without_chain<C: Chart>(
     alloc: Global,
     chart: &C,

@@ -76,14 +76,14 @@ impl<'a> ChainIn<'a> {
         }
     }
 
-    /// The content of the chain's record of type 1.
+    /// Returns the content of the chain's record of type 1.
     pub fn body(&self) -> &Body1
         ensures { result.now ≡ self.now.body }
     {
         &self.body
     }
 
-    /// The chain's points (record types 1 and 2), from its start to its end, at least two.
+    /// Returns the chain's points (record types 1 and 2), from its start to its end, at least two.
     pub fn points(&self) -> &'a [Point]
         ensures value { result.now ≡ self.now.points }
         ensures two { 2 ≤ length self.now.points }
@@ -91,7 +91,7 @@ impl<'a> ChainIn<'a> {
         self.points
     }
 
-    /// The FEATs of the chain's further names (record type 4), in order, each from 1 to 99,999,999.
+    /// Returns the FEATs of the chain's further names (record type 4), in order, each from 1 to 99,999,999.
     pub fn feats(&self) -> &'a [u32]
         ensures value { result.now ≡ self.now.feats }
         ensures in_range { AllByRecursion (IsNumber 8) result.now }
@@ -99,21 +99,21 @@ impl<'a> ChainIn<'a> {
         self.feats
     }
 
-    /// The chain's further address ranges (record type 6), in order.
+    /// Returns the chain's further address ranges (record type 6), in order.
     pub fn ranges(&self) -> &'a [Ranges]
         ensures { result.now ≡ self.now.ranges }
     {
         self.ranges
     }
 
-    /// The content of the chain's record of type I.
+    /// Returns the content of the chain's record of type I.
     pub fn topology(&self) -> &BodyI
         ensures { result.now ≡ self.now.topology }
     {
         &self.topology
     }
 
-    /// Number of the node at the chain's start (TZIDS), from 1 to 9,999,999,999, or none.
+    /// Returns the number of the node at the chain's start (TZIDS), from 1 to 9,999,999,999, or none.
     pub fn start_node(&self) -> Option<u64>
         ensures value { result ≡ self.now.start_node }
         ensures in_range { IsNumberOrNone 10 result }
@@ -121,7 +121,7 @@ impl<'a> ChainIn<'a> {
         self.surroundings.start_node
     }
 
-    /// Number of the node at the chain's end (TZIDE), from 1 to 9,999,999,999, or none.
+    /// Returns the number of the node at the chain's end (TZIDE), from 1 to 9,999,999,999, or none.
     pub fn end_node(&self) -> Option<u64>
         ensures value { result ≡ self.now.end_node }
         ensures in_range { IsNumberOrNone 10 result }
@@ -129,14 +129,14 @@ impl<'a> ChainIn<'a> {
         self.surroundings.end_node
     }
 
-    /// The polygon on the chain's left side (CENIDL, POLYIDL).
+    /// Returns the polygon on the chain's left side (CENIDL, POLYIDL).
     pub fn left(&self) -> &Side
         ensures { result.now ≡ self.now.left }
     {
         &self.surroundings.left
     }
 
-    /// The polygon on the chain's right side (CENIDR, POLYIDR).
+    /// Returns the polygon on the chain's right side (CENIDR, POLYIDR).
     pub fn right(&self) -> &Side
         ensures { result.now ≡ self.now.right }
     {

@@ -48,7 +48,7 @@ impl Shape {
         Ok(Shape { points })
     }
 
-    /// The points, from the chain's start to its end.
+    /// Returns the points, from the chain's start to its end.
     pub fn points(&self) -> &[Point]
         ensures value { result.now ≡ self.now }
         ensures two { 2 ≤ length self.now }
@@ -79,14 +79,14 @@ impl Shape {
         Ordering::Equal
     }
 
-    /// Whether the points are the same from both ends.
+    /// Checks whether the points are the same from both ends.
     pub fn is_own_reverse(&self) -> bool
         ensures { IsTrue result ↔ (reverse self.now ≡ self.now) }
     {
         self.cmp_reverse().is_eq()
     }
 
-    /// Whether the points come after their reverse. If so, the canonical form has the chain turned.
+    /// Checks whether the points come after their reverse. If so, the canonical form has the chain turned.
     pub fn needs_turn(&self) -> bool
         ensures { IsTrue result ↔ ComeAfterReverse self.now }
     {

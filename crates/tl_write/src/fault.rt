@@ -16,7 +16,7 @@ pub struct WriteFault {
 }
 
 impl WriteFault {
-    /// The fault as every interface reports it: its number, its name and its place.
+    /// Returns the fault as every interface reports it: its number, its name and its place.
     pub fn report(&self) -> FaultReport
         ensures { result ≡ write_report self.now }
     {

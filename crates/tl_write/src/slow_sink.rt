@@ -41,7 +41,7 @@ impl<'a> SlowSink<'a> {
         }
     }
 
-    /// The bytes that it took.
+    /// Returns the bytes that it took.
     pub fn held(&self) -> &[u8]
         ensures { result.now ≡ self.now.held }
     {

@@ -54,7 +54,7 @@ fn put_line_of<G: RecordGroups>(
 }
 
 impl TextBuffer {
-    /// An empty buffer.
+    /// Makes an empty buffer.
     pub(crate) fn new() -> TextBuffer
         ensures { result ≡ record { waiting = []; sent = 0 } }
     {

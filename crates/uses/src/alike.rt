@@ -6,7 +6,7 @@ ghost use Rattle.tigercanon.specs.Respelling.{IsRespelt};
 use std::alloc::Global;
 use tigercanon::{Fault, respell};
 
-/// Whether two files have the same records in the same order, whatever their blanks, zeros, signs and line endings.
+/// Checks whether two files have the same records in the same order, whatever their blanks, zeros, signs and line endings.
 ///
 /// # Errors
 ///

@@ -58,7 +58,7 @@ fn tlid_through(
     Ok(new_number(onto.chains(), tlid))
 }
 
-/// The TLID in `other` of the chain with TLID `tlid` in `file`, or none. It is found only if both files are the same map and the
+/// Returns the TLID in `other` of the chain with TLID `tlid` in `file`, or none. It is found only if both files are the same map and the
 /// chain exists.
 ///
 /// # Errors

@@ -39,7 +39,7 @@ fn text_in_memory(alloc: Global, canon: &CanonCounty) -> Result<Vec<u8>, Fault>
     }
 }
 
-/// The canonical text of a file's records: they are loaded, linked, admitted, renumbered and written.
+/// Returns the canonical text of a file's records: they are loaded, linked, admitted, renumbered and written.
 ///
 /// # Errors
 ///

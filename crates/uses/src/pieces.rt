@@ -8,7 +8,7 @@ use std::alloc::Global;
 use tl_layout::Record;
 use tl_load::{LoadFault, Loader, parts_may_be_cut_between_lines};
 
-/// The records of one file whose bytes come in pieces. The cuts between the pieces don't matter.
+/// Returns the records of one file whose bytes come in pieces. The cuts between the pieces don't matter.
 ///
 /// # Errors
 ///

@@ -29,7 +29,7 @@ impl<K: Key + Hash> Model for KeySet<K> {
 }
 
 impl<K: Key + Hash> KeySet<K> {
-    /// The empty set. It allocates no memory.
+    /// Makes the empty set. It allocates no memory.
     pub fn new(alloc: Global) -> KeySet<K>
         ensures { result ≡ [] }
     {
@@ -51,7 +51,7 @@ impl<K: Key + Hash> KeySet<K> {
         Ok(())
     }
 
-    /// The keys, each once.
+    /// Returns the keys, each once.
     pub fn as_slice(&self) -> &[K]
         ensures keys { result.now ≡ self.now }
         ensures once { has_repeat K.cmp self.now ≡ false }
@@ -78,7 +78,7 @@ impl KeySet<PolygonKey> {
         Ok(())
     }
 
-    /// The polygons of the set, in order.
+    /// Returns the polygons of the set, in order.
     ///
     /// # Errors
     ///

@@ -14,12 +14,12 @@ pub trait Keyed<K: Ord + Copy> {
     /// The key.
     ghost key_of: { Self → K };
 
-    /// The key.
+    /// Returns the key.
     fn key(&self) -> K
         ensures { result ≡ key_of self.now };
 }
 
-/// Whether the items are in the order of their keys.
+/// Checks whether the items are in the order of their keys.
 pub fn are_in_order<K: Ord + Copy, T: Keyed<K>>(items: &[T]) -> bool
     ensures in_order { result ≡ true → IsInOrder (on T.key_of K.cmp) items.now }
     ensures stated { IsInOrder (on T.key_of K.cmp) items.now → result ≡ true }
@@ -43,7 +43,7 @@ pub fn sort_by_keys<K: Ord + Copy, T: Keyed<K>>(items: &mut Vec<T>) -> Result<()
     items.sort_by_cached_key(|item| item.key())
 }
 
-/// The least key of `items` that no item of `known` has, or none. Both lists must be in order.
+/// Returns the least key of `items` that no item of `known` has, or none. Both lists must be in order.
 pub fn least_unknown<K: Key, A: Keyed<K>, B: Keyed<K>>(items: &[A], known: &[B]) -> Option<K>
     requires items { IsInOrder (on A.key_of K.cmp) items.now }
     requires known { IsInOrder (on B.key_of K.cmp) known.now }
@@ -86,7 +86,7 @@ fn count_up_to<K: Ord + Copy, T: Keyed<K>>(items: &[T], key: K) -> usize
         .count()
 }
 
-/// The items with this key, and the items with greater keys. The items must be in order.
+/// Returns the items with this key, and the items with greater keys. The items must be in order.
 pub fn split_group<K: Key, T: Keyed<K>>(items: &[T], key: K) -> (&[T], &[T])
     requires { IsInOrder (on T.key_of K.cmp) items.now }
     ensures group { result.0.now ≡ filter (λ item. is_eq (K.cmp (T.key_of item) key)) items.now }

@@ -7,7 +7,7 @@ use tl_layout::{Point, Rec1, Rec2, Rec4, Rec5, Rec6, Rec7, Rec8, RecI, RecP};
 /// The key of a polygon: its CENID, of 5 bytes, and its POLYID under that CENID.
 pub type PolygonKey = ([u8; 5], u64);
 
-/// A number that mostly orders polygons as their keys do: CENID, and in the 24 bits below it POLYID, or the greatest number that
+/// Returns a number that mostly orders polygons as their keys do: CENID, and in the 24 bits below it POLYID, or the greatest number that
 /// fits.
 pub fn polygon_number(key: PolygonKey) -> u64 {
     let [first, second, third, fourth, fifth] = key.0;

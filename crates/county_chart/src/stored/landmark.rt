@@ -22,7 +22,7 @@ impl Model for Landmark {
 }
 
 impl Landmark {
-    /// The landmark with these contents and links.
+    /// Makes the landmark with these contents and links.
     pub fn new(bodies: Vec<Body7>, links: Vec<Rec8>) -> Landmark
         ensures { result ≡ record { bodies = bodies.items; links = links.items } }
     {

@@ -21,14 +21,14 @@ impl<'a> Model for NameIn<'a> {
 }
 
 impl<'a> NameIn<'a> {
-    /// The name with this content.
+    /// Makes the name with this content.
     pub fn new(body: &'a Body5) -> NameIn<'a>
         ensures { result ≡ body.now }
     {
         NameIn { body }
     }
 
-    /// The content of its record of type 5.
+    /// Returns the content of its record of type 5.
     pub(crate) fn body(&self) -> &'a Body5
         ensures { result.now ≡ self.now }
     {
@@ -60,21 +60,21 @@ impl<'a> Model for LandmarkIn<'a> {
 }
 
 impl<'a> LandmarkIn<'a> {
-    /// The landmark with these contents and links.
+    /// Makes the landmark with these contents and links.
     pub fn new(bodies: &'a [Body7], links: &'a [Rec8]) -> LandmarkIn<'a>
         ensures { result ≡ record { bodies = bodies.now; links = links.now } }
     {
         LandmarkIn { bodies, links }
     }
 
-    /// The contents of its type 7 records, ordered by FILE, SOURCE, CFCC, LANAME and the point, with no point first.
+    /// Returns the contents of its type 7 records, ordered by FILE, SOURCE, CFCC, LANAME and the point, with no point first.
     pub(crate) fn bodies(&self) -> &'a [Body7]
         ensures { result.now ≡ self.now.bodies }
     {
         self.bodies
     }
 
-    /// Its type 8 records, ordered by POLYID, CENID and FILE.
+    /// Returns its type 8 records, ordered by POLYID, CENID and FILE.
     pub(crate) fn links(&self) -> &'a [Rec8]
         ensures { result.now ≡ self.now.links }
     {

@@ -12,39 +12,39 @@ pub trait StoredChain: Drop {
     /// The chain.
     ghost chain: { Self → Chain };
 
-    /// The content of its record of type 1.
+    /// Returns the content of its record of type 1.
     fn body(&self) -> &Body1
         ensures { result.now ≡ (chain self.now).body };
 
-    /// Its points, from its start node to its end node, in millionths of a degree.
+    /// Returns its points, from its start node to its end node, in millionths of a degree.
     fn points(&self) -> &[Point]
         ensures { result.now ≡ (chain self.now).points };
 
-    /// The FEATs of its further names (record type 4).
+    /// Returns the FEATs of its further names (record type 4).
     fn feats(&self) -> &[u32]
         ensures { result.now ≡ (chain self.now).feats };
 
-    /// Its further address ranges (record type 6).
+    /// Returns its further address ranges (record type 6).
     fn ranges(&self) -> &[Ranges]
         ensures { result.now ≡ (chain self.now).ranges };
 
-    /// The content of its record of type I.
+    /// Returns the content of its record of type I.
     fn topology(&self) -> &BodyI
         ensures { result.now ≡ (chain self.now).topology };
 
-    /// The node where it starts (record type I, TZIDS), or none.
+    /// Returns the node where it starts (record type I, TZIDS), or none.
     fn start_node(&self) -> Option<u64>
         ensures { result ≡ (chain self.now).start_node };
 
-    /// The node where it ends (record type I, TZIDE), or none.
+    /// Returns the node where it ends (record type I, TZIDE), or none.
     fn end_node(&self) -> Option<u64>
         ensures { result ≡ (chain self.now).end_node };
 
-    /// Its left side (record type I, CENIDL and POLYIDL).
+    /// Returns its left side (record type I, CENIDL and POLYIDL).
     fn left(&self) -> &Side
         ensures { result.now ≡ (chain self.now).left };
 
-    /// Its right side (record type I, CENIDR and POLYIDR).
+    /// Returns its right side (record type I, CENIDR and POLYIDR).
     fn right(&self) -> &Side
         ensures { result.now ≡ (chain self.now).right };
 }
@@ -56,7 +56,7 @@ pub trait StoredName: Drop {
     /// The name.
     ghost name: { Self → Body5 };
 
-    /// The content of its record of type 5.
+    /// Returns the content of its record of type 5.
     fn content(&self) -> &Body5
         ensures { result.now ≡ name self.now };
 }
@@ -69,11 +69,11 @@ pub trait StoredLandmark: Drop {
     /// The landmark.
     ghost landmark: { Self → LandmarkParts };
 
-    /// The contents of its type 7 records, ordered by FILE, SOURCE, CFCC, LANAME and the point, with no point first.
+    /// Returns the contents of its type 7 records, ordered by FILE, SOURCE, CFCC, LANAME and the point, with no point first.
     fn bodies(&self) -> &[Body7]
         ensures { result.now ≡ (landmark self.now).bodies };
 
-    /// Its type 8 records, ordered by POLYID, CENID and FILE.
+    /// Returns its type 8 records, ordered by POLYID, CENID and FILE.
     fn links(&self) -> &[Rec8]
         ensures { result.now ≡ (landmark self.now).links };
 }

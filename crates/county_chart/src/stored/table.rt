@@ -27,7 +27,7 @@ impl<K: Key, V> Model for Table<K, V> {
 
 #[tactic(auto, using(crate::proofs::Lists::TableEntries::table_entries))]
 impl<K: Key, V> Table<K, V> {
-    /// The table of these values under these keys. The keys must ascend, and there must be as many values as keys.
+    /// Makes the table of these values under these keys. The keys must ascend, and there must be as many values as keys.
     pub fn new(keys: Vec<K>, values: Vec<V>) -> Table<K, V>
         requires ascending { IsStrictlySortedBy K.cmp keys.items }
         requires same_length { length keys.items ≡ length values.items }
@@ -37,14 +37,14 @@ impl<K: Key, V> Table<K, V> {
         Table { keys, values }
     }
 
-    /// The number of keys.
+    /// Returns the number of keys.
     pub(crate) fn len(&self) -> usize
         ensures { result ≡ length self.now }
     {
         self.keys().len()
     }
 
-    /// The keys, ascending.
+    /// Returns the keys, ascending.
     pub(crate) fn keys(&self) -> &[K]
         ensures value { result.now ≡ entry_keys self.now }
         ensures ascending { IsStrictlySortedBy K.cmp (entry_keys self.now) }
@@ -52,14 +52,14 @@ impl<K: Key, V> Table<K, V> {
         self.keys.as_slice()
     }
 
-    /// The values, in the order of their keys.
+    /// Returns the values, in the order of their keys.
     pub(crate) fn values(&self) -> &[V]
         ensures { result.now ≡ entry_values self.now }
     {
         self.values.as_slice()
     }
 
-    /// The key at a place, counted from 0, which must be less than the number of keys.
+    /// Returns the key at a place, counted from 0, which must be less than the number of keys.
     pub(crate) fn key_there(&self, place: usize) -> K
         requires { place < length self.now }
         ensures { Some result ≡ slice_get (entry_keys self.now) place }
@@ -67,7 +67,7 @@ impl<K: Key, V> Table<K, V> {
         self.keys()[place]
     }
 
-    /// The value at a place, counted from 0, which must be less than the number of keys.
+    /// Returns the value at a place, counted from 0, which must be less than the number of keys.
     pub(crate) fn value_there(&self, place: usize) -> &V
         requires { place < length self.now }
         ensures { Some result.now ≡ slice_get (entry_values self.now) place }
@@ -75,14 +75,14 @@ impl<K: Key, V> Table<K, V> {
         &self.values()[place]
     }
 
-    /// The value at a place, counted from 0, or none past the end.
+    /// Returns the value at a place, counted from 0, or none past the end.
     pub(crate) fn value_at(&self, place: usize) -> Option<&V>
         ensures { option_copied result ≡ slice_get (entry_values self.now) place }
     {
         self.values().get(place)
     }
 
-    /// The place of a key, counted from 0, or none if the table doesn't have it.
+    /// Returns the place of a key, counted from 0, or none if the table doesn't have it.
     pub(crate) fn place(&self, key: K) -> Option<usize>
         ensures found { IfSome result (λ place. slice_get (entry_keys self.now) place ≡ Some key) }
         ensures known { is_some result ≡ contains K.cmp key (entry_keys self.now) }
@@ -91,7 +91,7 @@ impl<K: Key, V> Table<K, V> {
         place_of(self.keys(), key)
     }
 
-    /// The value under a key, or none if the table doesn't have it.
+    /// Returns the value under a key, or none if the table doesn't have it.
     pub(crate) fn get(&self, key: K) -> Option<&V>
         ensures { option_copied result ≡ value_under K.cmp key self.now }
     {

@@ -34,7 +34,7 @@ use tl_profile::ProfileFault;
 
 /// A fault of which out of memory is one.
 trait Reported: Debug + Drop {
-    /// Whether the fault is out of memory.
+    /// Checks whether the fault is out of memory.
     fn is_memory(&self) -> bool;
 }
 
@@ -88,7 +88,7 @@ fn sweep<R: Host, C: Call<R>>(rt: &R, name: &str, of: Swept<'_>, call: &C) {
     println!(rt; "{name}{what}: {count} growths refused").expect(rt, "a line goes out");
 }
 
-/// The renaming onto the text and the records are the same, whether the county is in an arena or not.
+/// Checks that the renaming onto the text and the records are the same, whether the county is in an arena or not.
 pub(super) fn answer_for_arenas(rt: &impl Host, set: &Set<'_>) {
     let renaming = answer_alike(rt, set, &Canonise, &CanoniseIn);
     renaming.expect(rt, set.row);

@@ -36,7 +36,7 @@ use tl_load::LoadFault;
 use tl_profile::ProfileFault;
 pub(super) use whole::NormaliseWithRenaming;
 
-/// Whether the fault is out of memory.
+/// Checks whether the fault is out of memory.
 pub(super) fn is_memory(fault: Fault) -> bool {
     matches!(
         fault,

@@ -9,7 +9,7 @@ use crate::library::linked::judge;
 use std::alloc::Global;
 use tl_load::LoadFault;
 
-/// Whether the parts are accepted: their lines spell records, these fit together, and their county is in the profile.
+/// Checks whether the parts are accepted: their lines spell records, these fit together, and their county is in the profile.
 ///
 /// # Errors
 ///

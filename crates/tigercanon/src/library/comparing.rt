@@ -68,7 +68,7 @@ impl fmt::Display for CompareFault {
     }
 }
 
-/// The outcome of a step on one of two sets. A fault gets the number of that set.
+/// Returns the outcome of a step on one of two sets. A fault gets the number of that set.
 pub(crate) fn tag_set<T: Drop>(set: u8, outcome: Result<T, Fault>) -> Result<T, CompareFault>
     ensures ok { IfOk result (λ value. outcome ≡ Ok value) }
     ensures err { IfErr result (λ reported. (fault : Fault) × (outcome ≡ Err fault) × (reported ≡ CompareFault.In set fault)) }
@@ -211,7 +211,7 @@ pub(crate) fn compare_unlinked<A: UnlinkedSet, B: UnlinkedSet, V: Comparison>(
     tag_set(SECOND, made)
 }
 
-/// Whether two sets of parts are one map: some renumbering and turning of chains carries the county of the first set onto that of
+/// Checks whether two sets of parts are one map: some renumbering and turning of chains carries the county of the first set onto that of
 /// the second. If so, returns such a renaming. The first set is judged completely before the second is looked at.
 ///
 /// # Errors
@@ -233,7 +233,7 @@ pub fn compare(alloc: Global, a: &[&[u8]], b: &[&[u8]]) -> Result<Verdict, Compa
     compare_masked(alloc, a, b, Mask::NONE)
 }
 
-/// Whether two sets of parts are one map under a mask, as [`compare`] does without a mask: the renaming carries the county of the
+/// Checks whether two sets of parts are one map under a mask, as [`compare`] does without a mask: the renaming carries the county of the
 /// first set under the mask onto that of the second under it.
 ///
 /// # Errors
@@ -263,7 +263,7 @@ pub fn compare_masked(
     }
 }
 
-/// Whether two sets of parts are one map, as for [`compare`], but without making the renaming.
+/// Checks whether two sets of parts are one map, as for [`compare`], but without making the renaming.
 ///
 /// # Errors
 ///
@@ -284,7 +284,7 @@ pub fn are_one_map(alloc: Global, a: &[&[u8]], b: &[&[u8]]) -> Result<bool, Comp
     are_one_map_masked(alloc, a, b, Mask::NONE)
 }
 
-/// Whether two sets of parts are one map under a mask, as for [`compare_masked`], but without making the renaming.
+/// Checks whether two sets of parts are one map under a mask, as for [`compare_masked`], but without making the renaming.
 ///
 /// # Errors
 ///

@@ -13,7 +13,7 @@ use std::alloc::Global;
 use tl_layout::Mask;
 use tl_load::LoadFault;
 
-/// The fingerprint of the parts: the SHA-256 hash of the text that [`normalise`](crate::normalise) returns for them. All sets of
+/// Returns the fingerprint of the parts: the SHA-256 hash of the text that [`normalise`](crate::normalise) returns for them. All sets of
 /// one map have the same fingerprint. The text itself isn't made.
 ///
 /// # Errors
@@ -30,7 +30,7 @@ pub fn fingerprint(alloc: Global, parts: &[&[u8]]) -> Result<[u8; 32], Fault>
     fingerprint_masked(alloc, parts, Mask::NONE)
 }
 
-/// The fingerprint of the parts under a mask: the SHA-256 hash of the text that [`normalise_masked`](crate::normalise_masked)
+/// Returns the fingerprint of the parts under a mask: the SHA-256 hash of the text that [`normalise_masked`](crate::normalise_masked)
 /// returns for them under it. All sets of one map under the mask have the same one. The text itself isn't made.
 ///
 /// # Errors

@@ -76,7 +76,7 @@ fn county_of_linked<'a>(
     }
 }
 
-/// The admitted county of linked records. It is kept in their tables and an arena, which outlive it.
+/// Returns the admitted county of linked records. It is kept in their tables and an arena, which outlive it.
 pub(crate) fn admitted_county<'a>(
     alloc: Global,
     arena: &'a Bump,
@@ -90,7 +90,7 @@ pub(crate) fn admitted_county<'a>(
     Ok(admit_linked(alloc, county, linked.polygon_without_chain())?)
 }
 
-/// Whether a set is accepted.
+/// Checks whether a set is accepted.
 pub(crate) fn judge<S: UnlinkedSet>(alloc: Global, set: S) -> Result<(), Fault>
     requires { S.IsReady set }
     ensures accepted { (parts : List (List ℕ)) → S.Says set parts → OnOk result (IsAcceptable parts) }

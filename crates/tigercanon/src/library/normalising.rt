@@ -23,7 +23,7 @@ use tl_layout::{Mask, Tables};
 use tl_load::{LoadFault, Source};
 use tl_write::Sink;
 
-/// The canonical text of the parts: the records of their map in canonical numbers, order, packing and spelling. All sets of one map
+/// Returns the canonical text of the parts: the records of their map in canonical numbers, order, packing and spelling. All sets of one map
 /// have the same canonical text.
 ///
 /// # Errors
@@ -47,7 +47,7 @@ pub fn normalise(alloc: Global, parts: &[&[u8]]) -> Result<Vec<u8>, Fault>
     normalise_masked(alloc, parts, Mask::NONE)
 }
 
-/// The canonical text of the parts under a mask, as [`normalise`] returns it without a mask: the fields that the mask leaves out
+/// Returns the canonical text of the parts under a mask, as [`normalise`] returns it without a mask: the fields that the mask leaves out
 /// are blank in it. All sets of one map under the mask have the same text.
 ///
 /// # Errors
@@ -74,7 +74,7 @@ pub fn normalise_masked(alloc: Global, parts: &[&[u8]], mask: Mask) -> Result<Ve
     Ok(text)
 }
 
-/// The canonical text of the parts, and the renaming that carries the county of the parts onto that of the text: each old number
+/// Returns the canonical text of the parts, and the renaming that carries the county of the parts onto that of the text: each old number
 /// with its new one, and the old TLIDs of the chains that are turned.
 ///
 /// # Errors
@@ -94,7 +94,7 @@ pub fn normalise_with_renaming(alloc: Global, parts: &[&[u8]]) -> Result<(Vec<u8
     normalise_with_renaming_masked(alloc, parts, Mask::NONE)
 }
 
-/// The canonical text of the parts under a mask, and the renaming that carries the county of the parts under the mask onto that of
+/// Returns the canonical text of the parts under a mask, and the renaming that carries the county of the parts under the mask onto that of
 /// the text, as [`normalise_with_renaming`] returns them without a mask.
 ///
 /// # Errors

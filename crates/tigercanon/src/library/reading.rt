@@ -96,7 +96,7 @@ fn read_to_end<K: Collector, R: Source>(
     Err(LoadFault::Device)
 }
 
-/// A loader that was fed what the sources give, each read to its end, in order. The loader reports faults in the lines when it
+/// Returns a loader that was fed what the sources give, each read to its end, in order. The loader reports faults in the lines when it
 /// finishes.
 pub(crate) fn read_to_ends<K: Collector, R: Source>(
     alloc: Global,

@@ -10,7 +10,7 @@ use crate::library::reading::load;
 use std::alloc::Global;
 use tl_load::{CanonicalText, LoadFault};
 
-/// The records of the parts in canonical spelling, each line ended by LF, in the order of their lines. Numbers are kept, and no
+/// Returns the records of the parts in canonical spelling, each line ended by LF, in the order of their lines. Numbers are kept, and no
 /// records are joined.
 ///
 /// # Errors

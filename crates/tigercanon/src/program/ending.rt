@@ -96,7 +96,7 @@ pub(crate) fn print_text<W: Sink>(
     }
 }
 
-/// The report of a fault of one of a job's sets. A job that reads only one set names none.
+/// Returns the report of a fault of one of a job's sets. A job that reads only one set names none.
 pub(crate) fn stopped_in(job: Job, set: u8, fault: Fault) -> Stopped
     ensures { result ≡ record { fault = fault; set = set_of_job job set } }
 {
@@ -131,7 +131,7 @@ pub(crate) fn refuse_missing(
     }
 }
 
-/// The fault if the arguments couldn't be read: a failed allocation, or arguments that aren't UTF-8.
+/// Returns the fault if the arguments couldn't be read: a failed allocation, or arguments that aren't UTF-8.
 pub fn args_error(alloc: Global, error: &Error) -> PlanFault
     ensures memory { error_kind error.now ≡ ErrorKind.OutOfMemory → result ≡ PlanFault.Memory }
     ensures usage { IsUsage result not_utf8 }
@@ -164,7 +164,7 @@ pub fn report<E: Sink>(fault: &PlanFault, err: &mut E) -> u8
     }
 }
 
-/// The exit status of a job: its own, or, if its files weren't opened, that of the fault that is then written to `err` in one line.
+/// Returns the exit status of a job: its own, or, if its files weren't opened, that of the fault that is then written to `err` in one line.
 pub fn job_status<E: Sink>(outcome: Result<u8, Stopped>, err: &mut E) -> u8
     requires { E.failed err.old < u64.MAX }
     ensures done { IfOk outcome (λ status. (result ≡ status) × (err.new ≡ err.old)) }
@@ -177,7 +177,7 @@ pub fn job_status<E: Sink>(outcome: Result<u8, Stopped>, err: &mut E) -> u8
     }
 }
 
-/// The program's exit status: the job's, or, if the command line led to no job, that of the fault that [`report`] writes to `err`.
+/// Returns the program's exit status: the job's, or, if the command line led to no job, that of the fault that [`report`] writes to `err`.
 pub fn exit_status<E: Sink>(outcome: Result<u8, PlanFault>, err: &mut E) -> u8
     requires { E.failed err.old < u64.MAX }
     ensures done { IfOk outcome (λ status. (result ≡ status) × (err.new ≡ err.old)) }

@@ -72,7 +72,7 @@ fn has_failed<R>(file: &Opened<R>) -> bool
     matches!(file, Opened::Failed)
 }
 
-/// Whether a set lacks a file that it needs: the first is absent, or one couldn't be opened.
+/// Checks whether a set lacks a file that it needs: the first is absent, or one couldn't be opened.
 pub(crate) fn lacks_file<R>(files: &[Opened<R>]) -> bool
     ensures { result ≡ lacks_file files.now }
 {
@@ -91,7 +91,7 @@ fn is_first_counted_absent<R>(files: &[CountedFile<R>]) -> bool
     }
 }
 
-/// The same for files that count their failures.
+/// Checks the same for files that count their failures.
 pub(crate) fn lacks_counted_file<R>(files: &[CountedFile<R>]) -> bool
     ensures { result ≡ lacks_file (opened_of files.now) }
 {
@@ -112,7 +112,7 @@ fn count_failures<R: Read + Drop>(
         .collect(alloc)
 }
 
-/// The files of one of a job's sets, the first or the second, as sources that haven't failed. `opened` has the outcomes of opening
+/// Returns the files of one of a job's sets, the first or the second, as sources that haven't failed. `opened` has the outcomes of opening
 /// them, unless there was no memory for these.
 ///
 /// # Errors

@@ -26,7 +26,7 @@ pub(crate) struct LentOut<'a, W> {
 }
 
 impl<'a, W: Write> LentOut<'a, W> {
-    /// A sink that hasn't failed yet.
+    /// Makes a sink that hasn't failed yet.
     pub(crate) fn new(writer: &'a mut W) -> LentOut<'a, W>
         ensures same { result.writer.ghost_name ≡ writer.entry.ghost_name }
         ensures now { result.writer.now ≡ writer.old }

@@ -3,12 +3,12 @@
 use std::fmt::Debug;
 use std::process::Abort;
 
-/// The value found in this row of a table is the wanted one.
+/// Checks that the value found in this row of a table is the wanted one.
 pub fn same<T: PartialEq + Debug>(rt: &impl Abort, row: &str, found: &T, wanted: &T) {
     assert_eq!(rt; *found, *wanted, "in the row: {row}");
 }
 
-/// The items found in this row of a table are the wanted ones.
+/// Checks that the items found in this row of a table are the wanted ones.
 pub fn same_items<T: PartialEq + Debug>(rt: &impl Abort, row: &str, found: &[T], wanted: &[T]) {
     assert_eq!(rt; *found, *wanted, "in the row: {row}");
 }

@@ -7,7 +7,7 @@ ghost use Rattle.std.specs.Prelude.{map, true, ◌≡◌};
 use county_chart::{Keyed, least_unknown};
 use ordered_lists::Key;
 
-/// Whether the items have the same keys as the others, in the same order.
+/// Checks whether the items have the same keys as the others, in the same order.
 pub(crate) fn have_same_keys<K: Key, A: Keyed<K>, B: Keyed<K>>(items: &[A], others: &[B]) -> bool
     ensures { result ≡ true → map A.key_of items.now ≡ map B.key_of others.now }
 {
@@ -29,7 +29,7 @@ pub(crate) fn have_same_keys<K: Key, A: Keyed<K>, B: Keyed<K>>(items: &[A], othe
     right.is_empty()
 }
 
-/// The least key of `items` that no item of `known` has, or none. Both lists must be in order. Usually they have the same keys, and
+/// Returns the least key of `items` that no item of `known` has, or none. Both lists must be in order. Usually they have the same keys, and
 /// then nothing else is compared.
 pub(crate) fn least_absent<K: Key, A: Keyed<K>, B: Keyed<K>>(items: &[A], known: &[B]) -> Option<K>
     requires items { IsInOrder (on A.key_of K.cmp) items.now }

@@ -65,7 +65,7 @@ fn sorted_order(alloc: Global, numbers: &[u64]) -> Result<NumberOrder, AllocErro
     })
 }
 
-/// The order of items by their numbers. Items with the same number may be in any order.
+/// Returns the order of items by their numbers. Items with the same number may be in any order.
 pub(crate) fn number_order<T: Keyed<u64>>(
     alloc: Global,
     items: &[T],

@@ -8,7 +8,7 @@ use county_chart::{Keyed, sort_by_keys};
 use ordered_lists::Key;
 use std::alloc::{AllocError, Global};
 
-/// The least key that occurs twice among the items, or none. The items must be in order.
+/// Returns the least key that occurs twice among the items, or none. The items must be in order.
 pub(crate) fn least_repeated<K: Key, T: Keyed<K>>(items: &[T]) -> Option<K>
     requires { IsInOrder (on T.key_of K.cmp) items.now }
     ensures { IsLeastPassing K.cmp (is_repeated K.cmp (map T.key_of items.now)) result }
@@ -49,7 +49,7 @@ pub(crate) fn put_in_order_with_repeated<K: Key, T: Keyed<K>>(
     Ok(least_repeated::<K, T>(items))
 }
 
-/// The keys of the items, in the order of the items.
+/// Returns the keys of the items, in the order of the items.
 pub(crate) fn keys_of<K: Ord + Copy, T: Keyed<K>>(
     alloc: Global,
     items: &[T],

@@ -48,7 +48,7 @@ pub(crate) struct InArena<'a> {
 }
 
 impl<'a> InArena<'a> {
-    /// A builder for this arena. It allocates no memory.
+    /// Makes a builder for this arena. It allocates no memory.
     pub(crate) fn new(alloc: Global, arena: &'a Bump) -> InArena<'a> {
         InArena {
             arena,
@@ -172,7 +172,7 @@ impl<'a> LandmarkBuilder<LandmarkIn<'a>> for InArena<'a> {
     }
 }
 
-/// The names of records of type 5, with their contents in the arena.
+/// Returns the names of records of type 5, with their contents in the arena.
 pub(crate) fn names_in<'a>(
     alloc: Global,
     arena: &'a Bump,
@@ -184,7 +184,7 @@ pub(crate) fn names_in<'a>(
     bodies.iter().map(|body| NameIn::new(body)).collect(alloc)
 }
 
-/// The names of records of type 5, with their contents left in the records.
+/// Returns the names of records of type 5, with their contents left in the records.
 pub(crate) fn names_over<'a>(
     alloc: Global,
     records: &'a [Rec5],

@@ -20,7 +20,7 @@ use tl_layout::{
 };
 use tl_shape::Surroundings;
 
-/// The contents of the type 5 records, in their order.
+/// Returns the contents of the type 5 records, in their order.
 pub(crate) fn name_bodies(alloc: Global, names: &[Rec5]) -> Result<Vec<Body5>, AllocError>
     ensures { IfOk result (λ bodies. bodies.items ≡ map (λ (r : Fields5). r.body) names.now) }
 {
@@ -47,7 +47,7 @@ fn point_bodies(alloc: Global, points: &[RecP]) -> Result<Vec<Option<BodyP>>, Al
         .collect(alloc)
 }
 
-/// The content of each polygon's type P record, if it has one. The polygons and the records must be in order. Usually each polygon
+/// Returns the content of each polygon's type P record, if it has one. The polygons and the records must be in order. Usually each polygon
 /// has one record.
 pub(crate) fn polygon_bodies(
     alloc: Global,
@@ -109,7 +109,7 @@ pub(crate) fn join_bodies(bodies: &mut Vec<Body7>, records: &[Rec7]) -> Result<(
     bodies.extend(records.iter().map(|landmark| *landmark.body()))
 }
 
-/// The nodes and the sides of a record of type I.
+/// Returns the nodes and the sides of a record of type I.
 pub(crate) fn surroundings_of(topology: &RecI) -> Surroundings
     ensures start_node { result.start_node ≡ topology.now.start_node }
     ensures end_node { result.end_node ≡ topology.now.end_node }
@@ -190,7 +190,7 @@ fn push_chain<'t, 'h, 'r, C: StoredChain, B: ChainBuilder<'t, C>>(
     Ok(())
 }
 
-/// The chains of type 1 and type I records, paired by place, each with its records of types 2, 4 and 6.
+/// Returns the chains of type 1 and type I records, paired by place, each with its records of types 2, 4 and 6.
 pub(crate) fn chains_of_records<'t, 'r, C: StoredChain, B: ChainBuilder<'t, C>>(
     alloc: Global,
     builder: &mut B,
@@ -220,7 +220,7 @@ pub(crate) fn chains_of_records<'t, 'r, C: StoredChain, B: ChainBuilder<'t, C>>(
     Ok(chains)
 }
 
-/// The LANDs of type 7 records in order, each once.
+/// Returns the LANDs of type 7 records in order, each once.
 pub(crate) fn lands_of(alloc: Global, landmarks: &[Rec7]) -> Result<Vec<u64>, AllocError>
     requires { IsInOrder (on seven_land nat_cmp) landmarks.now }
     ensures { IfOk result (λ lands. lands.items ≡ distinct nat_cmp (map seven_land landmarks.now)) }
@@ -237,7 +237,7 @@ pub(crate) trait LandmarkBuilder<L: StoredLandmark> {
         ensures { IfOk result (λ built. L.landmark built ≡ record { bodies = map (λ (r : Fields7). r.body) records.now; links = links.now }) };
 }
 
-/// The landmarks with these LANDs, made from records of types 7 and 8 in the order of their LANDs.
+/// Returns the landmarks with these LANDs, made from records of types 7 and 8 in the order of their LANDs.
 pub(crate) fn landmarks_of<L: StoredLandmark, B: LandmarkBuilder<L>>(
     alloc: Global,
     builder: &mut B,
@@ -274,7 +274,7 @@ fn insert_node(nodes: &mut NumberSet, node: Option<u64>) -> Result<(), AllocErro
     Ok(())
 }
 
-/// The nodes of type I records in order, each once. If nodes are numbered from 1 without gaps, each has a mark.
+/// Returns the nodes of type I records in order, each once. If nodes are numbered from 1 without gaps, each has a mark.
 pub(crate) fn nodes_of(alloc: Global, topologies: &[RecI]) -> Result<Vec<u64>, AllocError>
     ensures { IfOk result (λ nodes. nodes.items ≡ distinct nat_cmp (flat_map topology_nodes topologies.now)) }
 {

@@ -36,7 +36,7 @@ impl<'a> Model for ChainOver<'a> {
 }
 
 impl<'a> ChainOver<'a> {
-    /// The chain of a type 1 record and a type I record, with all of its points, its FEATs and its further address ranges.
+    /// Makes the chain of a type 1 record and a type I record, with all of its points, its FEATs and its further address ranges.
     pub(crate) fn new(
         basics: &'a Rec1,
         topology: &'a RecI,

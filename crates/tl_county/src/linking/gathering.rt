@@ -21,7 +21,7 @@ fn push_uses(uses: &mut Vec<(u64, u32)>, names: &Rec4) -> Result<(), AllocError>
     uses.extend(names.feats().iter().map(|feat| (tlid, *feat)))
 }
 
-/// Each FEAT that a type 4 record names, with its TLID, in order.
+/// Returns each FEAT that a type 4 record names, with its TLID, in order.
 pub(crate) fn uses_in_order(alloc: Global, names: &[Rec4]) -> Result<Vec<(u64, u32)>, AllocError>
     ensures in_order { IfOk result (λ uses. IsInOrder sequence_cmp uses.items) }
     ensures same { IfOk result (λ uses. IsPermutation (flat_map uses_of names.now) uses.items) }
@@ -34,7 +34,7 @@ pub(crate) fn uses_in_order(alloc: Global, names: &[Rec4]) -> Result<Vec<(u64, u
     Ok(uses)
 }
 
-/// The polygons of the type 8 records, in order.
+/// Returns the polygons of the type 8 records, in order.
 pub(crate) fn linked_polygons(alloc: Global, links: &[Rec8]) -> Result<Vec<PolygonKey>, AllocError>
     ensures in_order { IfOk result (λ keys. IsInOrder key_cmp keys.items) }
     ensures same { IfOk result (λ keys. IsPermutation (map link_key links.now) keys.items) }
@@ -70,7 +70,7 @@ pub(crate) struct Polygons {
     pub(crate) without_side: Option<PolygonKey>,
 }
 
-/// The polygons on sides and of type P records; the type P records must be in order. Usually each polygon of type P is on a side;
+/// Returns the polygons on sides and of type P records; the type P records must be in order. Usually each polygon of type P is on a side;
 /// then the polygons on sides are all of them.
 pub(crate) fn gather_polygons(
     alloc: Global,

@@ -51,7 +51,7 @@ impl Model for LinkedRecords {
 }
 
 impl LinkedRecords {
-    /// The county of the records, which borrows from these tables and from an arena; both outlive it.
+    /// Returns the county of the records, which borrows from these tables and from an arena; both outlive it.
     ///
     /// # Errors
     ///
@@ -76,7 +76,7 @@ impl LinkedRecords {
         build_county(alloc, &mut builder, &self.tables, gathered, names)
     }
 
-    /// The county of the records, with lists of its own.
+    /// Returns the county of the records, with lists of its own.
     ///
     /// # Errors
     ///
@@ -91,7 +91,7 @@ impl LinkedRecords {
         build_county(alloc, &mut builder, &tables, gathered, names)
     }
 
-    /// The county of the records in an arena that outlives it.
+    /// Returns the county of the records in an arena that outlives it.
     ///
     /// # Errors
     ///
@@ -110,7 +110,7 @@ impl LinkedRecords {
         build_county(alloc, &mut builder, &tables, gathered, names)
     }
 
-    /// The least polygon that has a type P record and is on no side of a chain, ordered by the bytes of the CENID and then by
+    /// Returns the least polygon that has a type P record and is on no side of a chain, ordered by the bytes of the CENID and then by
     /// POLYID, or none.
     pub fn polygon_without_chain(&self) -> Option<PolygonKey>
         ensures { IsLeastPassing key_cmp (is_without_chain (county_of (type_after_type self.now))) result }

@@ -50,7 +50,7 @@ pub(crate) fn check_chains(tables: &OrderedTables, tlids: &Tlids) -> Result<(), 
     Ok(())
 }
 
-/// Rule 13: no two records of a chain have the same type and RTSQ. `repeated` are the least repeated keys.
+/// Checks rule 13: no two records of a chain have the same type and RTSQ. `repeated` are the least repeated keys.
 pub(crate) fn check_sequences(repeated: &Repeated) -> Result<(), LinkFault>
     ensures { (records : List Record) → AreLeastRepeated repeated.now (by_type records) →
         MatchResult result (λ _. RulesHold records 5 8) (IsFirstFrom records 5) }
@@ -118,7 +118,7 @@ fn all_named(alloc: Global, names: &[Rec4], feats: &[u32]) -> Result<bool, Alloc
     Ok(names.iter().all(|record| are_named(record, feats, &marks)))
 }
 
-/// The least use, as TLID and FEAT, of a FEAT that isn't in `feats`, which must be in order. Usually there is none, and then no
+/// Returns the least use, as TLID and FEAT, of a FEAT that isn't in `feats`, which must be in order. Usually there is none, and then no
 /// list of uses is made.
 pub(crate) fn unnamed_use(
     alloc: Global,

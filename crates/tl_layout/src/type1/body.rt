@@ -85,13 +85,13 @@ impl Body1 {
         Body1Fields::at(&line)
     }
 
-    /// A byte made from bytes that are less than 64 apart. It has no meaning: reading it brings the whole content into the cache.
+    /// Returns a byte made from bytes that are less than 64 apart. It has no meaning: reading it brings the whole content into the cache.
     pub fn any_byte(&self) -> u8 {
         let bytes = self.columns.as_bytes();
         bytes[0] ^ bytes[58] ^ bytes[116] ^ bytes[174]
     }
 
-    /// The content in columns 16 to 190 of a line.
+    /// Returns the content in columns 16 to 190 of a line.
     #[tactic(auto, using(crate::specs::Laws::Type1ColumnLaws::content_of_line))]
     pub(crate) fn at(line: &[u8]) -> Body1
         requires allowed { AreAllowed line.now }
@@ -225,7 +225,7 @@ impl Body1 {
         })
     }
 
-    /// One-sided chain indicator (SIDE1).
+    /// Returns the one-sided chain indicator (SIDE1).
     pub fn side1(&self) -> [u8; 1]
         ensures value { result ≡ self.now.side1 }
         ensures text { IsText 1 result }
@@ -233,7 +233,7 @@ impl Body1 {
         self.fields().side1.bytes()
     }
 
-    /// Source of the chain (SOURCE).
+    /// Returns the source of the chain (SOURCE).
     pub fn source(&self) -> [u8; 1]
         ensures value { result ≡ self.now.source }
         ensures text { IsText 1 result }
@@ -241,7 +241,7 @@ impl Body1 {
         self.fields().source.bytes()
     }
 
-    /// Direction before the name (FEDIRP).
+    /// Returns the direction before the name (FEDIRP).
     pub fn fedirp(&self) -> [u8; 2]
         ensures value { result ≡ self.now.name.fedirp }
         ensures text { IsText 2 result }
@@ -249,7 +249,7 @@ impl Body1 {
         self.fields().name.fedirp.bytes()
     }
 
-    /// The name itself (FENAME).
+    /// Returns the name itself (FENAME).
     pub fn fename(&self) -> [u8; 30]
         ensures value { result ≡ self.now.name.fename }
         ensures text { IsText 30 result }
@@ -257,7 +257,7 @@ impl Body1 {
         self.fields().name.fename.bytes()
     }
 
-    /// Type of the feature, such as `St` (FETYPE).
+    /// Returns the type of the feature, such as `St` (FETYPE).
     pub fn fetype(&self) -> [u8; 4]
         ensures value { result ≡ self.now.name.fetype }
         ensures text { IsText 4 result }
@@ -265,7 +265,7 @@ impl Body1 {
         self.fields().name.fetype.bytes()
     }
 
-    /// Direction after the name (FEDIRS).
+    /// Returns the direction after the name (FEDIRS).
     pub fn fedirs(&self) -> [u8; 2]
         ensures value { result ≡ self.now.name.fedirs }
         ensures text { IsText 2 result }
@@ -288,7 +288,7 @@ impl Body1 {
         self.fields().ranges
     }
 
-    /// FIPS 55 code of the American Indian, Alaska Native or Hawaiian Home Land area, left (AIANHHFPL).
+    /// Returns the FIPS 55 code of the American Indian, Alaska Native or Hawaiian Home Land area, left (AIANHHFPL).
     pub fn aianhhfpl(&self) -> [u8; 5]
         ensures value { result ≡ self.now.native_areas.aianhhfp.left }
         ensures text { IsText 5 result }
@@ -296,7 +296,7 @@ impl Body1 {
         self.fields().native_areas.aianhhfp.left.bytes()
     }
 
-    /// FIPS 55 code of the American Indian, Alaska Native or Hawaiian Home Land area, right (AIANHHFPR).
+    /// Returns the FIPS 55 code of the American Indian, Alaska Native or Hawaiian Home Land area, right (AIANHHFPR).
     pub fn aianhhfpr(&self) -> [u8; 5]
         ensures value { result ≡ self.now.native_areas.aianhhfp.right }
         ensures text { IsText 5 result }
@@ -304,7 +304,7 @@ impl Body1 {
         self.fields().native_areas.aianhhfp.right.bytes()
     }
 
-    /// Trust land indicator, left (AIHHTLIL).
+    /// Returns the trust land indicator, left (AIHHTLIL).
     pub fn aihhtlil(&self) -> [u8; 1]
         ensures value { result ≡ self.now.native_areas.aihhtli.left }
         ensures text { IsText 1 result }
@@ -312,7 +312,7 @@ impl Body1 {
         self.fields().native_areas.aihhtli.left.bytes()
     }
 
-    /// Trust land indicator, right (AIHHTLIR).
+    /// Returns the trust land indicator, right (AIHHTLIR).
     pub fn aihhtlir(&self) -> [u8; 1]
         ensures value { result ≡ self.now.native_areas.aihhtli.right }
         ensures text { IsText 1 result }
@@ -320,7 +320,7 @@ impl Body1 {
         self.fields().native_areas.aihhtli.right.bytes()
     }
 
-    /// Reserved for the Census Bureau (CENSUS1).
+    /// Returns the field reserved for the Census Bureau (CENSUS1).
     pub fn census1(&self) -> [u8; 1]
         ensures value { result ≡ self.now.census1 }
         ensures text { IsText 1 result }
@@ -328,7 +328,7 @@ impl Body1 {
         self.fields().census1.bytes()
     }
 
-    /// Reserved for the Census Bureau (CENSUS2).
+    /// Returns the field reserved for the Census Bureau (CENSUS2).
     pub fn census2(&self) -> [u8; 1]
         ensures value { result ≡ self.now.census2 }
         ensures text { IsText 1 result }
@@ -336,7 +336,7 @@ impl Body1 {
         self.fields().census2.bytes()
     }
 
-    /// State, left (STATEL).
+    /// Returns the state, left (STATEL).
     pub fn statel(&self) -> [u8; 2]
         ensures value { result ≡ self.now.entities.state.left }
         ensures text { IsText 2 result }
@@ -344,7 +344,7 @@ impl Body1 {
         self.fields().entities.state.left.bytes()
     }
 
-    /// State, right (STATER).
+    /// Returns the state, right (STATER).
     pub fn stater(&self) -> [u8; 2]
         ensures value { result ≡ self.now.entities.state.right }
         ensures text { IsText 2 result }
@@ -352,7 +352,7 @@ impl Body1 {
         self.fields().entities.state.right.bytes()
     }
 
-    /// County, left (COUNTYL).
+    /// Returns the county, left (COUNTYL).
     pub fn countyl(&self) -> [u8; 3]
         ensures value { result ≡ self.now.entities.county.left }
         ensures text { IsText 3 result }
@@ -360,7 +360,7 @@ impl Body1 {
         self.fields().entities.county.left.bytes()
     }
 
-    /// County, right (COUNTYR).
+    /// Returns the county, right (COUNTYR).
     pub fn countyr(&self) -> [u8; 3]
         ensures value { result ≡ self.now.entities.county.right }
         ensures text { IsText 3 result }
@@ -368,7 +368,7 @@ impl Body1 {
         self.fields().entities.county.right.bytes()
     }
 
-    /// County subdivision, left (COUSUBL).
+    /// Returns the county subdivision, left (COUSUBL).
     pub fn cousubl(&self) -> [u8; 5]
         ensures value { result ≡ self.now.entities.cousub.left }
         ensures text { IsText 5 result }
@@ -376,7 +376,7 @@ impl Body1 {
         self.fields().entities.cousub.left.bytes()
     }
 
-    /// County subdivision, right (COUSUBR).
+    /// Returns the county subdivision, right (COUSUBR).
     pub fn cousubr(&self) -> [u8; 5]
         ensures value { result ≡ self.now.entities.cousub.right }
         ensures text { IsText 5 result }
@@ -384,7 +384,7 @@ impl Body1 {
         self.fields().entities.cousub.right.bytes()
     }
 
-    /// Subminor civil division, left (SUBMCDL).
+    /// Returns the subminor civil division, left (SUBMCDL).
     pub fn submcdl(&self) -> [u8; 5]
         ensures value { result ≡ self.now.entities.submcd.left }
         ensures text { IsText 5 result }
@@ -392,7 +392,7 @@ impl Body1 {
         self.fields().entities.submcd.left.bytes()
     }
 
-    /// Subminor civil division, right (SUBMCDR).
+    /// Returns the subminor civil division, right (SUBMCDR).
     pub fn submcdr(&self) -> [u8; 5]
         ensures value { result ≡ self.now.entities.submcd.right }
         ensures text { IsText 5 result }
@@ -400,7 +400,7 @@ impl Body1 {
         self.fields().entities.submcd.right.bytes()
     }
 
-    /// Place, left (PLACEL).
+    /// Returns the place, left (PLACEL).
     pub fn placel(&self) -> [u8; 5]
         ensures value { result ≡ self.now.entities.place.left }
         ensures text { IsText 5 result }
@@ -408,7 +408,7 @@ impl Body1 {
         self.fields().entities.place.left.bytes()
     }
 
-    /// Place, right (PLACER).
+    /// Returns the place, right (PLACER).
     pub fn placer(&self) -> [u8; 5]
         ensures value { result ≡ self.now.entities.place.right }
         ensures text { IsText 5 result }

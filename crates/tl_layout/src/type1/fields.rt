@@ -123,7 +123,7 @@ impl GeographicEntities {
 }
 
 impl Body1Fields {
-    /// The fields in columns 16 to 190 of a line.
+    /// Returns the fields in columns 16 to 190 of a line.
     pub(crate) fn at(line: &[u8]) -> Body1Fields
         requires allowed { AreAllowed line.now }
         requires within { 190 ≤ length line.now }

@@ -15,7 +15,7 @@ use tl_number::{CanonCounty, admitted_masked, canonise_alone};
 use tl_profile::Admitted;
 use tl_write::{CountedOut, write_to};
 
-/// The canonical text of this county.
+/// Returns the canonical text of this county.
 pub(crate) fn text_of_admitted<C: Chart + Drop>(rt: &impl Host, admitted: Admitted<C>) -> Vec<u8> {
     let county = canonise_alone(rt.alloc(), admitted).expect(rt, "there is memory");
     let mut sink = CountedOut::new(Vec::new(rt.alloc()));

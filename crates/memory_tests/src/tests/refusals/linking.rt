@@ -24,7 +24,7 @@ impl<R: Host> Call<R> for TablesOf {
     }
 }
 
-/// The records of a set in tables.
+/// Returns the records of a set in tables.
 pub(super) fn tables_of(rt: &impl Host, set: &Set<'_>) -> Tables
     ensures { HoldsWithinLimits result }
 {
@@ -39,7 +39,7 @@ fn standstill(rt: &impl Host, set: &Set<'_>) -> Renaming {
     reported.1.then(&back).expect(rt, set.row)
 }
 
-/// Whether the renaming carries the set's county onto this one.
+/// Checks whether the renaming carries the set's county onto this one.
 pub(super) fn carries_onto<C: Chart>(
     rt: &impl Host,
     set: &Set<'_>,
@@ -52,7 +52,7 @@ pub(super) fn carries_onto<C: Chart>(
     carried
 }
 
-/// Whether the county is the set's, number by number.
+/// Checks whether the county is the set's, number by number.
 pub(super) fn is_of_set<C: Chart>(
     rt: &impl Host,
     set: &Set<'_>,
