@@ -65,7 +65,7 @@ pub(crate) fn old_place(places: &[u32], place: usize) -> Option<usize>
 }
 
 impl<C: Chart, S: Evidence> Arranged<C, S> {
-    /// The directed chain at a place in the new order, or `None` past the last one.
+    /// Returns the directed chain at a place in the new order, or `None` past the last one.
     fn directed_at(&self, place: usize) -> Option<DirectedChain>
         ensures { result ≡ slice_get self.now.arrangement.items place }
     {
@@ -96,8 +96,8 @@ impl<C: Chart, S: Evidence> Arranged<C, S> {
         new_feat(&self.names.feats, feat)
     }
 
-    /// The content of the type P record of the polygon at a place in the order of the new numbers, if it has one. If all
-    /// polygons have the same CENID, it is at that place in the order of the new keys too, and isn't searched.
+    /// Returns the content of the type P record of the polygon at a place in the order of the new numbers, if it has one. If all polygons
+    /// have the same CENID, it is at that place in the order of the new keys too, and isn't searched.
     fn polygon_body_at_number(&self, place: usize, old: PolygonKey) -> Option<BodyP>
         requires { slice_get self.now.polygons.numbers place ≡ Some old }
         ensures { result ≡ option_and_then (λ body. body) (polygon_under (C.county self.now.chart) old) }

@@ -14,7 +14,7 @@ use county_chart::{Chart, Listed, PolygonKey};
 use ordered_lists::place_of;
 use tl_layout::{Body1, Body5, Body7, BodyI, BodyP, Point, Ranges, Rec8, Side};
 
-/// The number at a place, of `_count` places. Places count from 0, numbers from 1.
+/// Returns the number at a place, of `_count` places. Places count from 0, numbers from 1.
 fn number_of_place(_count: usize, place: usize) -> u64
     requires { place < _count }
     ensures { Some result ≡ slice_get (up_to _count) place }

@@ -22,7 +22,7 @@ use std::marker::PhantomData;
 /// The tables of a county in an arrangement, for its nodes, polygons, names and landmarks.
 type AllTables = (NodeTables, PolygonTables, NameTables, LandmarkTables);
 
-/// The names and the landmarks of a county in this arrangement, with its polygons by first appearance.
+/// Returns the names and the landmarks of a county in this arrangement, with its polygons by first appearance.
 fn arrange_names_and_landmarks<C: Chart>(
     alloc: Global,
     classes: &Classes<'_, C>,
@@ -42,7 +42,7 @@ fn arrange_names_and_landmarks<C: Chart>(
     Ok((names, landmarks))
 }
 
-/// All tables of a county in this arrangement.
+/// Returns all tables of a county in this arrangement.
 fn arrange_tables<C: Chart>(
     alloc: Global,
     classes: &Classes<'_, C>,
@@ -59,7 +59,7 @@ fn arrange_tables<C: Chart>(
     Ok((nodes, polygons, names, landmarks))
 }
 
-/// A county in this arrangement, with all tables.
+/// Returns a county in this arrangement, with all tables.
 fn with_tables<C: Chart + Drop>(
     chart: C,
     arrangement: Vec<DirectedChain>,
@@ -110,7 +110,7 @@ pub fn arrange_in_classes<C: Chart, D: Chart + Drop>(
     Ok(with_tables(chart, arrangement, tables))
 }
 
-/// All tables of a county in this arrangement. Its names and landmarks are put into classes for this only.
+/// Returns all tables of a county in this arrangement. Its names and landmarks are put into classes for this only.
 fn tables_of<C: Chart>(
     alloc: Global,
     chart: &C,

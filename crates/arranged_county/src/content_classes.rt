@@ -49,7 +49,7 @@ pub(crate) fn all_places<T: Contents>(alloc: Global, contents: &T) -> Result<Vec
     (0..contents.count()).collect(alloc)
 }
 
-/// All places, in the order of their contents.
+/// Returns all places, in the order of their contents.
 fn places_by_content<T: Contents>(alloc: Global, contents: &T) -> Result<Vec<u32>, AllocError>
     ensures permutation { IfOk result (λ places. IsPermutation (range_with_len 0 (T.places contents.now)) places.items) }
     ensures in_order { IfOk result (λ places. IsInOrder (T.order contents.now) places.items) }
@@ -59,7 +59,7 @@ fn places_by_content<T: Contents>(alloc: Global, contents: &T) -> Result<Vec<u32
     Ok(places)
 }
 
-/// The class of the place after this one, if there is one: the same class if it has the same content, else the next class.
+/// Returns the class of the place after this one, if there is one: the same class if it has the same content, else the next class.
 fn next_class<T: Contents>(contents: &T, class: u32, place: u32, later: &[u32]) -> u32
     requires { class + 1 < 2 ^ 32 }
     ensures class { result ≡ class_after (T.order contents.now) class place later.now }
@@ -77,7 +77,7 @@ fn next_class<T: Contents>(contents: &T, class: u32, place: u32, later: &[u32]) 
     }
 }
 
-/// Places that are in the order of their contents, each with its class.
+/// Returns places that are in the order of their contents, each with its class.
 fn with_classes<T: Contents>(
     alloc: Global,
     contents: &T,
@@ -97,7 +97,7 @@ fn with_classes<T: Contents>(
     Ok(classed)
 }
 
-/// All places with their classes, in the order of their contents.
+/// Returns all places with their classes, in the order of their contents.
 fn classes_in<T: Contents>(alloc: Global, contents: &T) -> Result<Vec<ClassedPlace>, AllocError>
     requires { T.places contents.now < 2 ^ 32 }
     ensures { IfOk result (λ classed. AreClasses (T.places contents.now) (T.order contents.now) classed.items) }

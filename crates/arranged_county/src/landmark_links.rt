@@ -26,7 +26,7 @@ struct NewOrder<'a> {
     ghost few_lands: { length lands.now < 10 ^ 10 },
 }
 
-/// A link with the new numbers of its polygon and its landmark.
+/// Returns a link with the new numbers of its polygon and its landmark.
 fn renumbered_link(order: &NewOrder<'_>, link: &Rec8) -> Rec8
     ensures { result ≡ link_under order.now.polygons.now order.now.lands.now link.now }
 {
@@ -36,7 +36,7 @@ fn renumbered_link(order: &NewOrder<'_>, link: &Rec8) -> Rec8
     Rec8::new(link.file(), cenid, key.1, land)
 }
 
-/// A number that is in the order of links by LAND and POLYID, unless it overflows. POLYIDs are up to `polygons`.
+/// Returns a number that is in the order of links by LAND and POLYID, unless it overflows. POLYIDs are up to `polygons`.
 fn near_number(link: &Rec8, polygons: u64) -> u64 {
     let lands = link.land().wrapping_mul(polygons.wrapping_add(1));
     lands.wrapping_add(link.polyid())
@@ -58,7 +58,7 @@ fn push_links<C: Chart>(
     links.extend(own.map(|link| renumbered_link(order, &link)))
 }
 
-/// The links of the landmarks at places with their new numbers, landmark after landmark.
+/// Returns the links of the landmarks at places with their new numbers, landmark after landmark.
 fn gather_links<C: Chart>(
     alloc: Global,
     chart: &C,

@@ -22,7 +22,7 @@ use tl_layout::Rec8;
 /// The fields of a link without its LAND in the order of comparison: POLYID, CENID, FILE.
 type LinkBytes = (u64, ([u8; 5], [u8; 5]));
 
-/// The fields of a link in the order of comparison.
+/// Returns the fields of a link in the order of comparison.
 fn bytes_of_link(link: &Rec8) -> LinkBytes
     ensures { result ≡ (link.now.polyid, (link.now.cenid, link.now.file)) }
 {
@@ -80,14 +80,14 @@ pub(crate) fn lands_there<C: Chart>(
         .collect(alloc)
 }
 
-/// The places of landmarks, one after another.
+/// Returns the places of landmarks, one after another.
 fn places_of(alloc: Global, landmarks: &[ClassedPlace]) -> Result<Vec<u32>, AllocError>
     ensures { IfOk result (λ places. places.items ≡ map classed_place landmarks.now) }
 {
     landmarks.iter().map(|landmark| landmark.1).collect(alloc)
 }
 
-/// The places of landmarks, given their classes and their places, in their new order.
+/// Returns the places of landmarks, given their classes and their places, in their new order.
 fn sorted_places(
     alloc: Global,
     landmarks: &[ClassedPlace],
@@ -100,7 +100,7 @@ fn sorted_places(
     places_of(alloc, &sorted)
 }
 
-/// The links of a county with its landmarks in the order of these places, and how many have a LAND up to each of 0, 1, 2, ..
+/// Returns the links of a county with its landmarks in the order of these places, and how many have a LAND up to each of 0, 1, 2, ..
 fn links_by_land<C: Chart>(
     alloc: Global,
     chart: &C,
@@ -125,7 +125,7 @@ fn links_by_land<C: Chart>(
     Ok((links, bounds))
 }
 
-/// The places of the landmarks of a county in their new order, with these numbers of its polygons.
+/// Returns the places of the landmarks of a county in their new order, with these numbers of its polygons.
 fn places_in_order<C: Chart>(
     alloc: Global,
     classes: &Classes<'_, C>,

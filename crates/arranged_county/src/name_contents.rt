@@ -12,7 +12,7 @@ use tl_layout::Body5;
 /// The 43 bytes of a name, field by field: FILE, FEDIRP, FENAME, FETYPE, FEDIRS.
 type NameBytes = ([u8; 5], ([u8; 2], ([u8; 30], ([u8; 4], [u8; 2]))));
 
-/// The fields of a name in the order of comparison.
+/// Returns the fields of a name in the order of comparison.
 fn bytes_of(body: &Body5) -> NameBytes
     ensures { result ≡ (body.now.file, (body.now.name.fedirp, (body.now.name.fename, (body.now.name.fetype, body.now.name.fedirs)))) }
 {

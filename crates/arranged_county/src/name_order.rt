@@ -23,7 +23,7 @@ use std::alloc::{AllocError, Global};
 /// of FEATs, counted from 0.
 type NameKey = (u32, (u64, u32));
 
-/// The FEATs that chains list, in the order of their first appearance along these directed chains.
+/// Returns the FEATs that chains list, in the order of their first appearance along these directed chains.
 fn number_uses<C: Chart>(
     alloc: Global,
     chart: &C,
@@ -40,7 +40,7 @@ fn number_uses<C: Chart>(
     Ok(feats)
 }
 
-/// The number of a name by its first use, counted from 1, or 0 if no chain uses it.
+/// Returns the number of a name by its first use, counted from 1, or 0 if no chain uses it.
 fn rank(uses: &Interner<u32>, feat: Option<u32>) -> usize
     ensures { result ≡ rank_of uses.now feat }
 {
@@ -53,7 +53,7 @@ fn rank(uses: &Interner<u32>, feat: Option<u32>) -> usize
     }
 }
 
-/// The key of a name, given its class and its place.
+/// Returns the key of a name, given its class and its place.
 fn name_key<C: Chart>(chart: &C, uses: &Interner<u32>, classed: ClassedPlace) -> NameKey
     ensures { result ≡ name_key_at (C.county chart.now) uses.now classed }
 {
@@ -64,7 +64,7 @@ fn name_key<C: Chart>(chart: &C, uses: &Interner<u32>, classed: ClassedPlace) ->
     )
 }
 
-/// The keys of names, given their classes and their places.
+/// Returns the keys of names, given their classes and their places.
 fn name_keys<C: Chart>(
     alloc: Global,
     chart: &C,
@@ -79,7 +79,7 @@ fn name_keys<C: Chart>(
         .collect(alloc)
 }
 
-/// A number that is in the order of the keys of names, unless it overflows. Ranks are less than `ranks`.
+/// Returns a number that is in the order of the keys of names, unless it overflows. Ranks are less than `ranks`.
 fn near_number(key: NameKey, ranks: u64) -> u64 {
     let (class, (rank, _)) = key;
     u64::from(class).wrapping_mul(ranks).wrapping_add(rank)
@@ -96,14 +96,14 @@ fn bring_close_by_rank(alloc: Global, keys: &mut Vec<NameKey>, ranks: u64) -> Re
     bring_close(keys, numbers)
 }
 
-/// The places of names, one after another.
+/// Returns the places of names, one after another.
 fn places_of(alloc: Global, keys: &[NameKey]) -> Result<Vec<u32>, AllocError>
     ensures { IfOk result (λ places. places.items ≡ map (λ key. key.1.1) keys.now) }
 {
     keys.iter().map(|key| key.1.1).collect(alloc)
 }
 
-/// The places of names in the order of their keys. Ranks are less than `ranks`.
+/// Returns the places of names in the order of their keys. Ranks are less than `ranks`.
 fn sorted_places(alloc: Global, keys: Vec<NameKey>, ranks: u64) -> Result<Vec<u32>, AllocError>
     ensures { IfOk result (λ places. AreSortedNames keys.items places.items) }
 {
@@ -113,7 +113,7 @@ fn sorted_places(alloc: Global, keys: Vec<NameKey>, ranks: u64) -> Result<Vec<u3
     places_of(alloc, &keys)
 }
 
-/// The FEATs at places, one after another.
+/// Returns the FEATs at places, one after another.
 fn feats_there<C: Chart>(alloc: Global, chart: &C, places: &[u32]) -> Result<Vec<u32>, AllocError>
     ensures { IfOk result (λ numbers. numbers.items ≡ filter_map (slice_get (feats (C.county chart.now))) places.now) }
 {
@@ -123,7 +123,7 @@ fn feats_there<C: Chart>(alloc: Global, chart: &C, places: &[u32]) -> Result<Vec
         .collect(alloc)
 }
 
-/// The places of the names of a county in their new order.
+/// Returns the places of the names of a county in their new order.
 fn places_in_order<C: Chart>(
     alloc: Global,
     classes: &Classes<'_, C>,

@@ -15,7 +15,7 @@ use county_chart::{Chart, DirectedChain, PolygonKey};
 use renamings::Renaming;
 use std::alloc::{AllocError, Global};
 
-/// Numbers, each with its place, counted from 1.
+/// Pairs each number with its place, counted from 1.
 fn number_all(alloc: Global, olds: &[u64]) -> Result<Vec<(u64, u64)>, AllocError>
     ensures { IfOk result (λ pairs. pairs.items ≡ numbered olds.now) }
 {
@@ -39,7 +39,7 @@ fn tlids_of<C: Chart>(
         .collect(alloc)
 }
 
-/// The TLIDs of the chains that the arrangement turns.
+/// Returns the TLIDs of the chains that the arrangement turns.
 fn turned_chains<C: Chart>(
     alloc: Global,
     chart: &C,
@@ -55,7 +55,7 @@ fn turned_chains<C: Chart>(
         .collect(alloc)
 }
 
-/// FEATs, each with its number, counted from 1.
+/// Pairs each FEAT with its number, counted from 1.
 fn name_pairs(alloc: Global, feats: &[u32]) -> Result<Vec<(u32, u32)>, AllocError>
     requires { length feats.now < 2 ^ 32 }
     ensures { IfOk result (λ pairs. pairs.items ≡ numbered feats.now) }
@@ -67,7 +67,7 @@ fn name_pairs(alloc: Global, feats: &[u32]) -> Result<Vec<(u32, u32)>, AllocErro
         .collect(alloc)
 }
 
-/// A polygon's key with its new key, which has the same CENID.
+/// Returns a polygon's key with its new key, which has the same CENID.
 fn polygon_pair(key: PolygonKey, number: u64) -> (PolygonKey, PolygonKey)
     ensures { result ≡ under_cenid (key, number) }
 {
@@ -75,7 +75,7 @@ fn polygon_pair(key: PolygonKey, number: u64) -> (PolygonKey, PolygonKey)
     (key, (cenid, number))
 }
 
-/// Polygons in the order of their new numbers, each with its new key.
+/// Returns polygons in the order of their new numbers, each with its new key.
 fn polygon_pairs(
     alloc: Global,
     polygons: &[PolygonKey],
@@ -90,7 +90,7 @@ fn polygon_pairs(
         .collect(alloc)
 }
 
-/// The LANDs of the landmarks at these places, each with the new one.
+/// Returns the LANDs of the landmarks at these places, each with the new one.
 fn land_pairs<C: Chart>(
     alloc: Global,
     chart: &C,
@@ -104,7 +104,7 @@ fn land_pairs<C: Chart>(
 }
 
 impl<C: Chart, S: Evidence> Arranged<C, S> {
-    /// The pairs of polygons and the pairs of landmarks: each old number with the new one, in the order of the new ones.
+    /// Returns the pairs of polygons and the pairs of landmarks: each old number with the new one, in the order of the new ones.
     fn place_pairs(
         &self,
         alloc: Global,
@@ -119,8 +119,7 @@ impl<C: Chart, S: Evidence> Arranged<C, S> {
         Ok((polygons, lands))
     }
 
-    /// The pairs of chains: each old TLID with the new one, in the order of the new ones. Also the old TLIDs of the turned
-    /// chains.
+    /// Returns the pairs of chains: each old TLID with the new one, in the order of the new ones. Also the old TLIDs of the turned chains.
     fn tlid_pairs(&self, alloc: Global) -> Result<(Vec<(u64, u64)>, Vec<u64>), AllocError>
         ensures chains { IfOk result (λ stated. stated.0.items ≡
             (renaming_of (C.county self.now.chart) (arrangement_of (C.county self.now.chart) self.now.arrangement.items)).chains) }

@@ -128,7 +128,7 @@ impl<K: Key + Hash + NumericKey> Listed for Interner<K> {
     }
 }
 
-/// The slot of a number in a table of marks of this length, or the number itself if there is no slot.
+/// Returns the slot of a number in a table of marks of this length, or the number itself if there is no slot.
 #[inline(always)]
 fn slot_of(len: usize, number: u64) -> usize
     ensures { result ≡ number % len }
@@ -141,7 +141,7 @@ fn slot_of(len: usize, number: u64) -> usize
     }
 }
 
-/// The mark in a slot, or 0 if it has none.
+/// Returns the mark in a slot, or 0 if it has none.
 #[inline(always)]
 fn mark_at(marks: &[u32], slot: usize) -> u32
     ensures { result ≡ slice_index marks.now slot }
@@ -152,7 +152,7 @@ fn mark_at(marks: &[u32], slot: usize) -> u32
     }
 }
 
-/// Whether a slot is there, and has no mark.
+/// Checks whether a slot is there, and has no mark.
 #[inline(always)]
 fn is_free(marks: &[u32], slot: usize) -> bool
     ensures within { IsTrue result → slot < length marks.now }
@@ -174,8 +174,7 @@ pub(crate) fn is_at<K: Key>(keys: &[K], place: usize, key: K) -> bool
     }
 }
 
-/// The place of a key without a mark, counted from 0, or `None` if there is none. Not inlined, because nearly all keys have a
-/// mark.
+/// Returns the place of a key without a mark, counted from 0, or `None` if there is none. Not inlined, because nearly all keys have a mark.
 #[inline(never)]
 fn place_among<K: Key + Hash>(keys: &[K], others: &OtherPlaces<K>, key: K) -> Option<usize>
     ensures found { IfSome result (λ place. slice_get keys.now place ≡ Some key) }
@@ -187,7 +186,7 @@ fn place_among<K: Key + Hash>(keys: &[K], others: &OtherPlaces<K>, key: K) -> Op
     }
 }
 
-/// The place of a key, counted from 0, or `None` if it isn't one of the keys.
+/// Returns the place of a key, counted from 0, or `None` if it isn't one of the keys.
 #[inline(always)]
 fn place_of_key<K: Key + Hash + NumericKey>(
     keys: &[K],

@@ -24,7 +24,7 @@ pub(crate) struct OtherPlaces<K: Key + Hash> {
     pub(crate) many: BTreeMap<K, usize>,
 }
 
-/// Whether a key isn't among those in order.
+/// Checks whether a key isn't among those in order.
 fn is_absent<K: Key>(many: &BTreeMap<K, usize>, key: K) -> bool
     ensures { IsTrue result → found_in_order K.cmp many.now key ≡ None }
 {

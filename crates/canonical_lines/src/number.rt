@@ -8,7 +8,7 @@ ghost use Rattle.tl_layout.specs.{NumberField.is_digit, NumberReading.drop_blank
 use std::simd::prelude::*;
 use tl_layout::trim_start;
 
-/// Whether each of the bytes is a digit.
+/// Checks whether each of the bytes is a digit.
 #[inline(always)]
 fn are_digits(bytes: &[u8]) -> bool
     ensures { result ≡ list_all is_digit bytes.now }
@@ -16,7 +16,7 @@ fn are_digits(bytes: &[u8]) -> bool
     bytes.iter().all(|byte| *byte >= b'0' && *byte <= b'9')
 }
 
-/// Whether the bytes are one digit or more, the first of them not a zero.
+/// Checks whether the bytes are one digit or more, the first of them not a zero.
 #[inline(always)]
 fn is_numeral(bytes: &[u8]) -> bool
     ensures { IsTrue result → IsNumeral bytes.now }
@@ -27,8 +27,8 @@ fn is_numeral(bytes: &[u8]) -> bool
     }
 }
 
-/// Whether eight bytes are blanks and then digits without leading zeros, or only blanks. Each bit of a mask belongs to a byte,
-/// the lowest one to the first.
+/// Checks whether eight bytes are blanks and then digits without leading zeros, or only blanks. Each bit of a mask belongs to a byte, the
+/// lowest one to the first.
 #[inline(always)]
 fn is_right_justified(bytes: u8x8) -> bool
     ensures { IsTrue result → IsNumeralOrNone (drop_blanks bytes) }
@@ -44,7 +44,7 @@ fn is_right_justified(bytes: u8x8) -> bool
     blanks & (blanks + 1) == 0 && zeros & (blanks + 1) == 0
 }
 
-/// Whether the columns hold blanks and then digits without leading zeros, or only blanks.
+/// Checks whether the columns hold blanks and then digits without leading zeros, or only blanks.
 #[inline(always)]
 fn is_plain(columns: &[u8]) -> bool
     ensures { IsTrue result → IsNumberOrNoneText columns.now }
@@ -55,8 +55,7 @@ fn is_plain(columns: &[u8]) -> bool
     }
 }
 
-/// Whether the columns hold the canonical text of a number, or only blanks. At the usual widths, eight columns are tested at
-/// once.
+/// Checks whether the columns hold the canonical text of a number, or only blanks. At the usual widths, eight columns are tested at once.
 #[inline(always)]
 fn is_number_or_none(columns: &[u8]) -> bool
     ensures { IsTrue result → IsNumberOrNoneText columns.now }

@@ -28,12 +28,12 @@ pub(crate) trait LinePlaces {
 
     ghost WIDTH: { ℕ };
 
-    /// Whether the columns hold the canonical text of an unused place.
+    /// Checks whether the columns hold the canonical text of an unused place.
     fn is_unused(columns: &[u8]) -> bool
         requires { length columns.now ≡ WIDTH }
         ensures { IsTrue result → columns.now ≡ text None };
 
-    /// Whether the columns hold the canonical text of a used place.
+    /// Checks whether the columns hold the canonical text of a used place.
     fn is_used(columns: &[u8]) -> bool
         requires { length columns.now ≡ WIDTH }
         ensures { IsTrue result → IsUsedText Fits text columns.now };

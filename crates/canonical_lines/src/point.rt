@@ -10,7 +10,7 @@ use tl_layout::{are_digits, is_blank};
 /// The text of an unused place: a pair of zeros.
 const UNUSED: [u8; 19] = *b"+000000000+00000000";
 
-/// Whether a canonical coordinate can have this sign before these digits: a plus, or a minus unless the digits are zeros.
+/// Checks whether a canonical coordinate can have this sign before these digits: a plus, or a minus unless the digits are zeros.
 #[inline(always)]
 fn is_sign(sign: u8, digits: &[u8], zeros: &[u8]) -> bool
     ensures { IsTrue result → (sign ≡ 43) ⊎ ((sign ≡ 45) × (digits.now ≡ zeros.now → ⊥)) }
@@ -18,7 +18,7 @@ fn is_sign(sign: u8, digits: &[u8], zeros: &[u8]) -> bool
     sign == b'+' || sign == b'-' && digits != zeros
 }
 
-/// Whether the columns hold the canonical text of a longitude.
+/// Checks whether the columns hold the canonical text of a longitude.
 #[inline(always)]
 fn is_longitude(columns: &[u8]) -> bool
     requires { length columns.now ≡ 10 }
@@ -31,7 +31,7 @@ fn is_longitude(columns: &[u8]) -> bool
     }
 }
 
-/// Whether the columns hold the canonical text of a latitude.
+/// Checks whether the columns hold the canonical text of a latitude.
 #[inline(always)]
 fn is_latitude(columns: &[u8]) -> bool
     requires { length columns.now ≡ 9 }

@@ -12,8 +12,8 @@ use arranged_county::CanonCounty;
 use county_chart::Chart;
 use record_groups::{HeadBuffers, LandmarkRecords, NameRecords, are_same_groups, have_same_chains};
 
-/// Whether two counties have the same records for each name, each landmark and each polygon. The heads are read into the
-/// caller's buffers.
+/// Checks whether two counties have the same records for each name, each landmark and each polygon. The heads are read into the caller's
+/// buffers.
 fn have_same_entries<A: Chart, B: Chart>(
     a: &CanonCounty<A>,
     b: &CanonCounty<B>,
@@ -45,7 +45,7 @@ fn have_same_entries<A: Chart, B: Chart>(
     )
 }
 
-/// Whether two canonical counties have the same records for each chain, each name, each landmark and each polygon.
+/// Checks whether two canonical counties have the same records for each chain, each name, each landmark and each polygon.
 fn have_same_groups<A: Chart, B: Chart>(a: &CanonCounty<A>, b: &CanonCounty<B>) -> bool
     ensures { Decides result ((HaveSameCounts (arranged_county a.now) (arranged_county b.now) × HaveSameChains (arranged_county a.now) (arranged_county b.now)) × HaveSameEntries (arranged_county a.now) (arranged_county b.now)) }
 {

@@ -84,7 +84,7 @@ fn masked<'a>(alloc: Global, command: Command<'a>) -> Result<Command<'a>, AllocE
     ))
 }
 
-/// A required argument that names a set.
+/// Returns a required argument that names a set.
 fn set<'a>(alloc: Global, id: &'a str, shown: &'a str, help: &'a str) -> Arg<'a>
     ensures rule { rule_of result ≡ set_argument id.entry.now }
     ensures local { result.global ≡ false }
@@ -96,7 +96,7 @@ fn set<'a>(alloc: Global, id: &'a str, shown: &'a str, help: &'a str) -> Arg<'a>
         .help(help)
 }
 
-/// A subcommand with an argument that names a set, which the help shows as `shown`.
+/// Returns a subcommand with an argument that names a set, which the help shows as `shown`.
 fn over_one_set<'a>(
     alloc: Global,
     name: &'a str,
@@ -134,7 +134,7 @@ fn compare<'a>(alloc: Global) -> Result<Command<'a>, AllocError>
     masked(alloc, of_two)
 }
 
-/// The program without its subcommands.
+/// Returns the program without its subcommands.
 fn program<'a>(alloc: Global) -> Result<Command<'a>, AllocError>
     ensures { IfOk result (λ c. app_of c ≡ program_alone) }
 {

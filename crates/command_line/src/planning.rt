@@ -46,7 +46,7 @@ fn usage_text(alloc: Global) -> Result<String, AllocError> {
     command.render_usage()
 }
 
-/// The fault with the program's usage message.
+/// Returns the fault with the program's usage message.
 fn usage(alloc: Global) -> PlanFault {
     match usage_text(alloc) {
         Ok(text) => PlanFault::Usage(text),
@@ -54,7 +54,7 @@ fn usage(alloc: Global) -> PlanFault {
     }
 }
 
-/// The file names of the set that this argument names.
+/// Returns the file names of the set that this argument names.
 fn files_given(
     alloc: Global,
     given: &ArgMatches<'_>,
@@ -71,7 +71,7 @@ fn files_given(
     }
 }
 
-/// The file names of a second set, if the job has one.
+/// Returns the file names of a second set, if the job has one.
 fn second_files_given(
     alloc: Global,
     job: Job,
@@ -88,7 +88,7 @@ fn second_files_given(
     }
 }
 
-/// The fields that the arguments leave out.
+/// Returns the fields that the arguments leave out.
 fn mask_given(given: &ArgMatches<'_>) -> Mask
     ensures { IsMaskGiven (rows_of (found_of given.now)) result }
 {
@@ -98,7 +98,7 @@ fn mask_given(given: &ArgMatches<'_>) -> Mask
     }
 }
 
-/// The plan to do a job for the sets that the arguments name.
+/// Returns the plan to do a job for the sets that the arguments name.
 fn plan_of(alloc: Global, job: Job, given: &ArgMatches<'_>) -> Result<Plan, PlanFault>
     ensures job { IfOk result (λ p. p.job ≡ job) }
     ensures sets { IfOk result (NamesItsSets (rows_of (found_of given.now))) }
@@ -114,7 +114,7 @@ fn plan_of(alloc: Global, job: Job, given: &ArgMatches<'_>) -> Result<Plan, Plan
     })
 }
 
-/// The plan that parsed arguments ask for.
+/// Returns the plan that parsed arguments ask for.
 fn plan_in(alloc: Global, matches: &ArgMatches<'_>) -> Result<Plan, PlanFault>
     ensures planned { IfOk result (IsPlanOf (subcommand_rows_of matches.now)) }
     ensures usage { (p : Plan) → IsPlanOf (subcommand_rows_of matches.now) p → IfErr result (λ fault. fault ≡ PlanFault.Memory) }

@@ -9,7 +9,7 @@ use tl_layout::{Body7, Point};
 /// The fields of a landmark's content in the order of comparison: FILE, SOURCE, CFCC, LANAME, the point.
 type LandmarkFields = ([u8; 5], ([u8; 1], ([u8; 3], ([u8; 30], Option<Point>))));
 
-/// The fields of a landmark's content, in the order of comparison.
+/// Returns the fields of a landmark's content, in the order of comparison.
 fn landmark_fields(body: &Body7) -> LandmarkFields
     ensures { result ≡ (body.now.file, (body.now.source, (body.now.cfcc, (body.now.laname, body.now.point)))) }
 {

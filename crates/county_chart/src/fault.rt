@@ -188,14 +188,14 @@ impl fmt::Display for LinkFault {
     }
 }
 
-/// A fault with one number as its place.
+/// Returns a fault with one number as its place.
 fn at_number(kind: FaultKind, number: u64) -> FaultReport
     ensures { result ≡ at kind (Number number) }
 {
     FaultReport::at(kind, FaultPlace::Number(number))
 }
 
-/// A fault with a record type and a TLID as its places.
+/// Returns a fault with a record type and a TLID as its places.
 fn at_type(kind: FaultKind, rtype: LinkedType, tlid: u64) -> FaultReport
     ensures { result ≡ at_type kind rtype tlid }
 {
@@ -206,7 +206,7 @@ fn at_type(kind: FaultKind, rtype: LinkedType, tlid: u64) -> FaultReport
     )
 }
 
-/// A fault with a polygon as its places.
+/// Returns a fault with a polygon as its places.
 fn at_polygon(kind: FaultKind, cenid: [u8; 5], polyid: u64) -> FaultReport
     ensures { result ≡ at_polygon kind cenid polyid }
 {

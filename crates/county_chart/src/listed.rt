@@ -77,7 +77,7 @@ impl Same for Body5 {
     }
 }
 
-/// Whether two contents of type 7 records are equal.
+/// Checks whether two contents of type 7 records are equal.
 fn are_same_contents(one: &Body7, other: &Body7) -> bool
     ensures { Decides result (one.now ≡ other.now) }
 {

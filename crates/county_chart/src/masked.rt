@@ -24,7 +24,7 @@ pub struct Masked<C: Chart> {
     ghost stated: { MatchesBodies mask (C.county chart) bodies } by { MatchesBodies-prop mask (C.county chart) bodies },
 }
 
-/// A content under a mask.
+/// Returns a content under a mask.
 fn content_masked<B: Blank + Copy>(content: B, mask: Mask) -> B
     ensures { result ≡ B.masked mask content }
 {

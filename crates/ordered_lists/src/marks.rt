@@ -10,7 +10,7 @@ use std::alloc::{AllocError, Global};
 /// The most places for marks per number of a list.
 const PLACES_EACH: usize = 8;
 
-/// The number of places for marks that a list in order gets: one for each number up to its greatest, but at most 8 per element.
+/// Returns the number of places for marks that a list in order gets: one for each number up to its greatest, but at most 8 per element.
 fn places_for(numbers: &[u32]) -> usize
     ensures { result ≤ 8 * length numbers.now }
 {

@@ -27,7 +27,7 @@ pub fn sequence_number(place: usize) -> u16
     place as u16 + 1
 }
 
-/// The TLID of the chain at a place. It has at most 10 digits, and isn't 0.
+/// Returns the TLID of the chain at a place. It has at most 10 digits, and isn't 0.
 fn chain_tlid<C: Chart>(chart: &C, place: usize) -> u64
     requires { place < length (C.county chart.now).chains }
     ensures tlid { Some result ≡ slice_get (tlids (C.county chart.now)) place }

@@ -14,7 +14,7 @@ pub trait RecordEq: Tabled {
         ensures { Decides result (self.now ≡ other.now) };
 }
 
-/// Whether two contents of type 1 records are the same.
+/// Checks whether two contents of type 1 records are the same.
 fn is_same_content(a: &Body1, b: &Body1) -> bool
     ensures { Decides result (a.now ≡ b.now) }
 {
@@ -30,7 +30,7 @@ impl RecordEq for Rec1 {
     }
 }
 
-/// Whether two lists have the same points.
+/// Checks whether two lists have the same points.
 fn have_same_points(a: &[Point], b: &[Point]) -> bool
     ensures { Decides result (a.now ≡ b.now) }
 {
@@ -75,14 +75,14 @@ impl RecordEq for Rec8 {
     }
 }
 
-/// Whether two contents of type I records are the same.
+/// Checks whether two contents of type I records are the same.
 fn is_same_topology_content(a: &BodyI, b: &BodyI) -> bool
     ensures { Decides result (a.now ≡ b.now) }
 {
     a == b
 }
 
-/// Whether two sides are the same.
+/// Checks whether two sides are the same.
 fn is_same_side(a: &Side, b: &Side) -> bool
     ensures { Decides result (a.now ≡ b.now) }
 {

@@ -13,7 +13,7 @@ use county_chart::Chart;
 use std::marker::PhantomData;
 use tl_layout::{Rec2, Rec4, Rec6};
 
-/// Whether a record of a group is the same in both counties.
+/// Checks whether a record of a group is the same in both counties.
 fn is_same_record<L: RecordEq, G: RecordGroups<Item = L>, H: RecordGroups<Item = L>>(
     a: &G,
     b: &H,
@@ -53,7 +53,7 @@ pub(crate) fn is_same_group<L: RecordEq, G: RecordGroups<Item = L>, H: RecordGro
         && (0..count).all(|place| is_same_record(a, b, group, head, other, place))
 }
 
-/// Whether the groups with these heads, from one group on, are the same in both counties.
+/// Checks whether the groups with these heads, from one group on, are the same in both counties.
 fn are_same_headed<L: RecordEq, G: RecordGroups<Item = L>, H: RecordGroups<Item = L>>(
     a: &G,
     b: &H,
@@ -107,7 +107,7 @@ pub fn are_same_groups<L: RecordEq, G: RecordGroups<Item = L>, H: RecordGroups<I
     true
 }
 
-/// Whether two counties have equally many chains, names, polygons and landmarks. This is the quickest test.
+/// Checks whether two counties have equally many chains, names, polygons and landmarks. This is the quickest test.
 fn have_same_counts<A: Chart, B: Chart>(a: &A, b: &B) -> bool
     ensures { Decides result (HaveSameCounts (A.county a.now) (B.county b.now)) }
 {
@@ -117,7 +117,7 @@ fn have_same_counts<A: Chart, B: Chart>(a: &A, b: &B) -> bool
         && a.landmark_count() == b.landmark_count()
 }
 
-/// Whether two counties have the same records of types 1 and I.
+/// Checks whether two counties have the same records of types 1 and I.
 fn have_same_single_records<A: Chart, B: Chart>(
     a: &A,
     b: &B,
@@ -139,7 +139,7 @@ fn have_same_single_records<A: Chart, B: Chart>(
     )
 }
 
-/// Whether two counties have the same records of a type with a sequence number.
+/// Checks whether two counties have the same records of a type with a sequence number.
 fn have_same_sequenced<R: SequencedRecord + RecordEq, A: Chart, B: Chart>(
     a: &A,
     b: &B,
@@ -156,7 +156,7 @@ fn have_same_sequenced<R: SequencedRecord + RecordEq, A: Chart, B: Chart>(
     )
 }
 
-/// Whether two counties have the same records of types 2, 4 and 6.
+/// Checks whether two counties have the same records of types 2, 4 and 6.
 fn have_same_lists<A: Chart, B: Chart>(
     a: &A,
     b: &B,

@@ -15,7 +15,7 @@ use county_chart::{Chart, DirectedChain, Listed, OpenPlace, Same};
 use std::cmp::Ordering;
 use tl_layout::Rec1;
 
-/// The record of type 1 of a directed chain, if there is one at a place.
+/// Returns the record of type 1 of a directed chain, if there is one at a place.
 fn record_of_directed<C: Chart>(chart: &C, directed: DirectedChain, place: usize) -> Rec1
     requires directed { directed.place < length (C.county chart.now).chains }
     requires place { place < length (C.county chart.now).chains }

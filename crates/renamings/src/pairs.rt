@@ -27,7 +27,7 @@ pub(crate) fn named_images_of<K: Key + Hash>(
     olds.iter().filter_map(|old| images.of(*old)).collect(alloc)
 }
 
-/// The pair of the old number and the next new number of the new one, or `None` if that isn't named.
+/// Returns the pair of the old number and the next new number of the new one, or `None` if that isn't named.
 fn pair_after<K: Key + Hash>(nexts: &Images<K>, pair: (K, K)) -> Option<(K, K)>
     ensures { result ≡ pair_on K.cmp nexts.now pair }
 {
@@ -37,7 +37,7 @@ fn pair_after<K: Key + Hash>(nexts: &Images<K>, pair: (K, K)) -> Option<(K, K)>
     }
 }
 
-/// Each pair with the next new number of its new one. A pair whose new number isn't named is left out.
+/// Returns each pair with the next new number of its new one. A pair whose new number isn't named is left out.
 fn pairs_after<K: Key + Hash>(
     alloc: Global,
     firsts: &[(K, K)],

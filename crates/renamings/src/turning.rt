@@ -10,7 +10,7 @@ use crate::pairs::named_images_of;
 use crate::sorted_numbers::SortedNumbers;
 use std::alloc::{AllocError, Global};
 
-/// Whether exactly one of two renamings turns the chain of an old TLID. The first one turns the chains of `firsts`. The next one
+/// Checks whether exactly one of two renamings turns the chain of an old TLID. The first one turns the chains of `firsts`. The next one
 /// turns those of `nexts`, under the TLIDs that the first one gives.
 fn turns_once(
     images: &Images<u64>,
@@ -25,7 +25,7 @@ fn turns_once(
     by_first != by_next
 }
 
-/// The old TLIDs of those pairs whose chains exactly one of two renamings turns.
+/// Returns the old TLIDs of those pairs whose chains exactly one of two renamings turns.
 fn turned_by_one(
     alloc: Global,
     pairs: &[(u64, u64)],

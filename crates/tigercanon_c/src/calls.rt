@@ -18,14 +18,14 @@ use tigercanon::{
 use tl_layout::Mask;
 use tl_load::LoadFault;
 
-/// The parts as slices.
+/// Returns the parts as slices.
 fn beside<'a>(alloc: Global, parts: &[Part<'a>]) -> Result<Vec<&'a [u8]>, AllocError>
     ensures { IfOk result (λ slices. bytes_of_parts slices.items ≡ bytes_of_lent parts.now) }
 {
     parts.iter().map(|part| part.bytes).collect(alloc)
 }
 
-/// The parts of one of two sets as slices. If there is no memory for the slices, the fault is reported for the first set, because
+/// Returns the parts of one of two sets as slices. If there is no memory for the slices, the fault is reported for the first set, because
 /// its work would have been first.
 fn beside_of_two<'a>(alloc: Global, parts: &[Part<'a>]) -> Result<Vec<&'a [u8]>, CompareFault>
     ensures slices { IfOk result (λ slices. bytes_of_parts slices.items ≡ bytes_of_lent parts.now) }
@@ -40,7 +40,7 @@ fn beside_of_two<'a>(alloc: Global, parts: &[Part<'a>]) -> Result<Vec<&'a [u8]>,
     }
 }
 
-/// The bytes of a text as a block of memory that the caller frees, or no block if there are no bytes.
+/// Returns the bytes of a text as a block of memory that the caller frees, or no block if there are no bytes.
 fn handed_out<'t>(text: Vec<u8>) -> &'t [u8]
     ensures { result.now ≡ text.items }
 {

@@ -64,7 +64,7 @@ pub struct FaultNumbers {
     pub third: u64,
 }
 
-/// The mask that the two flags ask for.
+/// Returns the mask that the two flags ask for.
 fn mask_of(no_sources: bool, no_reserved: bool) -> Mask
     ensures { result ≡ mask_of no_sources no_reserved }
 {

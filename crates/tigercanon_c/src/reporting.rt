@@ -11,7 +11,7 @@ use fault_report::{FaultPlace, FaultReport};
 use tigercanon::{CompareFault, Fault};
 use tl_load::LoadFault;
 
-/// A fault with up to three numbers as its places.
+/// Returns a fault with up to three numbers as its places.
 fn with_numbers(set: u8, number: u8, first: u64, second: u64, third: u64) -> FaultNumbers
     ensures { result ≡ with_numbers set number first second third }
 {
@@ -26,7 +26,7 @@ fn with_numbers(set: u8, number: u8, first: u64, second: u64, third: u64) -> Fau
     }
 }
 
-/// A fault with a record type and a TLID as its places.
+/// Returns a fault with a record type and a TLID as its places.
 fn with_type(set: u8, number: u8, record_type: u8, tlid: u64) -> FaultNumbers
     ensures { result ≡ with_type set number record_type tlid }
 {
@@ -41,7 +41,7 @@ fn with_type(set: u8, number: u8, record_type: u8, tlid: u64) -> FaultNumbers
     }
 }
 
-/// A fault with a polygon as its place.
+/// Returns a fault with a polygon as its place.
 fn with_polygon(set: u8, number: u8, cenid: [u8; 5], polyid: u64) -> FaultNumbers
     ensures { result ≡ with_polygon set number cenid polyid }
 {
@@ -56,7 +56,7 @@ fn with_polygon(set: u8, number: u8, cenid: [u8; 5], polyid: u64) -> FaultNumber
     }
 }
 
-/// The number at a place, or 0 if there is none.
+/// Returns the number at a place, or 0 if there is none.
 fn place_number(place: FaultPlace) -> u64
     ensures { result ≡ place_number place }
 {
@@ -66,7 +66,7 @@ fn place_number(place: FaultPlace) -> u64
     }
 }
 
-/// The report of a fault in numbers. `set` is 1 or 2 for one of two sets, and else 0.
+/// Returns the report of a fault in numbers. `set` is 1 or 2 for one of two sets, and else 0.
 fn in_numbers(set: u8, report: FaultReport) -> FaultNumbers
     ensures { result ≡ in_numbers set report }
 {
@@ -84,7 +84,7 @@ fn in_numbers(set: u8, report: FaultReport) -> FaultNumbers
     }
 }
 
-/// A fault in numbers. `set` is 1 or 2 for one of two sets, and else 0.
+/// Returns a fault in numbers. `set` is 1 or 2 for one of two sets, and else 0.
 fn fault_reported(set: u8, fault: Fault) -> FaultNumbers
     ensures { result ≡ fault_reported set fault }
 {

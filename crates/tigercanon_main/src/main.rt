@@ -11,7 +11,7 @@ use tigercanon::{
 };
 use tl_write::CountedOut;
 
-/// The command-line arguments, without the program's own name.
+/// Returns the command-line arguments, without the program's own name.
 fn words(rt: &HostRuntime) -> Result<Vec<String>, PlanFault> {
     match env::args(rt) {
         Ok(args) => Ok(words_of(rt.alloc(), args)?),

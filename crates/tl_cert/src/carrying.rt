@@ -19,7 +19,8 @@ use renamings::Renaming;
 use std::alloc::{AllocError, Global};
 use tl_layout::Mask;
 
-/// Whether `b` has each chain, name, polygon and landmark of `a` under its new number, with the chains turned that the renaming turns.
+/// Checks whether `b` has each chain, name, polygon and landmark of `a` under its new number, with the chains turned that the renaming
+/// turns.
 fn are_parts_there<A: Chart, B: Chart>(a: &A, b: &B, tables: &RenamingTables) -> bool
     ensures { Decides result (ArePartsThere (tabled tables.now) (A.county a.now) (B.county b.now)) }
 {
@@ -29,7 +30,7 @@ fn are_parts_there<A: Chart, B: Chart>(a: &A, b: &B, tables: &RenamingTables) ->
         && all_hold(&Landmarks { a, b, tables })
 }
 
-/// Whether a renaming that pairs the numbers of the two counties carries the parts of `a` onto those of `b`.
+/// Checks whether a renaming that pairs the numbers of the two counties carries the parts of `a` onto those of `b`.
 fn carries_parts<A: Chart, B: Chart>(
     alloc: Global,
     a: &A,

@@ -15,7 +15,7 @@ use county_chart::{
 };
 use tl_layout::Side;
 
-/// The new number of a node, if there is one.
+/// Returns the new number of a node, if there is one.
 fn new_node(tables: &RenamingTables, node: Option<u64>) -> Option<u64>
     ensures { result ≡ option_map (image nat_cmp tables.now.nodes) node }
 {
@@ -25,7 +25,7 @@ fn new_node(tables: &RenamingTables, node: Option<u64>) -> Option<u64>
     }
 }
 
-/// Whether the node of a chain, if there is such a chain, is the other under its new number.
+/// Checks whether the node of a chain, if there is such a chain, is the other under its new number.
 fn is_node_there(
     tables: &RenamingTables,
     old: Option<Option<u64>>,
@@ -45,7 +45,7 @@ fn new_key(tables: &RenamingTables, key: PolygonKey) -> PolygonKey
     tables.polygons.image(key)
 }
 
-/// Whether a side is another with its polygon under its new key.
+/// Checks whether a side is another with its polygon under its new key.
 fn is_side_renumbered(tables: &RenamingTables, old: Side, new: Side) -> bool
     ensures { Decides result (new ≡ renumbered_side (tabled tables.now) old) }
 {
@@ -58,7 +58,7 @@ fn is_side_renumbered(tables: &RenamingTables, old: Side, new: Side) -> bool
     }
 }
 
-/// Whether the side of a chain, if there is such a chain, is the other with its polygon under its new key.
+/// Checks whether the side of a chain, if there is such a chain, is the other with its polygon under its new key.
 fn is_side_there(tables: &RenamingTables, old: Option<Side>, new: Option<Side>) -> bool
     ensures { Decides result (new ≡ option_map (renumbered_side (tabled tables.now)) old) }
 {
@@ -106,7 +106,7 @@ pub(crate) struct Chains<'a, A, B> {
 
 /// Whether the chain at a place of `b` is a directed chain of `a` under its new numbers, by the parts that are compared.
 impl<'a, A: Chart, B: Chart> Chains<'a, A, B> {
-    /// Whether it has the content of the chain's records of types 1 and I.
+    /// Checks whether it has the content of the chain's records of types 1 and I.
     fn has_same_content(&self, directed: DirectedChain, other: usize) -> bool
         requires { directed.place < length (A.county self.now.a.now).chains }
         ensures { Decides result (HaveSameContent (chain_at (B.county self.now.b.now) other)
@@ -117,7 +117,7 @@ impl<'a, A: Chart, B: Chart> Chains<'a, A, B> {
         self.b.chain_body_at(other).is_same(body) && self.b.topology_at(other).is_same(topology)
     }
 
-    /// Whether it has the chain's nodes and sides under their new numbers.
+    /// Checks whether it has the chain's nodes and sides under their new numbers.
     fn has_same_ends(&self, directed: DirectedChain, other: usize) -> bool
         ensures { Decides result (HaveSameEnds (chain_at (B.county self.now.b.now) other)
             (chain_carried (tabled self.now.tables.now) (A.county self.now.a.now) directed)) }
@@ -130,7 +130,7 @@ impl<'a, A: Chart, B: Chart> Chains<'a, A, B> {
             && is_side_there(self.tables, directed.right(self.a), self.b.right_at(other))
     }
 
-    /// Whether it has the chain's further names under their new FEATs.
+    /// Checks whether it has the chain's further names under their new FEATs.
     fn has_same_feats(&self, directed: DirectedChain, other: usize) -> bool
         ensures { Decides result (feats_of (chain_at (B.county self.now.b.now) other) ≡
             map (image nat_cmp self.now.tables.now.names) (feats_of (directed_chain (A.county self.now.a.now) directed))) }
@@ -146,7 +146,7 @@ impl<'a, A: Chart, B: Chart> Chains<'a, A, B> {
         are_same(&feats, &others)
     }
 
-    /// Whether it has the chain's points, further names and further address ranges under their new numbers.
+    /// Checks whether it has the chain's points, further names and further address ranges under their new numbers.
     fn has_same_lists(&self, directed: DirectedChain, other: usize) -> bool
         ensures { Decides result (HaveSameLists (chain_at (B.county self.now.b.now) other)
             (chain_carried (tabled self.now.tables.now) (A.county self.now.a.now) directed)) }
@@ -166,7 +166,7 @@ impl<'a, A: Chart, B: Chart> Chains<'a, A, B> {
             && are_same(&directed.ranges(self.a), &ranges)
     }
 
-    /// Whether it is the chain under its new numbers.
+    /// Checks whether it is the chain under its new numbers.
     fn is_same_chain(&self, directed: DirectedChain, other: usize) -> bool
         requires { directed.place < length (A.county self.now.a.now).chains }
         ensures { Decides result (chain_at (B.county self.now.b.now) other ≡ chain_carried (tabled self.now.tables.now) (A.county self.now.a.now) directed) }

@@ -34,7 +34,7 @@ impl<'a, C: Chart> Listed for LandmarkLinks<'a, C> {
     }
 }
 
-/// The links of a county, landmark by landmark.
+/// Returns the links of a county, landmark by landmark.
 fn links_of<C: Chart>(alloc: Global, chart: &C) -> Result<Vec<Rec8>, AllocError>
     ensures { IfOk result (λ links. IsPermutation links.items (C.county chart.now).links) }
 {
@@ -46,7 +46,7 @@ fn links_of<C: Chart>(alloc: Global, chart: &C) -> Result<Vec<Rec8>, AllocError>
     Ok(links)
 }
 
-/// The key of a link under its new numbers.
+/// Returns the key of a link under its new numbers.
 fn new_key_of(tables: &RenamingTables, link: &Rec8) -> LinkKey
     ensures { result ≡ link_sequence (carried_link (tabled tables.now) link.now) }
 {
@@ -55,7 +55,7 @@ fn new_key_of(tables: &RenamingTables, link: &Rec8) -> LinkKey
     (land, (polyid, (cenid, link.file())))
 }
 
-/// The keys of links under their new numbers.
+/// Returns the keys of links under their new numbers.
 fn new_keys(
     alloc: Global,
     tables: &RenamingTables,

@@ -11,7 +11,7 @@ use county_chart::{Chart, Feats, Lands, Nodes, PolygonKey, Polygons, Tested, Tli
 use renamings::{Renaming, SortedNumbers};
 use std::alloc::{AllocError, Global};
 
-/// Whether two polygons have the same CENID.
+/// Checks whether two polygons have the same CENID.
 fn have_one_cenid(old: PolygonKey, new: PolygonKey) -> bool
     ensures { Decides result (old.0 ≡ new.0) }
 {
@@ -43,7 +43,7 @@ impl<'a> Tested for PolygonPairs<'a> {
     }
 }
 
-/// Whether the pairs of all five kinds are those of the two counties' numbers, and polygons keep their CENIDs.
+/// Checks whether the pairs of all five kinds are those of the two counties' numbers, and polygons keep their CENIDs.
 fn lists_are_paired<A: Chart, B: Chart>(
     alloc: Global,
     a: &A,
@@ -81,7 +81,7 @@ fn lists_are_paired<A: Chart, B: Chart>(
     Ok(all_hold(&PolygonPairs { pairs }))
 }
 
-/// Whether a county has chains with all of these TLIDs.
+/// Checks whether a county has chains with all of these TLIDs.
 fn has_chains<C: Chart>(chart: &C, numbers: &[u64]) -> bool
     ensures { Decides result (AllByRecursion (λ tlid. IsTrue (contains nat_cmp tlid (tlids (C.county chart.now)))) numbers.now) }
 {
@@ -90,7 +90,7 @@ fn has_chains<C: Chart>(chart: &C, numbers: &[u64]) -> bool
         .all(|tlid| chart.chain_place(*tlid).is_some())
 }
 
-/// Whether each turned TLID is one of the county and is listed once.
+/// Checks whether each turned TLID is one of the county and is listed once.
 fn are_turned_once<C: Chart>(
     alloc: Global,
     chart: &C,

@@ -19,21 +19,21 @@ pub(crate) fn are_reordered<K: Key>(ones: Vec<K>, others: Vec<K>) -> Result<bool
     Ok(sorted.as_slice().cmp(known.as_slice()).is_eq())
 }
 
-/// The numbers on the left of pairs.
+/// Returns the numbers on the left of pairs.
 fn old_numbers<K: Key>(alloc: Global, pairs: &[(K, K)]) -> Result<Vec<K>, AllocError>
     ensures { IfOk result (λ numbers. numbers.items ≡ map (λ pair. pair.0) pairs.now) }
 {
     pairs.iter().map(|pair| pair.0).collect(alloc)
 }
 
-/// The numbers on the right of pairs.
+/// Returns the numbers on the right of pairs.
 fn new_numbers<K: Key>(alloc: Global, pairs: &[(K, K)]) -> Result<Vec<K>, AllocError>
     ensures { IfOk result (λ numbers. numbers.items ≡ map (λ pair. pair.1) pairs.now) }
 {
     pairs.iter().map(|pair| pair.1).collect(alloc)
 }
 
-/// Whether the numbers are a permutation of the items of a list.
+/// Checks whether the numbers are a permutation of the items of a list.
 fn are_items_of<K: Key, L: Listed<Item = K>>(
     alloc: Global,
     numbers: Vec<K>,

@@ -53,7 +53,7 @@ fn magnitude(text: &[u8], limit: u32) -> Option<u32>
     }
 }
 
-/// The coordinate with a plus sign and this magnitude, or `Malformed` if there is none.
+/// Returns the coordinate with a plus sign and this magnitude, or `Malformed` if there is none.
 fn plus(magnitude: Option<u32>) -> Coordinate
     requires { IfSome magnitude (λ magnitude. magnitude ≤ most_longitude) }
     ensures { result ≡ plus_of magnitude }
@@ -64,7 +64,7 @@ fn plus(magnitude: Option<u32>) -> Coordinate
     }
 }
 
-/// The coordinate with a minus sign and this magnitude, or `Malformed` if there is none.
+/// Returns the coordinate with a minus sign and this magnitude, or `Malformed` if there is none.
 fn minus(magnitude: Option<u32>) -> Coordinate
     requires { IfSome magnitude (λ magnitude. magnitude ≤ most_longitude) }
     ensures { result ≡ minus_of magnitude }
@@ -91,7 +91,7 @@ fn read_coordinate(field: &[u8], limit: u32) -> Coordinate
     }
 }
 
-/// The coordinate with this magnitude and this sign, which must be a plus or a minus: any other byte yields `None`.
+/// Returns the coordinate with this magnitude and this sign, which must be a plus or a minus: any other byte yields `None`.
 #[inline(always)]
 fn signed(sign: u8, magnitude: u64) -> Option<i32>
     requires { magnitude < 1000000000 }
@@ -167,7 +167,7 @@ fn put_digits(out: &mut [u8], number: u32)
     }
 }
 
-/// The sign of a coordinate: a plus for 0.
+/// Returns the sign of a coordinate: a plus for 0.
 fn sign(value: i32) -> u8
     ensures { result ≡ sign_of value }
 {

@@ -74,7 +74,7 @@ pub fn read_number_or_none(
     }
 }
 
-/// The fault of a bad point, reported at this column.
+/// Returns the fault of a bad point, reported at this column.
 fn bad_point(column: usize) -> FieldFault
     requires { column ≤ longest_line }
     ensures { result ≡ bad_point column }

@@ -74,7 +74,7 @@ pub fn nine_digits(first: u8, rest: u8x8) -> Option<u64>
     }
 }
 
-/// The number in eight columns that are blanks and then digits up to the last column, or blanks only.
+/// Returns the number in eight columns that are blanks and then digits up to the last column, or blanks only.
 #[inline(always)]
 fn right_justified(bytes: u8x8) -> Option<u64>
     ensures { IfSome result (λ number. number_of bytes ≡ Some number) }
@@ -174,7 +174,7 @@ fn put_ten_columns(out: &mut [u8], number: u64)
     }
 }
 
-/// The byte of the column in which the last digit of a number is shown, a blank for 0.
+/// Returns the byte of the column in which the last digit of a number is shown, a blank for 0.
 #[inline(always)]
 fn column(left: u16) -> u8
     ensures { result ≡ (if left == 0 then 32 else 48 + left % 10) }

@@ -179,7 +179,7 @@ pub fn read_places<P: Places + Drop>(line: &[u8]) -> Result<P, FieldFault>
     Ok(items)
 }
 
-/// The item at this index, or `None` past the end of the list.
+/// Returns the item at this index, or `None` past the end of the list.
 fn item_at<T: Copy>(items: &[T], place: usize) -> Option<T>
     ensures { result ≡ slice_get items.now place }
 {

@@ -135,7 +135,7 @@ impl BodyI {
         self.rs_i3.bytes()
     }
 
-    /// The content of a full line.
+    /// Returns the content of a full line.
     fn at(line: &[u8]) -> BodyI
         requires { IsText (line_length TypeI) line.now }
         ensures { result ≡ body_i_at line.now }

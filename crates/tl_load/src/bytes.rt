@@ -23,9 +23,9 @@ pub fn first_bad(bytes: &[u8]) -> Option<usize>
     bytes.iter().position(|byte| !is_allowed_byte(*byte))
 }
 
-/// If this returns true, there are at least 32 bytes and all of them are allowed in a line. It may return false for clean bytes
-/// if one of them is 0xFF. It reads 32 bytes at a time, the last of them together with the bytes before them. It keeps the
-/// minimum of each lane and tests only that.
+/// Returns true only if there are at least 32 bytes and all of them are allowed in a line. It may return false for clean bytes if one of
+/// them is 0xFF. It reads 32 bytes at a time, the last of them together with the bytes before them. It keeps the minimum of each lane and
+/// tests only that.
 fn is_clean(bytes: &[u8]) -> bool
     ensures { IsTrue result → AreAllowed bytes.now }
 {
@@ -43,9 +43,8 @@ fn is_clean(bytes: &[u8]) -> bool
     least.simd_lt(u8x32::splat(0x42)).to_bitmask() == 0
 }
 
-/// Twice the successor of each of the 32 bytes from `at` on, modulo 256. It is at least 0x42 if the byte is allowed in a line
-/// and isn't 0xFF, and less otherwise. Doubling drops the top bit, which maps the control characters of both halves of Latin-1
-/// below the blank.
+/// Returns twice the successor of each of the 32 bytes from `at` on, modulo 256. It is at least 0x42 if the byte is allowed in a line and
+/// isn't 0xFF, and less otherwise. Doubling drops the top bit, which maps the control characters of both halves of Latin-1 below the blank.
 #[inline(always)]
 fn past_controls(bytes: &[u8], at: usize) -> u8x32
     requires { at + 32 ≤ length bytes.now }
@@ -76,7 +75,7 @@ pub(crate) fn is_ascii(bytes: &[u8]) -> bool
     least.simd_lt(u8x16::splat(0xa1)).to_bitmask() == 0
 }
 
-/// Each of the 16 bytes from `at` on, minus 0x7F, modulo 256: at least 0xA1 if the byte is printable ASCII, and less otherwise.
+/// Returns each of the 16 bytes from `at` on, minus 0x7F, modulo 256: at least 0xA1 if the byte is printable ASCII, and less otherwise.
 #[inline(always)]
 fn from_delete(bytes: &[u8], at: usize) -> u8x16
     requires { at + 16 ≤ length bytes.now }

@@ -54,7 +54,7 @@ fn blanks() -> [u8; LONGEST_LINE]
     [b' '; LONGEST_LINE]
 }
 
-/// The line, padded with blanks to the length of the longest line.
+/// Returns the line, padded with blanks to the length of the longest line.
 fn fill(line: &[u8]) -> [u8; LONGEST_LINE]
     requires { length line.now ≤ longest_line }
     ensures { result ≡ filled longest_line line.now }
@@ -65,7 +65,7 @@ fn fill(line: &[u8]) -> [u8; LONGEST_LINE]
     filled
 }
 
-/// The position of the leftmost byte that isn't allowed in a line. If `is_clean`, the bytes aren't tested.
+/// Returns the position of the leftmost byte that isn't allowed in a line. If `is_clean`, the bytes aren't tested.
 fn bad_place(line: &[u8], is_clean: bool) -> Option<usize>
     requires { IsTrue is_clean → AreAllowed line.now }
     ensures { result ≡ position (λ b. not (is_allowed b)) line.now }

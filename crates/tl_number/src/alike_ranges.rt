@@ -19,7 +19,7 @@ use tl_profile::ShapeOrder;
 /// Directed chains, each with its representative: the first one with the same further address ranges.
 pub(crate) type AlikeChains = Vec<(DirectedChain, DirectedChain)>;
 
-/// The first representative with the same further address ranges as a chain, or the chain itself if there is none.
+/// Returns the first representative with the same further address ranges as a chain, or the chain itself if there is none.
 fn find_representative<C: Chart>(
     chart: &C,
     alike: &[(DirectedChain, DirectedChain)],
@@ -82,7 +82,7 @@ pub(crate) fn alike_chains<C: Chart>(
     Ok(alike)
 }
 
-/// The representative that is known of a directed chain, or the chain itself.
+/// Returns the representative that is known of a directed chain, or the chain itself.
 fn representative_of<C: Chart>(
     _chart: &C,
     alike: &[(DirectedChain, DirectedChain)],
@@ -100,7 +100,7 @@ fn representative_of<C: Chart>(
     directed
 }
 
-/// Whether two directed chains are the same, or have the same representative, and so the same further address ranges.
+/// Checks whether two directed chains are the same, or have the same representative, and so the same further address ranges.
 fn are_alike<C: Chart>(
     chart: &C,
     alike: &[(DirectedChain, DirectedChain)],

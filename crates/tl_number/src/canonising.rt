@@ -12,7 +12,7 @@ use renamings::Renaming;
 use std::alloc::{AllocError, Global};
 use tl_profile::{Admitted, AdmittedIn, ShapeOrder};
 
-/// The canonical county of a county in the profile, from the order of its chains by their shapes.
+/// Returns the canonical county of a county in the profile, from the order of its chains by their shapes.
 fn canonise_in_order<C: Chart + Drop>(
     alloc: Global,
     chart: C,

@@ -51,7 +51,7 @@ fn arrange_choice<'a, C: Shared>(
     arrange_in_classes(alloc, classes.chart().share(), classes, choice.chains)
 }
 
-/// The lesser of two choices, given how they compare: `other` if `one` comes after it.
+/// Returns the lesser of two choices, given how they compare: `other` if `one` comes after it.
 fn lesser<V: Drop>(ordering: Ordering, one: V, other: V) -> V
     ensures { result ≡ cond (is_gt ordering) other one }
 {
@@ -86,7 +86,7 @@ fn compare_with_arranged<'a, C: Shared>(
     }
 }
 
-/// The first of two choices, arranged: as it is kept, or anew if none is.
+/// Returns the first of two choices, arranged: as it is kept, or anew if none is.
 fn kept_or_arranged<'a, C: Shared>(
     alloc: Global,
     classes: &Classes<'a, C>,
@@ -133,8 +133,8 @@ fn compare_ties<'a, C: Shared>(
     Ok(ordering)
 }
 
-/// The number of the choice with the least text among these, which have the same records of type 1. `arranged` has no county, and may
-/// then have that of the choice.
+/// Returns the number of the choice with the least text among these, which have the same records of type 1. `arranged` has no county, and
+/// may then have that of the choice.
 fn search_least<'a, C: Shared>(
     alloc: Global,
     county: &Compared<'_, 'a, C>,

@@ -17,7 +17,7 @@ use tl_layout::{Body1, Body5, Body7, BodyI, BodyP, Point, Ranges, Rec8, Side};
 pub(crate) trait Shared: Chart + Drop {
     ghost use Rattle.std.specs.Prelude.{◌≡◌};
 
-    /// The same county for another reader.
+    /// Returns the same county for another reader.
     fn share(&self) -> Self
         ensures { Self.Chart.county result ≡ Self.Chart.county self.now };
 }
@@ -38,7 +38,7 @@ pub(crate) struct CountyPart<'a, C: Chart> {
     ghost within_limits: { IsWithinLimits most_records (part_with (C.county chart.now) tables.now) } by { IsWithinLimits-prop most_records (part_with (C.county chart.now) tables.now) },
 }
 
-/// The place in the whole county for one in the part, or the end past the last one.
+/// Returns the place in the whole county for one in the part, or the end past the last one.
 fn place_there(places: &[u32], place: usize, end: usize) -> usize
     ensures { result ≡ get_or places.now place end }
 {
@@ -48,7 +48,7 @@ fn place_there(places: &[u32], place: usize, end: usize) -> usize
     }
 }
 
-/// One number if landmarks are kept, and the other one if they aren't.
+/// Returns one number if landmarks are kept, and the other one if they aren't.
 fn if_linked(linked: bool, one: usize, other: usize) -> usize
     ensures { result ≡ cond linked one other }
 {
@@ -66,7 +66,7 @@ impl<'a, C: Chart> CountyPart<'a, C> {
         CountyPart { chart, tables }
     }
 
-    /// The place of a chain in the whole county.
+    /// Returns the place of a chain in the whole county.
     fn chain(&self, place: usize) -> usize
         ensures chain { chain_at (C.county self.now.chart.now) result ≡ chain_at (part_with (C.county self.now.chart.now) self.now.tables.now) place }
         ensures there { place < length (part_with (C.county self.now.chart.now) self.now.tables.now).chains → result < length (C.county self.now.chart.now).chains }
@@ -74,7 +74,7 @@ impl<'a, C: Chart> CountyPart<'a, C> {
         place_there(&self.tables.chains.places, place, self.chart.chain_count())
     }
 
-    /// The place of a name in the whole county.
+    /// Returns the place of a name in the whole county.
     fn name(&self, place: usize) -> usize
         ensures name { name_at (C.county self.now.chart.now) result ≡ name_at (part_with (C.county self.now.chart.now) self.now.tables.now) place }
         ensures there { place < length (part_with (C.county self.now.chart.now) self.now.tables.now).names → result < length (C.county self.now.chart.now).names }
@@ -82,7 +82,7 @@ impl<'a, C: Chart> CountyPart<'a, C> {
         place_there(&self.tables.names.places, place, self.chart.name_count())
     }
 
-    /// The place of a polygon in the whole county.
+    /// Returns the place of a polygon in the whole county.
     fn polygon(&self, place: usize) -> usize
         ensures polygon { polygon_at (C.county self.now.chart.now) result ≡ polygon_at (part_with (C.county self.now.chart.now) self.now.tables.now) place }
         ensures there { place < length (part_with (C.county self.now.chart.now) self.now.tables.now).polygons → result < length (C.county self.now.chart.now).polygons }
@@ -94,7 +94,7 @@ impl<'a, C: Chart> CountyPart<'a, C> {
         )
     }
 
-    /// The place of a landmark in the whole county.
+    /// Returns the place of a landmark in the whole county.
     fn landmark(&self, place: usize) -> usize
         ensures there { place < length (part_with (C.county self.now.chart.now) self.now.tables.now).landmarks → result < length (C.county self.now.chart.now).landmarks }
         ensures land { slice_get (lands (C.county self.now.chart.now)) result

@@ -64,7 +64,7 @@ fn see_links<C: Chart>(chart: &C, polygons: &mut Interner<PolygonKey>) -> Result
     Ok(())
 }
 
-/// The polygons of all landmarks.
+/// Returns the polygons of all landmarks.
 fn linked_polygons<C: Chart>(alloc: Global, chart: &C) -> Result<Interner<PolygonKey>, AllocError>
     ensures { IfOk result (λ polygons. polygons ≡ first_seen key_cmp (link_keys (C.county chart.now))) }
 {
@@ -79,7 +79,7 @@ fn has_any(keys: &Interner<PolygonKey>, others: &[PolygonKey]) -> bool
     others.iter().any(|key| has_key(keys, *key))
 }
 
-/// Whether some landmark has a polygon that first appears at an open place.
+/// Checks whether some landmark has a polygon that first appears at an open place.
 fn has_open_links<C: Chart>(
     alloc: Global,
     chart: &C,
@@ -126,7 +126,7 @@ fn see_if_linked<C: Chart>(
     Ok(())
 }
 
-/// The polygons of these chains, and of landmarks if these are compared.
+/// Returns the polygons of these chains, and of landmarks if these are compared.
 fn wanted_polygons<C: Chart>(
     alloc: Global,
     chart: &C,
@@ -170,14 +170,14 @@ fn searches_for<C: Chart>(
     })
 }
 
-/// Whether a chain is kept: its place is open, or it has a wanted node, polygon or name.
+/// Checks whether a chain is kept: its place is open, or it has a wanted node, polygon or name.
 fn any_of(at_open: bool, node: bool, polygon: bool, name: bool) -> bool
     ensures { result ≡ (at_open || (node || (polygon || name))) }
 {
     at_open || node || polygon || name
 }
 
-/// Whether the chain at a place of the order of shapes is kept. The searches go on to the next place.
+/// Checks whether the chain at a place of the order of shapes is kept. The searches go on to the next place.
 fn keeps_place<C: Chart>(
     chart: &C,
     shape_order: &ShapeOrder,
@@ -202,7 +202,7 @@ fn keeps_place<C: Chart>(
     Ok(any_of(is_open_at(places, place), node, polygon, name))
 }
 
-/// The TLIDs of the chains that are kept, by searches at the first place.
+/// Returns the TLIDs of the chains that are kept, by searches at the first place.
 fn kept_along<C: Chart>(
     alloc: Global,
     chart: &C,

@@ -21,7 +21,7 @@ pub(crate) trait KeyGroups {
     /// The keys of each chain.
     ghost groups: { Self → List (List Self.Item) };
 
-    /// How many chains there are.
+    /// Returns how many chains there are.
     fn count(&self) -> usize
         ensures { result ≡ length (groups self.now) };
 

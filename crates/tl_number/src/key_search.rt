@@ -36,14 +36,14 @@ impl<K: Key + Hash + NumericKey> KeySearch<K> {
     }
 }
 
-/// Whether a key is wanted, and wasn't met before.
+/// Checks whether a key is wanted, and wasn't met before.
 fn is_new<K: Key + Hash + NumericKey>(wanted: &Interner<K>, met: &Interner<K>, key: K) -> bool
     ensures { result ≡ (contains K.cmp key wanted.now && not (contains K.cmp key met.now)) }
 {
     has_key(wanted, key) && !has_key(met, key)
 }
 
-/// Whether one of these keys is wanted, and wasn't met before.
+/// Checks whether one of these keys is wanted, and wasn't met before.
 fn has_new_key<K: Key + Hash + NumericKey>(
     wanted: &Interner<K>,
     met: &Interner<K>,
@@ -80,7 +80,7 @@ fn meet_wanted<K: Key + Hash + NumericKey>(
     Ok(())
 }
 
-/// Whether one of the keys at a place is wanted, and wasn't met before. Meets the wanted ones if the place is fixed.
+/// Checks whether one of the keys at a place is wanted, and wasn't met before. Meets the wanted ones if the place is fixed.
 fn brings_new<K: Key + Hash + NumericKey>(
     places: &[OpenPlace],
     wanted: &Interner<K>,

@@ -20,7 +20,7 @@ use county_chart::{Chart, DirectedChain};
 use std::alloc::{AllocError, Global};
 use tl_profile::{ShapeOrder, order_by_shape};
 
-/// The number of the choice with the least text, which is one of these.
+/// Returns the number of the choice with the least text, which is one of these.
 fn least_in_part<C: Shared>(alloc: Global, part: &C, numbers: &[u64]) -> Result<u64, AllocError>
     requires few { choices (C.county part.now) ≤ most_choices }
     requires sides { AllKeysContained (polygons_along (C.county part.now).chains) (polygon_keys (C.county part.now)) }
@@ -33,7 +33,7 @@ fn least_in_part<C: Shared>(alloc: Global, part: &C, numbers: &[u64]) -> Result<
     least_among_choices(alloc, part, &order, numbers)
 }
 
-/// The number of the choice with the least text. Makes no part of the county if records of type 1 decide.
+/// Returns the number of the choice with the least text. Makes no part of the county if records of type 1 decide.
 fn least_number<C: Chart>(
     alloc: Global,
     chart: &C,

@@ -13,7 +13,7 @@ use std::alloc::{AllocError, Global};
 use std::hash::Hash;
 use tl_profile::OpenPlace;
 
-/// Whether an open place moves a chain to or from a place.
+/// Checks whether an open place moves a chain to or from a place.
 fn covers(at: OpenPlace, place: usize) -> bool
     ensures { result ≡ is_open (at ∷ []) place }
 {

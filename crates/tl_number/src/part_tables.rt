@@ -58,7 +58,7 @@ where
         .collect(alloc)
 }
 
-/// The places of those of the keys that are among these.
+/// Returns the places of those of the keys that are among these.
 fn places_of<K: Key + Hash + NumericKey, L: Listed<Item = K>>(
     alloc: Global,
     all: &L,
@@ -72,7 +72,7 @@ fn places_of<K: Key + Hash + NumericKey, L: Listed<Item = K>>(
         .collect(alloc)
 }
 
-/// Those of the keys that are among these, with their places.
+/// Returns those of the keys that are among these, with their places.
 fn pick<K: Key + Hash + NumericKey, L: Listed<Item = K>>(
     alloc: Global,
     all: &L,
@@ -86,7 +86,7 @@ fn pick<K: Key + Hash + NumericKey, L: Listed<Item = K>>(
     Ok(Picked { keys, places })
 }
 
-/// Those of the keys that these chains have, with their places.
+/// Returns those of the keys that these chains have, with their places.
 fn pick_named<K: Key + Hash + NumericKey, L: Listed<Item = K>, G: KeyGroups<Item = K>>(
     alloc: Global,
     all: &L,
@@ -99,7 +99,7 @@ fn pick_named<K: Key + Hash + NumericKey, L: Listed<Item = K>, G: KeyGroups<Item
     pick(alloc, all, &wanted)
 }
 
-/// The chains with these TLIDs, which may be in any order.
+/// Returns the chains with these TLIDs, which may be in any order.
 fn chains_with<C: Chart>(alloc: Global, chart: &C, tlids: &[u64]) -> Result<Picked<u64>, AllocError>
     ensures { IfOk result (IsPicked nat_cmp (first_seen nat_cmp tlids.now) (all_tlids (C.county chart.now))) }
 {
@@ -109,7 +109,7 @@ fn chains_with<C: Chart>(alloc: Global, chart: &C, tlids: &[u64]) -> Result<Pick
     pick(alloc, &Tlids(chart), &wanted)
 }
 
-/// The chains at places, in the directions that they have in the county.
+/// Returns the chains at places, in the directions that they have in the county.
 fn chains_at(alloc: Global, places: &[u32]) -> Result<Vec<DirectedChain>, AllocError>
     ensures { IfOk result (λ chains. chains.items ≡ map (λ place. record { place = place; turned = false }) places.now) }
 {
@@ -122,7 +122,7 @@ fn chains_at(alloc: Global, places: &[u32]) -> Result<Vec<DirectedChain>, AllocE
         .collect(alloc)
 }
 
-/// The nodes at the ends of chains, ascending.
+/// Returns the nodes at the ends of chains, ascending.
 fn nodes_of<C: Chart>(
     alloc: Global,
     chart: &C,

@@ -50,8 +50,8 @@ fn keep_least(digits: &mut Vec<u64>, ordering: Ordering, digit: u64) -> Result<(
     Ok(())
 }
 
-/// The digits below `count` of the choices with the least records of type 1, among those that have the number `behind` in the digits
-/// after it.
+/// Returns the digits below `count` of the choices with the least records of type 1, among those that have the number `behind` in the
+/// digits after it.
 fn least_digits<C: Chart>(
     alloc: Global,
     chart: &C,
@@ -93,7 +93,7 @@ fn add_numbers(all: &mut Vec<u64>, first: u64, numbers: &[u64]) -> Result<(), Al
     Ok(())
 }
 
-/// Each of the digits before each of the numbers.
+/// Returns each of the digits before each of the numbers.
 fn combine(
     alloc: Global,
     digits: &[u64],
@@ -111,7 +111,7 @@ fn combine(
     Ok(all)
 }
 
-/// How many choices open places leave.
+/// Counts the choices that open places leave.
 fn count_ways(places: &[OpenPlace]) -> u64
     requires some { 0 < ways_of places.now }
     requires few { ways_of places.now ≤ most_choices }
@@ -126,21 +126,21 @@ fn count_ways(places: &[OpenPlace]) -> u64
     ways
 }
 
-/// Whether an open place moves chains past this place.
+/// Checks whether an open place moves chains past this place.
 fn reaches(at: OpenPlace, edge: u32) -> bool
     ensures { result ≡ nat_lt edge (at.place + at.alike) }
 {
     u64::from(edge) < u64::from(at.place) + u64::from(at.alike)
 }
 
-/// Whether one of these open places moves chains past this place.
+/// Checks whether one of these open places moves chains past this place.
 fn any_reaches(places: &[OpenPlace], edge: u32) -> bool
     ensures { result ≡ list_any (λ at. nat_lt edge (at.place + at.alike)) places.now }
 {
     places.iter().any(|at| reaches(*at, edge))
 }
 
-/// The first open place of the last shape among the open places before `end`.
+/// Returns the first open place of the last shape among the open places before `end`.
 fn last_shape(shape_order: &ShapeOrder, end: usize) -> usize
     requires within { AreWithin (length shape_order.now.by_shape) shape_order.now.places }
     requires in_order { ArePlacesInOrder shape_order.now.places }
@@ -159,7 +159,7 @@ fn last_shape(shape_order: &ShapeOrder, end: usize) -> usize
     0
 }
 
-/// The choices with the least records of type 1 by one digit more, which is below `count`.
+/// Returns the choices with the least records of type 1 by one digit more, which is below `count`.
 fn with_digit<C: Chart>(
     alloc: Global,
     chart: &C,

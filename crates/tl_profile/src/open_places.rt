@@ -30,7 +30,7 @@ pub(crate) struct OpenChoices {
 }
 
 impl OpenChoices {
-    /// The choices of no shapes.
+    /// Returns the choices of no shapes.
     fn none(alloc: Global) -> OpenChoices
         ensures places { result.places.items ≡ [] }
         ensures count { result.count ≡ 1 }
@@ -58,7 +58,7 @@ impl OpenChoices {
         Ok(())
     }
 
-    /// The places in order, and the count limited to one more than the most.
+    /// Returns the places in order, and the count limited to one more than the most.
     fn in_order(self) -> OpenChoices
         ensures places { result.places.items ≡ reverse self.places.items }
         ensures count { result.count ≡ min self.count (suc most_choices) }
@@ -73,7 +73,7 @@ impl OpenChoices {
     }
 }
 
-/// Whether a shape is the same as the first of those after it.
+/// Checks whether a shape is the same as the first of those after it.
 fn is_twin<C: Chart>(chart: &C, shape: &PlacedShape, later: &[PlacedShape]) -> bool
     requires shape { HasFirstPoints (C.county chart.now) shape.now }
     requires later { AllByRecursion (HasFirstPoints (C.county chart.now)) later.now }
@@ -85,7 +85,7 @@ fn is_twin<C: Chart>(chart: &C, shape: &PlacedShape, later: &[PlacedShape]) -> b
     }
 }
 
-/// The place of a shape. `later` are the shapes after it, and `alike` is how many of them are the same as the first of these.
+/// Returns the place of a shape. `later` are the shapes after it, and `alike` is how many of them are the same as the first of these.
 fn place_in_order<C: Chart>(
     chart: &C,
     shape: &PlacedShape,

@@ -29,7 +29,7 @@ impl Model for ShapeOrder {
     ghost view = { λ order. record { by_shape = order.by_shape.items; places = order.open_places.items; choices = order.choices } };
 }
 
-/// The chains along their shapes, one after another.
+/// Returns the chains along their shapes, one after another.
 fn chains_by_shape(alloc: Global, shapes: &[PlacedShape]) -> Result<Vec<DirectedChain>, AllocError>
     ensures { IfOk result (λ by_shape. by_shape.items ≡ map placed_directed shapes.now) }
 {

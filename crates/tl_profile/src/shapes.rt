@@ -66,7 +66,7 @@ fn compare_reverse<C: Chart>(chart: &C, place: u32) -> Ordering
     compare_directed(chart, backward, forward)
 }
 
-/// The chain at a place, with the beginning of its shape.
+/// Returns the chain at a place, with the beginning of its shape.
 fn placed_shape<C: Chart>(chart: &C, place: u32) -> PlacedShape
     requires { place < length (C.county chart.now).chains }
     ensures directed { placed_directed result ≡ along_shape (C.county chart.now) place }
@@ -85,7 +85,7 @@ fn placed_shape<C: Chart>(chart: &C, place: u32) -> PlacedShape
     }
 }
 
-/// The chains with the beginnings of their shapes, in the order of their places.
+/// Returns the chains with the beginnings of their shapes, in the order of their places.
 fn placed_shapes<C: Chart>(alloc: Global, chart: &C) -> Result<Vec<PlacedShape>, AllocError>
     ensures by_shape { IfOk result (λ shapes. map placed_directed shapes.items ≡ along_shapes (C.county chart.now)) }
     ensures heads { IfOk result (λ shapes. AllByRecursion (HasFirstPoints (C.county chart.now)) shapes.items) }

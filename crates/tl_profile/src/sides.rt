@@ -19,7 +19,7 @@ fn insert_side(polygons: &mut KeySet<PolygonKey>, side: Option<Side>) -> Result<
     }
 }
 
-/// The set of the polygons on the sides of chains.
+/// Returns the set of the polygons on the sides of chains.
 fn polygons_on_sides<C: Chart>(alloc: Global, chart: &C) -> Result<KeySet<PolygonKey>, AllocError>
     ensures { IfOk result (λ polygons. distinct key_cmp polygons ≡ distinct key_cmp (polygons_along (C.county chart.now).chains)) }
 {
@@ -31,7 +31,7 @@ fn polygons_on_sides<C: Chart>(alloc: Global, chart: &C) -> Result<KeySet<Polygo
     Ok(polygons)
 }
 
-/// The polygons on the sides of chains, in order and without repetition.
+/// Returns the polygons on the sides of chains, in order and without repetition.
 fn sides_in_order<C: Chart>(alloc: Global, chart: &C) -> Result<Vec<PolygonKey>, AllocError>
     ensures { IfOk result (λ keys. keys.items ≡ distinct key_cmp (polygons_along (C.county chart.now).chains)) }
 {
@@ -39,7 +39,7 @@ fn sides_in_order<C: Chart>(alloc: Global, chart: &C) -> Result<Vec<PolygonKey>,
     polygons.in_order(alloc)
 }
 
-/// The key of the polygon at a place, if it has a record of type P.
+/// Returns the key of the polygon at a place, if it has a record of type P.
 fn key_with_body<C: Chart>(chart: &C, place: usize) -> Option<PolygonKey>
     ensures { result ≡ key_if_bodied (slice_get (C.county chart.now).polygons place) }
 {
@@ -49,7 +49,7 @@ fn key_with_body<C: Chart>(chart: &C, place: usize) -> Option<PolygonKey>
     }
 }
 
-/// The polygons with a record of type P, in order.
+/// Returns the polygons with a record of type P, in order.
 fn polygons_with_body<C: Chart>(alloc: Global, chart: &C) -> Result<Vec<PolygonKey>, AllocError>
     ensures { IfOk result (λ keys. keys.items ≡ keys_with_body (C.county chart.now).polygons) }
 {

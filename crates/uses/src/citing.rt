@@ -12,7 +12,7 @@ use tl_cert::Renaming;
 use tl_county::linked_records_have_a_well_formed_county;
 use tl_load::spelled_or_one_fault;
 
-/// The new number of an old one, if a pair names it. If several pairs do, the first counts.
+/// Returns the new number of an old one, if a pair names it. If several pairs do, the first counts.
 fn new_number(pairs: &[(u64, u64)], old: u64) -> Option<u64>
     ensures { result ≡ value_under nat_cmp old pairs.now }
 {
@@ -24,7 +24,7 @@ fn new_number(pairs: &[(u64, u64)], old: u64) -> Option<u64>
     None
 }
 
-/// The renaming of one county onto another, made from the renamings of both onto a third.
+/// Returns the renaming of one county onto another, made from the renamings of both onto a third.
 fn through(there: &Renaming, back: &Renaming) -> Result<Renaming, AllocError>
     ensures { IfOk result (λ r. (a b c : County) → IsCounty a → IsCounty b → IsCounty c
         → Carries there.now a b → Carries back.now c b → Carries r a c) }
@@ -32,14 +32,14 @@ fn through(there: &Renaming, back: &Renaming) -> Result<Renaming, AllocError>
     there.then(&back.inverse()?)
 }
 
-/// Whether two texts are the same.
+/// Checks whether two texts are the same.
 fn is_same_text(text: &[u8], other: &[u8]) -> bool
     ensures { Decides result (text.now ≡ other.now) }
 {
     text == other
 }
 
-/// The TLID in another file of the chain with this TLID in a file, if both files have the same canonical text and the chain exists.
+/// Returns the TLID in another file of the chain with this TLID in a file, if both files have the same canonical text and the chain exists.
 /// Each file is given as its text and the renaming onto it.
 fn tlid_through(
     there: &(Vec<u8>, Renaming),

@@ -16,7 +16,7 @@ use tl_number::{CanonCounty, canonise};
 use tl_profile::admit;
 use tl_write::{CountedOut, write_to};
 
-/// The canonical county of records: they are linked, their county is admitted, and it is renumbered.
+/// Returns the canonical county of records: they are linked, their county is admitted, and it is renumbered.
 fn canonical_county(alloc: Global, records: Vec<Record>) -> Result<CanonCounty, Fault>
     requires { IsWithinLimit most_records records.items }
     ensures { IfOk result (λ canon. IsCanonicalOf records.items (packed (⟦<CanonCounty as Chart>⟧.county canon))) }
@@ -28,7 +28,7 @@ fn canonical_county(alloc: Global, records: Vec<Record>) -> Result<CanonCounty, 
     Ok(canon)
 }
 
-/// The text of a canonical county, in memory.
+/// Returns the text of a canonical county, in memory.
 fn text_in_memory(alloc: Global, canon: &CanonCounty) -> Result<Vec<u8>, Fault>
     ensures { IfOk result (λ text. text.items ≡ text_of (packed (⟦<CanonCounty as Chart>⟧.county canon.now))) }
 {

@@ -64,7 +64,7 @@ pub fn least_unknown<K: Key, A: Keyed<K>, B: Keyed<K>>(items: &[A], known: &[B])
     None
 }
 
-/// The number of items before the first one whose key isn't less than `key`.
+/// Returns the number of items before the first one whose key isn't less than `key`.
 fn count_below<K: Ord + Copy, T: Keyed<K>>(items: &[T], key: K) -> usize
     ensures count { result ≡ prefix_len (λ item. is_lt (K.cmp (T.key_of item) key)) items.now }
     ensures bound { result ≤ length items.now }
@@ -75,7 +75,7 @@ fn count_below<K: Ord + Copy, T: Keyed<K>>(items: &[T], key: K) -> usize
         .count()
 }
 
-/// The number of items before the first one whose key is greater than `key`.
+/// Returns the number of items before the first one whose key is greater than `key`.
 fn count_up_to<K: Ord + Copy, T: Keyed<K>>(items: &[T], key: K) -> usize
     ensures count { result ≡ prefix_len (λ item. is_le (K.cmp (T.key_of item) key)) items.now }
     ensures bound { result ≤ length items.now }

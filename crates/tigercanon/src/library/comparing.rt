@@ -90,7 +90,7 @@ pub(crate) trait Comparison: Drop + Sized {
             (arranged_county a.now) (arranged_county b.now) (finding result) };
 }
 
-/// The renaming onto the county that `b` was made from, of the county that `a` was made from. The two canonical counties have the
+/// Returns the renaming onto the county that `b` was made from, of the county that `a` was made from. The two canonical counties have the
 /// same records.
 fn renaming_between<A: Chart, B: Chart>(
     alloc: Global,

@@ -60,7 +60,7 @@ impl UnlinkedSet for LoaderFor<Tables> {
     }
 }
 
-/// The county of linked records, over their tables and an arena, which outlive it.
+/// Returns the county of linked records, over their tables and an arena, which outlive it.
 fn county_of_linked<'a>(
     alloc: Global,
     arena: &'a Bump,

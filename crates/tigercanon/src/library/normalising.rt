@@ -119,8 +119,8 @@ pub fn normalise_with_renaming_masked(
     Ok(answer)
 }
 
-/// Links the records of the parts that the sources give. Reads each source to its end, in order, but no further than the read that
-/// brings a fault.
+/// Links the records of the parts that the sources give. Reads each source to its end, in order, but no further than the read that brings a
+/// fault.
 fn link_sources<R: Source>(alloc: Global, parts: &mut [R]) -> Result<LinkedRecords, Fault>
     requires { All (λ part. R.failed part < u64.MAX) parts.old }
     ensures linked { IfOk result (λ linked. (set : List (List ℕ)) × AreRead R.remaining R.given parts.old parts.new set

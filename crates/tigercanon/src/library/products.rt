@@ -22,7 +22,7 @@ const MANY_CHAINS: usize = 1024;
 /// The text of a county with all record types nearly always has at most this many bytes per chain.
 const BYTES_A_CHAIN: usize = 512;
 
-/// An empty text. If the county has many chains, capacity for its text is reserved. Capacity that is never written takes no memory,
+/// Returns an empty text. If the county has many chains, capacity for its text is reserved. Capacity that is never written takes no memory,
 /// and if the allocation fails, the text grows like any other.
 fn text_with_capacity(alloc: Global, chains: usize) -> Vec<u8>
     ensures { result.items ≡ [] }

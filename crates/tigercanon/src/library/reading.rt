@@ -30,7 +30,7 @@ pub(crate) fn load<K: Collector>(alloc: Global, parts: &[&[u8]]) -> Result<K, Lo
     loader.finish()
 }
 
-/// A buffer for the bytes of one read.
+/// Returns a buffer for the bytes of one read.
 fn read_buffer(alloc: Global) -> Result<Vec<u8>, AllocError>
     ensures { IfOk result (λ piece. 0 < vec_len piece) }
 {

@@ -98,7 +98,7 @@ pub(crate) fn lacks_counted_file<R>(files: &[CountedFile<R>]) -> bool
     is_first_counted_absent(files) || files.iter().any(|file| has_failed(file.get_ref()))
 }
 
-/// These files as sources, one each, that haven't failed.
+/// Returns these files as sources, one each, that haven't failed.
 fn count_failures<R: Read + Drop>(
     alloc: Global,
     files: Vec<Opened<R>>,

@@ -24,7 +24,7 @@ use tl_layout::{Mask, Tables};
 use tl_load::{CanonicalText, LoadFault, Source};
 use tl_write::Sink;
 
-/// The records of a set in canonical spelling, once all of it is read.
+/// Returns the records of a set in canonical spelling, once all of it is read.
 fn spelling_of<R: Source>(alloc: Global, set: &mut [R]) -> Result<CanonicalText, Fault>
     requires { All (λ part. R.failed part < u64.MAX) set.old }
     ensures respelt { IfOk result (λ text. IsAnswered IsRespelt
@@ -55,7 +55,7 @@ fn check_set<R: Source, W: Sink>(
     print_text(b"accepted\n", Ending::Done, out)
 }
 
-/// The line of these bytes: two lowercase hexadecimal digits per byte, and LF.
+/// Returns the line of these bytes: two lowercase hexadecimal digits per byte, and LF.
 fn line_of_digits(alloc: Global, bytes: &[u8]) -> Result<String, Fault>
     ensures digits { IfOk result (λ line. string_bytes line ≡ encode_lower bytes.now ++ 10 ∷ []) }
     ensures memory { IfErr result (λ fault. fault ≡ Fault.Memory) }
@@ -112,7 +112,7 @@ fn compare_sources<R: Source>(
     }
 }
 
-/// The line that a comparison prints.
+/// Returns the line that a comparison prints.
 fn line_of_ending(ending: Ending) -> &'static [u8]
     ensures { result.now ≡ line_of_ending ending }
 {

@@ -68,7 +68,7 @@ impl<W: Write> Sink for LentOut<'_, W> {
     }
 }
 
-/// The files of a job's sets as sources that haven't failed, unless one that it needs is missing. Nothing is allocated then.
+/// Returns the files of a job's sets as sources that haven't failed, unless one that it needs is missing. Nothing is allocated then.
 fn open_sets<R: Read + Drop>(
     alloc: Global,
     job: Job,

@@ -43,7 +43,7 @@ fn sort_places(numbers: &[u64], places: &mut Vec<u64>) -> Result<(), AllocError>
     places.sort_by_cached_key(|place| number_there(numbers, *place).unwrap_or(0))
 }
 
-/// The order of numbers that aren't in order.
+/// Returns the order of numbers that aren't in order.
 fn sorted_order(alloc: Global, numbers: &[u64]) -> Result<NumberOrder, AllocError>
     ensures permutation { IfOk result (λ order. IsPermutation (range_with_len 0 (length numbers.now)) order.places.items) }
     ensures numbers { IfOk result (λ order. order.numbers.items ≡ at_places numbers.now order.places.items) }

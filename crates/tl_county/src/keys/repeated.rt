@@ -25,7 +25,7 @@ pub(crate) fn least_repeated<K: Key, T: Keyed<K>>(items: &[T]) -> Option<K>
     None
 }
 
-/// Whether each item's key is less than the next one's. If so, no key occurs twice.
+/// Checks whether each item's key is less than the next one's. If so, no key occurs twice.
 fn are_ascending<K: Key, T: Keyed<K>>(items: &[T]) -> bool
     ensures in_order { result ≡ true → IsInOrder (on T.key_of K.cmp) items.now }
     ensures apart { result ≡ true → IsLeastPassing K.cmp (is_repeated K.cmp (map T.key_of items.now)) None }

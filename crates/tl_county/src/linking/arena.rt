@@ -59,7 +59,7 @@ impl<'a> InArena<'a> {
         }
     }
 
-    /// The points of a chain, from its records of types 1 and 2.
+    /// Returns the points of a chain, from its records of types 1 and 2.
     fn keep_points(
         &mut self,
         basics: &ChainBasics<'_>,
@@ -77,7 +77,7 @@ impl<'a> InArena<'a> {
         keep(self.arena, &self.points)
     }
 
-    /// The FEATs of a chain, from its records of type 4.
+    /// Returns the FEATs of a chain, from its records of type 4.
     fn keep_feats(&mut self, names: &[Rec4]) -> Result<&'a [u32], AllocError>
         ensures value { IfOk result (λ feats. feats.now ≡ flat_map (λ (r : Fields4). r.feats) names.now) }
         ensures in_range { IfOk result (λ feats. AllByRecursion (IsNumber 8) feats.now) }
@@ -90,7 +90,7 @@ impl<'a> InArena<'a> {
         keep(self.arena, &self.feats)
     }
 
-    /// The further address ranges of a chain, from its records of type 6.
+    /// Returns the further address ranges of a chain, from its records of type 6.
     fn keep_ranges(&mut self, ranges: &[Rec6]) -> Result<&'a [Ranges], AllocError>
         ensures { IfOk result (λ kept. kept.now ≡ map (λ (r : Fields6). r.ranges) ranges.now) }
     {
@@ -102,7 +102,7 @@ impl<'a> InArena<'a> {
         keep(self.arena, &self.ranges)
     }
 
-    /// The lists of a chain, from its records of types 1, 2, 4 and 6.
+    /// Returns the lists of a chain, from its records of types 1, 2, 4 and 6.
     fn join_lists<'t, 'h, 'r>(
         &mut self,
         records: &OneChain<'t, 'h, 'r>,

@@ -27,7 +27,7 @@ pub(crate) fn name_bodies(alloc: Global, names: &[Rec5]) -> Result<Vec<Body5>, A
     names.iter().map(|name| *name.body()).collect(alloc)
 }
 
-/// The content of the first of these records, if there is one.
+/// Returns the content of the first of these records, if there is one.
 fn first_body(points: &[RecP]) -> Option<BodyP>
     ensures { result ≡ first (map (λ (r : FieldsP). r.body) points.now) }
 {
@@ -37,7 +37,7 @@ fn first_body(points: &[RecP]) -> Option<BodyP>
     }
 }
 
-/// The contents of the type P records, in their order.
+/// Returns the contents of the type P records, in their order.
 fn point_bodies(alloc: Global, points: &[RecP]) -> Result<Vec<Option<BodyP>>, AllocError>
     ensures { IfOk result (λ bodies. bodies.items ≡ map (λ (r : FieldsP). Some r.body) points.now) }
 {
@@ -138,7 +138,7 @@ pub(crate) struct OneChain<'t, 'h, 'r> {
 /// Builds the chains of a county in the way that it stores them. The chains may borrow the records of types 1 and I, which live for
 /// `'t`.
 pub(crate) trait ChainBuilder<'t, C: StoredChain> {
-    /// The chain made from its records.
+    /// Returns the chain made from its records.
     fn build_chain<'h, 'r>(&mut self, records: &OneChain<'t, 'h, 'r>) -> Result<C, AllocError>
         ensures { IfOk result (λ built. C.chain built ≡ chain_with records.now.basics.now records.now.topology.now records.now.shape.now
             records.now.names.now records.now.ranges.now) };
@@ -232,7 +232,7 @@ pub(crate) fn lands_of(alloc: Global, landmarks: &[Rec7]) -> Result<Vec<u64>, Al
 
 /// Builds the landmarks of a county in the way that it stores them.
 pub(crate) trait LandmarkBuilder<L: StoredLandmark> {
-    /// The landmark made from its records of types 7 and 8, in their order.
+    /// Returns the landmark made from its records of types 7 and 8, in their order.
     fn build_landmark(&mut self, records: &[Rec7], links: &[Rec8]) -> Result<L, AllocError>
         ensures { IfOk result (λ built. L.landmark built ≡ record { bodies = map (λ (r : Fields7). r.body) records.now; links = links.now }) };
 }

@@ -51,7 +51,7 @@ fn push_points(polygons: &mut Vec<PolygonKey>, points: &[RecP]) -> Result<(), Al
     polygons.extend(points.iter().map(|point| point.key()))
 }
 
-/// The CENIDs of most polygons on sides, in order. They are read from the type P records, since usually each polygon has one.
+/// Returns the CENIDs of most polygons on sides, in order. They are read from the type P records, since usually each polygon has one.
 fn likely_cenids(alloc: Global, sides: &[RecI], points: &[RecP]) -> Result<Vec<[u8; 5]>, AllocError>
     ensures { IfOk result (λ cenids. IsStrictlySortedBy bytes_cmp cenids.items) }
 {

@@ -19,7 +19,7 @@ pub(crate) struct Owned {
     pub(crate) alloc: Global,
 }
 
-/// The points of a chain, from its records of types 1 and 2.
+/// Returns the points of a chain, from its records of types 1 and 2.
 fn shape_of(alloc: Global, basics: &ChainBasics<'_>, shape: &[Rec2]) -> Result<Shape, AllocError>
     ensures { IfOk result (λ points. points ≡ basics.now.start ∷ (flat_map (λ (r : Fields2). r.points) shape.now ++ (basics.now.end ∷ []))) }
 {

@@ -86,7 +86,7 @@ pub(crate) fn check_topologies(tables: &OrderedTables, tlids: &Tlids) -> Result<
     Ok(())
 }
 
-/// The least use, as TLID and FEAT, of a FEAT that isn't in `feats`. Both lists must be in order.
+/// Returns the least use, as TLID and FEAT, of a FEAT that isn't in `feats`. Both lists must be in order.
 fn least_unnamed(uses: &[(u64, u32)], feats: &[u32]) -> Option<(u64, u32)>
     requires uses { IsInOrder sequence_cmp uses.now }
     requires feats { IsInOrder nat_cmp feats.now }
@@ -97,7 +97,7 @@ fn least_unnamed(uses: &[(u64, u32)], feats: &[u32]) -> Option<(u64, u32)>
         .find(|pair| place_of(feats, pair.1).is_none())
 }
 
-/// Whether each FEAT that a type 4 record names is in `feats`, which must be in order.
+/// Checks whether each FEAT that a type 4 record names is in `feats`, which must be in order.
 fn are_named(names: &Rec4, feats: &[u32], marks: &[bool]) -> bool
     requires feats { IsInOrder nat_cmp feats.now }
     requires marks { AreMarksOf feats.now marks.now }
@@ -109,7 +109,7 @@ fn are_named(names: &Rec4, feats: &[u32], marks: &[bool]) -> bool
         .all(|feat| is_marked(marks, feats, *feat))
 }
 
-/// Whether each FEAT that type 4 records name is in `feats`, which must be in order. The records are read once, in their own order.
+/// Checks whether each FEAT that type 4 records name is in `feats`, which must be in order. The records are read once, in their own order.
 fn all_named(alloc: Global, names: &[Rec4], feats: &[u32]) -> Result<bool, AllocError>
     requires { IsInOrder nat_cmp feats.now }
     ensures { IfOk result (λ all. all ≡ all_have_names feats.now names.now) }

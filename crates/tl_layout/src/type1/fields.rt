@@ -78,7 +78,7 @@ pub struct Body1Fields {
 }
 
 impl GeographicEntities {
-    /// The geographic entities in columns 131 to 190 of a line.
+    /// Returns the geographic entities in columns 131 to 190 of a line.
     fn at(line: &[u8]) -> GeographicEntities
         requires allowed { AreAllowed line.now }
         requires within { 190 ≤ length line.now }
