@@ -23,8 +23,10 @@ use std::alloc::{AllocError, Global};
 use std::hash::Hash;
 use tl_layout::{NumberOrNone, Side};
 
-/// Returns the ends and the sides of these directed chains, each one after the other. They are read before any node or polygon is numbered,
-/// so that reading one chain need not wait for another, and in one walk, since a chain may lie anywhere in memory.
+/// Returns the ends and the sides of these directed chains, in two lists.
+///
+/// Trick: they are read before any node or polygon is numbered, so that reading one chain need not wait for another, and in one walk,
+/// since a chain may be anywhere in memory.
 ///
 /// # Errors
 ///

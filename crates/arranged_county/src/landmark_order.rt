@@ -118,7 +118,7 @@ fn links_by_land<C: Chart>(
     let numbers = lands_there(alloc, chart, places)?;
     let lands = Interner::of_distinct(alloc, &numbers)?;
     let links = links_under(alloc, chart, polygons, &lands, places);
-    // One call for the prover, which otherwise reads the drop of each part.
+    // Trick: one call for the prover, which otherwise reads the drop of each part.
     drop(lands);
     let links = links?;
     let bounds = bounds_of(alloc, &links, places.len())?;

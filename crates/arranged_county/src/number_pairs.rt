@@ -99,6 +99,7 @@ fn land_pairs<C: Chart>(
     ensures { IfOk result (λ pairs. (ls : List (ℕ × List Body7)) → AreReadAt (C.county chart.now).landmarks places.now ls → pairs.items ≡ numbered (entry_keys ls)) }
 {
     let lands = lands_there(alloc, chart, places)?;
+    // Trick: `?` lets the prover look at each outcome by itself.
     let pairs = number_all(alloc, &lands)?;
     Ok(pairs)
 }

@@ -1,6 +1,6 @@
-//! Values kept with what is made after them.
+//! A value, and the outcome of a later step that can fail.
 //!
-//! Where making the second value fails, the first is dropped in one call for the prover, which otherwise reads the drop of each part.
+//! Trick: if the step fails, the prover reads one call that drops the value, which otherwise is the drop of each part.
 
 ghost use Rattle.std.specs.Prelude.{◌≡◌, IfOk, Ok, OnOk};
 

@@ -78,8 +78,8 @@ pub fn canonical_lists_keep_the_limits()
         IsCanonicalOf records canonical → AllByRecursion (λ r. AllByRecursion (λ n. n ≤ greatest_number) (numbers_of r)) canonical }
 {}
 
-/// Through each view that shows at most as many records of a county as the county has, a canonical list keeps the same limits
-/// relative to its list.
+/// Take any view, and a list that is canonical in it. The list keeps the same limits relative to the list that it belongs to. For the
+/// number of its records, the view must show no county with more records of a type than the county has.
 pub fn canonical_lists_keep_the_limits_in_each_view()
     ensures counts { (view : County → County) (records canonical : List Record) →
         IsView view → ShowsNoMore view → AllByRecursion FitsRecord records → IsCanonicalInView view records canonical →
@@ -127,9 +127,9 @@ pub fn one_canonical_text_for_one_map()
     ensures itself { (xs c : List Record) → IsCanonicalOf xs c → IsCanonicalOf c c }
 {}
 
-/// Through each view, an accepted list has canonical lists, all with the same text. Canonical lists of two accepted lists have
-/// the same text if the views of their counties are the same, and are equal only then. A canonical list is its own canonical
-/// list, both in the view and without it.
+/// Take any view. An accepted list has lists that are canonical in the view, all with the same text. Two lists that are canonical in
+/// the view have the same text if the view shows the same map of the counties that they belong to, and are equal only then. A list
+/// that is canonical in the view is its own canonical list, both in the view and without it.
 pub fn one_canonical_text_in_each_view()
     ensures exists { (view : County → County) (records : List Record) →
         IsView view → IsAccepted records → (answer : List Record) × IsCanonicalInView view records answer }
@@ -168,8 +168,8 @@ pub fn one_canonical_text_under_each_mask()
 
 /// Before chains with the same shape and chains that are their own reverse were accepted, canonical lists were those in which
 /// points determine every TLID and direction. Every list accepted then is accepted, and has such a list, both without a mask
-/// and under each mask. Through each view that list is a canonical one, and there is no other. A set that had a text then
-/// therefore has the same text now.
+/// and under each mask. In any view, such a list is canonical, and no other list is. A set that had a text then therefore has
+/// the same text now.
 pub fn strict_lists_are_canonical()
     ensures accepted { (records : List Record) → IsStrictlyAccepted records → IsAccepted records }
     ensures exists { (records : List Record) → IsStrictlyAccepted records → (answer : List Record) × IsStrictOf records answer }

@@ -108,8 +108,8 @@ pub trait Chart {
         body.put_towards(turned, out);
     }
 
-    /// Returns a byte made from the content of the type 1 record of the chain at a place. Reading it only brings the content into the
-    /// cache.
+    /// Returns a byte made from the content of the type 1 record of the chain at a place. It has no meaning.
+    // Trick: reading the byte brings the content into the cache.
     fn chain_byte(&self, _place: usize) -> u8 {
         0
     }

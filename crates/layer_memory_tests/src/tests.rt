@@ -1,4 +1,4 @@
-//! Tests of calls of layers to which memory is refused, and of calls that take much.
+//! Tests that refuse memory to single layers, and tests in which a layer needs much memory.
 
 mod comparing;
 mod hoard;

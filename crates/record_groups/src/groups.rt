@@ -2,7 +2,9 @@
 //!
 //! The records of a type are in groups: those of each chain, each landmark, each polygon. A group is read by place, and only
 //! the current record is made, so one loop serves all nine types. The head of a group is what a type reads before the group's
-//! records. Heads are read one after another before any of their records, because each may have to wait for memory.
+//! records.
+//!
+//! Trick: heads are read one after another before any of their records, because each may have to wait for memory.
 
 ghost use Rattle.std.specs.Prelude.{◌≡◌, ◌<◌, ◌≤◌, ◌+◌, ◌++◌, ◌-◌, ℕ, List, Some, length, drop, map, min, take, slice_get, option_map, OnOk};
 ghost use Rattle.record_groups.specs.Groups.{AreHeads, group_at, grouped};

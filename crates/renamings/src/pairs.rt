@@ -61,6 +61,7 @@ pub(crate) fn join_pairs<K: Key + Hash>(
     ensures { IfOk result (λ pairs. pairs.items ≡ composed K.cmp firsts.now nexts.now) }
 {
     let images = Images::new(alloc, nexts)?;
+    // Trick: `?` lets the prover look at each outcome by itself.
     let pairs = pairs_after(alloc, firsts, &images)?;
     Ok(pairs)
 }

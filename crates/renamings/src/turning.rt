@@ -58,6 +58,7 @@ pub(crate) fn turned_once(
     let images = Images::new(alloc, chains)?;
     let firsts = SortedNumbers::new(alloc, firsts)?;
     let nexts = SortedNumbers::new(alloc, nexts)?;
+    // Trick: `?` lets the prover look at each outcome by itself.
     let turned = turned_by_one(alloc, pairs, &images, &firsts, &nexts)?;
     Ok(turned)
 }
@@ -71,6 +72,7 @@ pub(crate) fn turned_back(
     ensures { IfOk result (λ back. back.items ≡ map (image nat_cmp chains.now) (filter (is_named nat_cmp chains.now) turned.now)) }
 {
     let images = Images::new(alloc, chains)?;
+    // Trick: `?` lets the prover look at each outcome by itself.
     let back = named_images_of(alloc, &images, turned)?;
     Ok(back)
 }

@@ -1,7 +1,7 @@
 //! Worked sets, each a list of patterns of lines. The texts were worked out manually from the rules of the canonical form.
 //!
-//! Functions return the tables of tests. The prover knows the content of a constant wherever it is named, which makes the proof there
-//! long. The proof of a table grows as the square of its length, so several short tables are faster than one long one.
+//! Trick: functions return the tables of tests. The prover knows the content of a constant wherever it is named, which makes the proof
+//! there long. The proof of a table grows as the square of its length, so several short tables are faster than one long one.
 
 use crate::masks::plain;
 use crate::sets::{Row, SetLines, sets_of};

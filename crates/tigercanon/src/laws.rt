@@ -72,9 +72,10 @@ pub fn a_canonical_text_is_its_own()
         IsCanonicalText parts text → IsCanonicalText (text ∷ []) text }
 {}
 
-/// Through each view, which shows all of a county or less, an accepted set has exactly one canonical text, and no canonical list of
-/// what the view shows of its map has another. The texts of two sets are equal exactly if what the view shows of their counties is
-/// the same. And a canonical text, as one part, is an accepted set, and its own canonical text in the view and without it.
+/// Take any view: it shows a county whole, or without some of its fields. In the view an accepted set has exactly one canonical text,
+/// and each canonical list of the map that the view shows has this text. The texts of two sets are equal exactly if the view shows
+/// the same map of both. A text that is canonical in the view is an accepted set, as one part, and it is its own canonical text both
+/// in the view and without it.
 pub fn one_canonical_text_in_each_view()
     ensures exists { (view : County → County) (parts : List (List ℕ)) (records : List Record) →
         IsView view → IsAcceptedSet parts records → (text : List ℕ) × IsCanonicalTextInView view parts text }

@@ -44,6 +44,7 @@ fn carries_parts<A: Chart, B: Chart>(
     if !there {
         return Ok(false);
     }
+    // Trick: `?` lets the prover look at each outcome by itself.
     let links = are_links_there(alloc, a, b, tables)?;
     Ok(links)
 }

@@ -89,6 +89,7 @@ pub(crate) fn are_links_there<A: Chart, B: Chart>(
     let keys = new_keys(alloc, tables, &links)?;
     let others = links_of(alloc, b)?;
     let known = keys_of(alloc, &others)?;
+    // Trick: `?` lets the prover look at each outcome by itself.
     let there = are_reordered(keys, known)?;
     Ok(there)
 }

@@ -117,6 +117,7 @@ pub(crate) fn numbers_are_paired<A: Chart, B: Chart>(
     if !lists {
         return Ok(false);
     }
+    // Trick: `?` lets the prover look at each outcome by itself.
     let turned = are_turned_once(alloc, a, renaming)?;
     Ok(turned)
 }

@@ -46,7 +46,7 @@ fn are_items_of<K: Key, L: Listed<Item = K>>(
     are_reordered(numbers, items)
 }
 
-/// Checks whether the pairs have each of the olds once on the left, each of the news once on the right, and no other.
+/// Checks whether the pairs have each old number once on the left and each new number once on the right, and no other numbers.
 pub(crate) fn are_paired<K: Key, A: Listed<Item = K>, B: Listed<Item = K>>(
     alloc: Global,
     pairs: &[(K, K)],
@@ -61,6 +61,7 @@ pub(crate) fn are_paired<K: Key, A: Listed<Item = K>, B: Listed<Item = K>>(
         return Ok(false);
     }
     let rights = new_numbers(alloc, pairs)?;
+    // Trick: `?` lets the prover look at each outcome by itself.
     let right = are_items_of(alloc, rights, news)?;
     Ok(right)
 }

@@ -9,9 +9,9 @@ const MANY_ITEMS: usize = 64;
 
 /// Reserves capacity ahead if `items` is long and has too little for `more` items. It doesn't report whether it succeeded.
 ///
-/// A list that grows by doubling moves its contents each time, and moved memory is no longer in huge pages. Capacity that was
-/// never written takes no memory, so this asks at once for 15 times as many items as the list has. If that fails, the list
-/// grows like any other.
+/// Trick: a list that grows by doubling moves its contents each time, and moved memory is no longer in huge pages. Capacity that
+/// was never written takes no memory, so this reserves 15 times as many items as the list has. If that fails, the list grows like
+/// any other.
 #[inline(always)]
 pub fn reserve_ahead<T>(items: &mut Vec<T>, more: usize)
     ensures { items.new.items ≡ items.old.items }

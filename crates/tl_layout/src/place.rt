@@ -84,7 +84,7 @@ impl Places for ArrayVec<Point, 10> {
     }
 
     fn read(line: &[u8], column: usize) -> Result<Option<Point>, FieldFault> {
-        // Most points are west of Greenwich, so a minus sign shows at once that the place is used.
+        // Trick: most points are west of Greenwich, so a minus sign shows at once that the place is used.
         if line[column - 1] == b'+' && line[column - 1..column + 18] == ZEROS[..] {
             return Ok(None);
         }

@@ -31,7 +31,7 @@ impl<const N: usize> LeftRight<N> {
     }
 }
 
-// Turning isn't inlined: a function clears the memory for it on entry, and most values aren't turned.
+// Trick: turning isn't inlined. A function clears the memory for it on entry, and most values aren't turned.
 
 /// Exchanges the address at the left start with the one at the right end, and the address at the left end with the one at
 /// the right start; likewise their flags. Exchanges the two ZIP codes.

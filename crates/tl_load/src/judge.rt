@@ -25,8 +25,8 @@ pub(crate) fn judge_line<L: Layout>(line: &[u8], is_clean: bool) -> Result<L, Li
     judge_short::<L>(line)
 }
 
-/// Judges a line that begins with the layout's type and is shorter than the layout, after padding it with blanks. Not inlined:
-/// a function clears the memory for the padded line on entry, and most lines are full.
+/// Judges a line that begins with the layout's type and is shorter than the layout, after padding it with blanks.
+// Trick: not inlined. A function clears the memory for the padded line on entry, and most lines are full.
 #[inline(never)]
 #[tactic(auto, unfolding(crate::specs::LineOf::judged_as))]
 fn judge_short<L: Layout>(line: &[u8]) -> Result<L, LineFault>

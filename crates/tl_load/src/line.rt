@@ -31,8 +31,8 @@ pub(crate) fn line_end(bytes: &[u8]) -> Option<LineEnd>
     }
 }
 
-/// Searches for the LF of the first line. Doesn't test the bytes before it. Not inlined, so that a full line, as nearly all
-/// are, costs no call.
+/// Searches for the LF of the first line. Doesn't test the bytes before it.
+// Trick: not inlined, so that a full line costs no call. Nearly all lines are full.
 #[inline(never)]
 fn searched_line_end(bytes: &[u8]) -> Option<LineEnd>
     ensures { MatchOption result (IsWithoutLineFeed bytes.now) (λ end. IsLineEnd bytes.now end.place end.is_clean) }

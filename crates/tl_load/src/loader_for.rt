@@ -145,7 +145,7 @@ impl<K: Collector> LoaderFor<K> {
         ensures no_device { IfErr result IsNotDevice }
     {
         if self.line.is_empty() {
-            // Only a fault is copied. If every result were, each line would wait until the bytes of the one before are in memory.
+            // Trick: only a fault is copied. If every result were, each line would wait until the bytes of the previous line are in memory.
             return match self.judge_next(without_carriage_return(bytes), is_clean) {
                 Ok(()) => Ok(()),
                 Err(fault) => Err(fault),

@@ -79,7 +79,7 @@ fn compare_with_arranged<'a, C: Shared>(
             Ok((ordering, lesser(ordering, first, second)))
         }
         Err(error) => {
-            // One call for the prover, which otherwise reads the drop of each table.
+            // Trick: one call for the prover, which otherwise reads the drop of each table.
             drop(first);
             Err(error)
         }
@@ -104,15 +104,16 @@ fn kept_or_arranged<'a, C: Shared>(
     }
 }
 
-/// Puts a value into a place, in one call for the prover, which otherwise reads the drop of what was there.
+/// Replaces a value.
+// Trick: one call for the prover, which otherwise reads the drop of the old value.
 fn put<V: Drop>(kept: &mut Option<V>, value: Option<V>)
     ensures { kept.new ≡ value }
 {
     *kept = value;
 }
 
-/// Compares two choices with the same records of type 1. If `arranged` has a county, it's that of the first choice; then it has that of
-/// the lesser one.
+/// Compares two choices with the same records of type 1. `arranged` may hold the county of the first choice, arranged. If the call
+/// succeeds, `arranged` holds the county of the lesser choice.
 fn compare_ties<'a, C: Shared>(
     alloc: Global,
     classes: &Classes<'a, C>,
@@ -133,8 +134,8 @@ fn compare_ties<'a, C: Shared>(
     Ok(ordering)
 }
 
-/// Returns the number of the choice with the least text among these, which have the same records of type 1. `arranged` has no county, and
-/// may then have that of the choice.
+/// Returns the number of the choice with the least text among these, which have the same records of type 1. `arranged` must be
+/// empty. Afterwards it may hold the county of the least choice.
 fn search_least<'a, C: Shared>(
     alloc: Global,
     county: &Compared<'_, 'a, C>,
@@ -194,7 +195,7 @@ pub(crate) fn least_among_choices<C: Shared>(
         numbers,
         &mut arranged,
     );
-    // One call each for the prover, which otherwise reads the drop of each table.
+    // Trick: one call each for the prover, which otherwise reads the drop of each table.
     drop(arranged);
     drop(classes);
     least

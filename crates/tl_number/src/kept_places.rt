@@ -243,7 +243,7 @@ pub(crate) fn kept_chains<C: Chart>(
     let linked = has_open_links(alloc, chart, shape_order)?;
     let mut searches = searches_for(alloc, chart, shape_order, linked)?;
     let tlids = kept_along(alloc, chart, shape_order, &mut searches);
-    // One call for the prover, which otherwise reads the drop of each part.
+    // Trick: one call for the prover, which otherwise reads the drop of each part.
     drop(searches);
     Ok(KeptChains {
         tlids: tlids?,

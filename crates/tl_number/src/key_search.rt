@@ -80,7 +80,8 @@ fn meet_wanted<K: Key + Hash + NumericKey>(
     Ok(())
 }
 
-/// Checks whether one of the keys at a place is wanted, and wasn't met before. Meets the wanted ones if the place is fixed.
+/// Checks whether a chain with these keys brings a new one: a wanted key that isn't met yet. If the chain's place is fixed, its wanted keys
+/// are met from now on.
 fn brings_new<K: Key + Hash + NumericKey>(
     places: &[OpenPlace],
     wanted: &Interner<K>,
@@ -113,6 +114,7 @@ pub(crate) fn search_place<G: KeyGroups>(
     ensures met { OnOk result (search.new.met ≡ met_before G.Item.cmp places.now search.old.wanted (G.groups groups.now) (place + 1)) }
 {
     groups.copy_keys(place, &mut search.here)?;
+    // Trick: `?` lets the prover look at each outcome by itself.
     let new = brings_new(places, &search.wanted, &mut search.met, place, &search.here)?;
     Ok(new)
 }

@@ -50,7 +50,7 @@ fn least_number<C: Chart>(
     let kept = kept_chains(alloc, chart, shape_order)?;
     let tables = part_tables(alloc, chart, kept)?;
     let found = least_in_part(alloc, &CountyPart::new(chart, &tables), least);
-    // One call for the prover, which otherwise reads the drop of each table.
+    // Trick: one call for the prover, which otherwise reads the drop of each table.
     drop(tables);
     found
 }

@@ -109,9 +109,10 @@ fn compare_beyond_first<C: Chart>(chart: &C, shape: &PlacedShape, other: &Placed
     }
 }
 
-/// Compares the shapes of two chains. Nearly all pairs differ in their first points, so only this comparison is inlined into
-/// the loops of the sort, and the rest is a separate function. Testing for equality first leaves those loops no branch that is
-/// hard to predict.
+/// Compares the shapes of two chains.
+///
+/// Trick: nearly all pairs differ in their first points, so only this comparison is inlined into the loops of the sort, and the rest is
+/// a separate function. Testing for equality first leaves those loops no branch that is hard to predict.
 #[inline(always)]
 pub(crate) fn compare_shapes<C: Chart>(
     chart: &C,

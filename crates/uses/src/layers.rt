@@ -50,6 +50,7 @@ pub fn canonical_text(alloc: Global, file: &[u8]) -> Result<Vec<u8>, Fault>
     let records = load_pieces(alloc, &[file])?;
     let canon = canonical_county(alloc, records)?;
     let text = text_in_memory(alloc, &canon);
+    // Trick: one call for the prover, which otherwise reads the drop of each table.
     drop(canon);
     text
 }

@@ -1,4 +1,4 @@
--- Each list of records is accepted or has one refusal. Through each view the canonical lists of two accepted lists have the same
+-- Each list of records is accepted or has one refusal. Lists of two accepted lists that are canonical in a view have the same
 -- text if the view shows the same map of both counties, and are equal only then.
 use Rattle.canonical_form.proofs.Common.{AreSame, County, IsView, List, Record, Unlinked, inl, inr, refl, subst, sym, text_of, ◌≡◌, ◌⊎◌}
 use Rattle.canonical_form.proofs.Common.{IsAccepted, IsCounty, IsLinked, IsRefusal, LinkFault, OutOfProfile, ProfileFault, county_of, plain}

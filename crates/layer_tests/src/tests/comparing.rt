@@ -1,4 +1,6 @@
-//! Comparisons as functions, so that the prover carries nothing over from one to the next.
+//! Comparisons.
+//!
+//! Trick: as functions, so that the prover carries nothing over from one to the next.
 
 use std::fmt::Debug;
 use std::process::Abort;

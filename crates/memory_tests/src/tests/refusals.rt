@@ -10,7 +10,7 @@
 //!   that leaves out something. All others are swept under the mask that leaves out everything
 //! - a made map of 2,000 chains (`many.rt`), by all calls
 //!
-//! Each call is a type, whose function runs that call alone. A function that named all calls would take long to prove, and so would
+//! Trick: each call is a type, whose function runs that call alone. A function that named all calls would take long to prove, and so would
 //! each function above it. A function that is passed on by its name is proved three times more, as `Fn`, `FnMut` and `FnOnce`.
 
 mod layers;

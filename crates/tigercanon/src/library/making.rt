@@ -41,8 +41,7 @@ pub(crate) trait Product<D>: Drop + Sized {
             → Answers mask parts self device.old result device.new };
 }
 
-/// Makes the product from an admitted county that is under this mask already. One call drops the canonical county, so that the
-/// prover checks that call and not the drop of each field.
+/// Makes the product from an admitted county that is under this mask already.
 fn make_masked<D, P: Product<D>, C: Chart + Drop>(
     alloc: Global,
     admitted: Admitted<C>,
@@ -57,6 +56,7 @@ fn make_masked<D, P: Product<D>, C: Chart + Drop>(
 {
     let county = canonise_alone(alloc, admitted)?;
     let made = product.of(alloc, &county, device, mask);
+    // Trick: one call for the prover, which otherwise reads the drop of each table.
     drop(county);
     Ok(made)
 }

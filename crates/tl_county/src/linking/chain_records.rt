@@ -7,8 +7,10 @@ use std::alloc::{AllocError, Global};
 use std::marker::Model;
 use tl_layout::{Point, Rec1, RecI};
 
-/// A type 1 record, with its TLID and its ends. The records of a county lie in any order, so each read may wait for memory. These
-/// fields are read from all records before the first chain is built, so that many of these waits overlap.
+/// A type 1 record, with its TLID and its ends.
+///
+/// Trick: records can be in any order, so each read may wait for memory. The fields of all records are read before the first chain is
+/// built, so that many waits overlap.
 #[derive(Drop)]
 pub(crate) struct ChainBasics<'t> {
     record: &'t Rec1,
