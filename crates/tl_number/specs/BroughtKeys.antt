@@ -1,4 +1,4 @@
--- Places at which a key appears that first appears at an open place.
+-- Places that bring a wanted key: they have it, and no fixed place before has it.
 use Rattle.std.specs.Prelude.{Bool, List, filter, map, not, ℕ, ◌&&◌}
 use Rattle.std.specs.{List.list_any, List.range_with_len, declared.cmp.Ordering.Ordering}
 use Rattle.ordered_lists.specs.Orders.{contains}
@@ -11,14 +11,14 @@ use Rattle.tl_number.specs.KeysAlong.{is_open}
 abbrev pub fixed_keys : {K : Type 0} → List OpenPlace → List (List K) → ℕ → List K
 fixed_keys places along count = grouped (map (group_at along) (filter (λ place. not (is_open places place)) (range_with_len 0 count)))
 
--- whether one of the keys is open, and isn't among those met before
+-- whether one of the keys is wanted, and isn't among the met ones
 abbrev pub has_new : {K : Type 0} → (K → K → Ordering) → List K → List K → List K → Bool
 has_new cmp opened met keys = list_any (λ key. contains cmp key opened && not (contains cmp key met)) keys
 
--- whether a place has an open key that no fixed place before it has
+-- whether a place has a wanted key that no fixed place before it has
 abbrev pub brings : {K : Type 0} → (K → K → Ordering) → List OpenPlace → List K → List (List K) → ℕ → Bool
 brings cmp places opened along place = has_new cmp opened (fixed_keys places along place) (group_at along place)
 
--- those of the wanted keys that fixed places before this one have
+-- the met keys: wanted ones that fixed places before this one have
 abbrev pub met_before : {K : Type 0} → (K → K → Ordering) → List OpenPlace → List K → List (List K) → ℕ → List K
 met_before cmp places wanted along place = first_seen cmp (filter (λ key. contains cmp key wanted) (fixed_keys places along place))

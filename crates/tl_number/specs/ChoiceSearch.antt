@@ -20,7 +20,7 @@ pub record LeavesChoices (county : County) (shapes : OrderOfShapes) : Type 0 whe
 abbrev pub numbered_arrangement : OrderOfShapes → ℕ → List DirectedChain
 numbered_arrangement shapes number = (moved other_way shapes.places (shapes.by_shape, number)).0
 
--- the chains are those of the choice with the number
+-- the choice with the number has these chains
 abbrev pub IsChosen : OrderOfShapes → NumberedArrangement → Type 0
 IsChosen shapes arrangement = arrangement.chains.items ≡ numbered_arrangement shapes arrangement.number
 

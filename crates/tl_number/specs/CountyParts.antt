@@ -1,4 +1,4 @@
--- Parts of a county: some of its chains, with their names and polygons, and all of its landmarks or none; and what is stored of them.
+-- Parts of a county: some of its chains, with their names and polygons, and all of its landmarks or none; and tables for them.
 use Rattle.std.specs.Prelude.{Bool, List, [], cond, filter, flat_map, length, option_to_list, slice_get, ℕ, ◌≡◌}
 use Rattle.std.specs.{List.list_any, List.range_with_len, Ordering.nat_cmp, declared.cmp.Ordering.Ordering}
 use Rattle.ordered_lists.specs.{Orders.contains, Places.at_places}
@@ -22,21 +22,21 @@ part_of county keeps with_landmarks = record {
   links = cond with_landmarks county.links [];
 }
 
--- the part that tables keep of a county
+-- the part of a county that tables describe
 abbrev pub part_with : County → PartTables → County
 part_with county tables = part_of county (λ entry. contains nat_cmp entry.0 tables.kept.tlids.items) tables.kept.linked
 
--- the places of those of the keys that are wanted
+-- the places of the wanted keys
 abbrev pub places_among : {K : Type 0} → (K → K → Ordering) → List K → List K → List ℕ
 places_among cmp wanted keys =
     filter (λ place. list_any (λ key. contains cmp key wanted) (option_to_list (slice_get keys place))) (range_with_len 0 (length keys))
 
--- these are the wanted ones of all keys, and their places
+-- these are the keys that are picked from a list because they are wanted, and their places
 pub record IsPicked {K : Type 0} (cmp : K → K → Ordering) (wanted all : List K) (picked : Picked K) : Type 0 where
   pub places : picked.places.items ≡ places_among cmp wanted all
   pub keys : picked.keys.items ≡ at_places all (places_among cmp wanted all)
 
--- tables of a county have the keys of its part, and the places of these in the county
+-- tables of a county have the keys of its part, and their places in the county
 pub record HoldsPart (county : County) (tables : PartTables) : Type 0 where
   pub tlids : tables.chains.keys.items ≡ tlids (part_with county tables)
   pub chains : AreReadAt county.chains tables.chains.places.items (part_with county tables).chains

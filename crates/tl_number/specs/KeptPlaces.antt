@@ -1,4 +1,4 @@
--- Searching the chains by which the choices of a county are compared, place by place.
+-- Searching the kept chains of a county, place by place.
 use Rattle.std.specs.Prelude.{List, flat_map, length, map, ℕ, ◌≡◌}
 use Rattle.std.specs.{List.range_with_len, Ordering.nat_cmp, declared.cmp.Ordering.Ordering}
 use Rattle.ordered_lists.specs.Orders.{contains}
@@ -15,7 +15,7 @@ link_keys_at county place = map link_key (links_at county place)
 abbrev pub link_keys : County → List PolygonKey
 link_keys county = flat_map (link_keys_at county) (range_with_len 0 (length county.landmarks))
 
--- a search for these keys that is at a place: it has them in any order, and met those of them that fixed places before have
+-- a search for these keys that is at a place: it has them in any order, and has met the ones that earlier fixed places have
 pub record IsSearchAt {K : Type 0} (cmp : K → K → Ordering) (places : List OpenPlace) (keys : List K) (along : List (List K)) (place : ℕ)
     (wanted met : List K) : Type 0 where
   pub same : (key : K) → contains cmp key wanted ≡ contains cmp key keys

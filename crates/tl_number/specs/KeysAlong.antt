@@ -1,4 +1,4 @@
--- The keys along directed chains, and those of them that first appear at open places.
+-- The keys along directed chains, and the open ones, which first appear at open places.
 use Rattle.std.specs.Prelude.{Bool, List, [], cond, filter, flat_map, nat_le, nat_lt, option_to_list, ℕ, ◌&&◌, ◌++◌, ◌+◌, ◌∷◌}
 use Rattle.std.specs.{List.list_any, List.position_or_len, List.range_with_len, Ordering.is_eq, declared.cmp.Ordering.Ordering}
 use Rattle.ordered_lists.specs.Orders.{contains}

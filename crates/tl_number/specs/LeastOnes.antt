@@ -24,16 +24,16 @@ ones_in county n = ones_of (chosen_county county n)
 abbrev pub HaveLeastOnes : County → ℕ → List ℕ → Type 0
 HaveLeastOnes county bound numbers = AreLeastBelow records_cmp (ones_in county) bound numbers
 
--- The same for choices whose numbers have the same digits behind a digit, by that digit. The digits behind it make up a number.
+-- The same for choices whose numbers have the same digits after a digit, by that digit. The digits after it make up a number.
 abbrev pub HaveLeastOnesByDigit : County → ℕ → ℕ → ℕ → List ℕ → Type 0
 HaveLeastOnesByDigit county ways behind bound digits = AreLeastBelow records_cmp (λ digit. ones_in county (digit * ways + behind)) bound digits
 
--- Numbers with the same digit before this many ways compare as the numbers behind the digit do.
+-- Numbers with the same digit before this many ways compare as the numbers after the digit do.
 abbrev pub IsDigitApart : County → ℕ → Type 0
 IsDigitApart county ways = (digit n m : ℕ) → n < ways → m < ways
     → ones_cmp county (digit * ways + n) (digit * ways + m) ≡ ones_cmp county n m
 
--- earlier open places move chains before an edge, and later ones behind it
+-- earlier open places move chains before an edge, and later ones after it
 pub record ArePlacesApart (count : ℕ) (front back : List OpenPlace) : Type 0 where
   pub edge : ℕ
   pub inside : edge ≤ count
@@ -49,14 +49,14 @@ ways_of (at ∷ places) = at.alike * ways_at at * ways_of places
 abbrev pub combined : ℕ → List ℕ → List ℕ → List ℕ
 combined ways digits numbers = flat_map (λ digit. map (λ number. digit * ways + number) numbers) digits
 
--- all of these choices have the same records of type 1
+-- all choices of a list have the same records of type 1
 abbrev pub HaveSameOnes : County → List ℕ → Type 0
 HaveSameOnes county numbers = AllByRecursion (λ n. AllByRecursion (λ m. ones_cmp county n m ≡ Equal) numbers) numbers
 
--- the text of this choice comes after that of none of these
+-- no choice of a list has a lesser text than this choice
 abbrev pub IsLeastAmong : County → List ℕ → ℕ → Type 0
 IsLeastAmong county numbers n = AllByRecursion (λ m. IsNotAfter (choice_list county n) (choice_list county m)) numbers
 
--- the least of these choices is the least of all
+-- the least choice of a list is the least of all
 abbrev pub HaveLeast : County → List ℕ → Type 0
 HaveLeast county numbers = (n : ℕ) → IsLeastAmong county numbers n → IsLeastBelow county (choices county) n

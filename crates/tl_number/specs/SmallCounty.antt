@@ -1,5 +1,5 @@
--- The part of a county by which its choices are compared: the chains at open places, the first fixed chain of each key that they have, and
--- the landmarks if one of these has a polygon that first appears at an open place.
+-- The small county, which decides how choices compare: the chains at open places, the first fixed chain of each key that they have, and
+-- all landmarks if some landmark has a polygon that first appears at an open place.
 use Rattle.std.specs.Prelude.{Bool, List, [], cond, filter, length, map, ℕ, ◌++◌, ◌||◌}
 use Rattle.std.specs.{List.list_any, List.range_with_len, Ordering.nat_cmp}
 use Rattle.ordered_lists.specs.{Orders.contains, Places.at_places}
@@ -16,7 +16,7 @@ abbrev pub keys_at_open : {K : Type 0} → (Chain → List K) → County → Ord
 keys_at_open keys county shapes =
     grouped (map (group_at (keys_along keys county shapes.by_shape)) (open_among shapes.places (length shapes.by_shape)))
 
--- whether some landmark has one of these polygons
+-- whether some landmark has a polygon of the list
 abbrev pub has_open_link : County → List PolygonKey → Bool
 has_open_link county opened = list_any (λ link. contains key_cmp (link_key link) opened) county.links
 
@@ -24,7 +24,7 @@ has_open_link county opened = list_any (λ link. contains key_cmp (link_key link
 abbrev pub is_linked : County → OrderOfShapes → Bool
 is_linked county shapes = has_open_link county (first_open key_cmp shapes.places (keys_along chain_polygons county shapes.by_shape))
 
--- The keys whose numbers can differ between choices: those of chains at open places, and the polygons of landmarks if these are kept.
+-- The wanted keys, whose numbers can differ between choices: of chains at open places, and of landmarks if these are compared.
 abbrev pub wanted_nodes : County → OrderOfShapes → List ℕ
 wanted_nodes county shapes = keys_at_open chain_nodes county shapes
 
@@ -35,7 +35,7 @@ abbrev pub wanted_polygons : County → OrderOfShapes → List PolygonKey
 wanted_polygons county shapes =
     keys_at_open chain_polygons county shapes ++ cond (is_linked county shapes) (map link_key county.links) []
 
--- whether a place is open, or the first fixed place of a wanted key
+-- whether a place is open, or brings a wanted key
 abbrev pub is_kept : County → OrderOfShapes → ℕ → Bool
 is_kept county shapes place = is_open shapes.places place
     || (brings nat_cmp shapes.places (wanted_nodes county shapes) (keys_along chain_nodes county shapes.by_shape) place

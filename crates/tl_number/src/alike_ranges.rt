@@ -114,7 +114,7 @@ fn are_alike<C: Chart>(
         || representative_of(chart, alike, one).is_same(representative_of(chart, alike, other))
 }
 
-/// Returns a number of places, from the first on, at which two choices have chains with the same further address ranges.
+/// Returns a number of places, from the first on, where two choices have chains with the same further address ranges.
 pub(crate) fn count_alike<C: Chart>(
     classes: &Classes<'_, C>,
     shape_order: &ShapeOrder,

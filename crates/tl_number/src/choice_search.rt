@@ -86,7 +86,7 @@ fn compare_with_arranged<'a, C: Shared>(
     }
 }
 
-/// Returns the first of two choices, arranged: as it is kept, or anew if none is.
+/// Returns the first of two choices, arranged: as it was stored, or arranged now.
 fn kept_or_arranged<'a, C: Shared>(
     alloc: Global,
     classes: &Classes<'a, C>,
@@ -169,7 +169,7 @@ fn search_least<'a, C: Shared>(
     Ok(least.number)
 }
 
-/// Returns the number of the choice with the least text. It is one of these choices, which have the same records of type 1.
+/// Returns the number of the choice with the least text. It is in `numbers`, whose choices have the same records of type 1.
 pub(crate) fn least_among_choices<C: Shared>(
     alloc: Global,
     chart: &C,

@@ -48,7 +48,7 @@ fn place_there(places: &[u32], place: usize, end: usize) -> usize
     }
 }
 
-/// Returns one number if landmarks are kept, and the other one if they aren't.
+/// Returns `one` if landmarks are compared, and `other` if they aren't.
 fn if_linked(linked: bool, one: usize, other: usize) -> usize
     ensures { result ≡ cond linked one other }
 {
@@ -56,7 +56,7 @@ fn if_linked(linked: bool, one: usize, other: usize) -> usize
 }
 
 impl<'a, C: Chart> CountyPart<'a, C> {
-    /// Makes the part that tables keep of a county. The polygons of its landmarks are on its chains.
+    /// Makes the part of a county that these tables describe. The polygons of its landmarks are on its chains.
     pub(crate) fn new(chart: &'a C, tables: &'a PartTables) -> CountyPart<'a, C>
         requires tables { HoldsPart (C.county chart.now) tables.now }
         requires county { IsCounty (part_with (C.county chart.now) tables.now) }

@@ -1,8 +1,8 @@
-//! The chains by which the choices of a county can be compared, without its other ones.
+//! The kept chains: comparing only them compares the choices of a county.
 //!
-//! Choices can differ at open places, and in the numbers of nodes, polygons and names that chains at open places have. So the chains at
-//! open places are kept, and for each of these keys the first chain at a fixed place that has it. If some landmark has a polygon that
-//! first appears at an open place, the polygons of all landmarks are kept in the same way.
+//! Choices can differ at open places, and in the numbers of nodes, polygons and names that chains at open places have. These keys are
+//! wanted. The chains at open places are kept, and for each wanted key the first chain at a fixed place that has it. If some landmark has
+//! a polygon that first appears at an open place, the polygons of all landmarks are wanted too.
 
 ghost use Rattle.std.specs.List.{list_any};
 ghost use Rattle.std.specs.Prelude.{IfOk, OnOk, [], cond, length, ◌++◌, ◌+◌, ◌<◌, ◌||◌, ◌≡◌};
@@ -21,7 +21,7 @@ use county_chart::{Chart, DirectedChain, Listed, PolygonKey};
 use std::alloc::{AllocError, Global};
 use tl_profile::ShapeOrder;
 
-/// The chains by which the choices of a county are compared.
+/// The kept chains of a county.
 #[derive(Drop)]
 pub(crate) struct KeptChains {
     /// Their TLIDs, in the order of shapes.
@@ -126,7 +126,7 @@ fn see_if_linked<C: Chart>(
     Ok(())
 }
 
-/// Returns the polygons of these chains, and of landmarks if these are compared.
+/// Returns the wanted polygons: those on the sides of these chains, and the polygons of landmarks if landmarks are compared.
 fn wanted_polygons<C: Chart>(
     alloc: Global,
     chart: &C,
@@ -170,7 +170,7 @@ fn searches_for<C: Chart>(
     })
 }
 
-/// Checks whether a chain is kept: its place is open, or it has a wanted node, polygon or name.
+/// Checks whether a chain is kept: its place is open, or it brings a wanted node, polygon or name.
 fn any_of(at_open: bool, node: bool, polygon: bool, name: bool) -> bool
     ensures { result ≡ (at_open || (node || (polygon || name))) }
 {
@@ -226,7 +226,7 @@ fn kept_along<C: Chart>(
     Ok(tlids)
 }
 
-/// Returns the chains by which the choices of a county are compared, given the order of its chains by their shapes.
+/// Returns the kept chains of a county, given the order of its chains by their shapes.
 ///
 /// # Errors
 ///
@@ -243,7 +243,7 @@ pub(crate) fn kept_chains<C: Chart>(
     let linked = has_open_links(alloc, chart, shape_order)?;
     let mut searches = searches_for(alloc, chart, shape_order, linked)?;
     let tlids = kept_along(alloc, chart, shape_order, &mut searches);
-    // Trick: one call for the prover, which otherwise reads the drop of each part.
+    // Trick: one call for the prover, which otherwise reads the drop of each search.
     drop(searches);
     Ok(KeptChains {
         tlids: tlids?,

@@ -13,7 +13,7 @@ use std::alloc::{AllocError, Global};
 use std::hash::Hash;
 use tl_profile::OpenPlace;
 
-/// Wanted keys, and those of them that fixed places had so far.
+/// Wanted keys, and the met ones: wanted keys that fixed places had so far.
 #[derive(Drop)]
 pub(crate) struct KeySearch<K: Key + Hash + NumericKey> {
     pub(crate) wanted: Interner<K>,
@@ -36,14 +36,14 @@ impl<K: Key + Hash + NumericKey> KeySearch<K> {
     }
 }
 
-/// Checks whether a key is wanted, and wasn't met before.
+/// Checks whether a key is wanted and isn't met yet.
 fn is_new<K: Key + Hash + NumericKey>(wanted: &Interner<K>, met: &Interner<K>, key: K) -> bool
     ensures { result ≡ (contains K.cmp key wanted.now && not (contains K.cmp key met.now)) }
 {
     has_key(wanted, key) && !has_key(met, key)
 }
 
-/// Checks whether one of these keys is wanted, and wasn't met before.
+/// Checks whether one of these keys is wanted and isn't met yet.
 fn has_new_key<K: Key + Hash + NumericKey>(
     wanted: &Interner<K>,
     met: &Interner<K>,
@@ -100,7 +100,7 @@ fn brings_new<K: Key + Hash + NumericKey>(
     Ok(new)
 }
 
-/// Checks whether the chain at a place has a wanted key that no fixed place before it has. The search goes on to the next place.
+/// Checks whether the chain at a place brings a key: a wanted one that no fixed place before has. The search goes on to the next place.
 pub(crate) fn search_place<G: KeyGroups>(
     places: &[OpenPlace],
     groups: &G,

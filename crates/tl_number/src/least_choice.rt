@@ -1,7 +1,7 @@
 //! The choice with the least text.
 //!
-//! Two choices compare as they do in the small county: the chains that choices can move, the chains that bring their nodes, polygons and
-//! names first, and landmarks if they can differ. So the least choice is looked for there.
+//! Two choices compare as they do in the small county. It has the chains that choices can move, the chains that bring their nodes,
+//! polygons and names, and landmarks if these can differ. So the least choice is looked for there.
 
 ghost use Rattle.std.specs.Prelude.{IfOk, length, ◌<◌, ◌≤◌};
 ghost use Rattle.county_chart.specs.CountyRules.{AllKeysContained, polygon_keys, polygons_along};
@@ -20,7 +20,7 @@ use county_chart::{Chart, DirectedChain};
 use std::alloc::{AllocError, Global};
 use tl_profile::{ShapeOrder, order_by_shape};
 
-/// Returns the number of the choice with the least text, which is one of these.
+/// Returns the number of the choice with the least text, which is among `numbers`.
 fn least_in_part<C: Shared>(alloc: Global, part: &C, numbers: &[u64]) -> Result<u64, AllocError>
     requires few { choices (C.county part.now) ≤ most_choices }
     requires sides { AllKeysContained (polygons_along (C.county part.now).chains) (polygon_keys (C.county part.now)) }

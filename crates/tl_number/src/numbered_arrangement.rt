@@ -1,5 +1,5 @@
 //! The choice with a given number. For each open place in the order of shapes, the number determines how many chains of the same shape
-//! come before the chain there, and whether it is turned. Chains at other places stay. From one number to the next, only the few chains
+//! come before the chain there, and whether it is turned. Chains at fixed places stay. From one number to the next, only the few chains
 //! at open places are put back and moved.
 
 ghost use Rattle.std.specs.Prelude.{◌≡◌, ◌++◌, drop, length, take, IfOk};
@@ -12,8 +12,8 @@ use county_chart::DirectedChain;
 use std::alloc::{AllocError, Global};
 use tl_profile::{OpenPlace, ShapeOrder};
 
-/// Inserts the chain at an open place among those of its shape that come after it, by the last two digits of a number. The last digit
-/// is how many of these come before it, and the next one whether it takes the other direction. Returns the rest of the number.
+/// Inserts the chain at an open place among the later chains of its shape, by the last two digits of a number. The last digit is how
+/// many of them come before it, and the next one whether it takes the other direction. Returns the rest of the number.
 fn place_chain(arrangement: &mut [DirectedChain], at: OpenPlace, number: u64) -> u64
     requires { IsWithin (length arrangement.old) at }
     ensures arrangement { arrangement.new ≡ (moved_at other_way at (arrangement.old, number)).0 }

@@ -1,4 +1,4 @@
-//! Keys of chains in the order of their first appearance, and those of them that first appear at an open place.
+//! Keys of chains in the order of their first appearance, and the open ones, which first appear at an open place.
 
 ghost use Rattle.std.specs.Prelude.{◌≡◌, ◌++◌, ◌∷◌, [], IfOk, OnOk, cond};
 ghost use Rattle.ordered_lists.specs.Orders.{contains};
@@ -21,7 +21,7 @@ fn covers(at: OpenPlace, place: usize) -> bool
     first <= place && place < first + at.alike as usize
 }
 
-/// Checks whether one of these open places moves a chain to or from a place.
+/// Checks whether some open place in `places` moves a chain to or from a place.
 pub(crate) fn is_open_at(places: &[OpenPlace], place: usize) -> bool
     ensures { result ≡ is_open places.now place }
 {
@@ -89,7 +89,7 @@ fn see_groups<G: KeyGroups>(
     Ok(())
 }
 
-/// Returns the keys of chains in the order of their first appearance, and those of them that first appear at an open place.
+/// Returns the keys of chains in the order of their first appearance, and the open ones, which first appear at an open place.
 pub(crate) fn see_along<G: KeyGroups>(
     alloc: Global,
     places: &[OpenPlace],

@@ -1,4 +1,4 @@
-//! What a part of a county keeps: some of its chains, with their names and polygons, and all of its landmarks or none.
+//! Tables that describe a part of a county: some of its chains, with their names and polygons, and all of its landmarks or none.
 
 ghost use Rattle.std.specs.Prelude.{IfOk, false, length, map, option_to_list, ◌<◌, ◌^◌, ◌≡◌};
 ghost use Rattle.std.specs.{List.list_any, Ordering.nat_cmp};
@@ -20,14 +20,14 @@ use ordered_lists::{Key, sort_distinct};
 use std::alloc::{AllocError, Global};
 use std::hash::Hash;
 
-/// Some entries of a list under keys: their keys, ascending, and their places in the list.
+/// The picked entries of a list under keys: their keys, ascending, and their places in the list.
 #[derive(Drop)]
 pub(crate) struct Picked<K: Drop> {
     pub(crate) keys: Vec<K>,
     pub(crate) places: Vec<u32>,
 }
 
-/// What a part keeps of a county.
+/// Tables that describe a part of a county.
 #[derive(Drop)]
 pub(crate) struct PartTables {
     pub(crate) kept: KeptChains,
@@ -58,7 +58,7 @@ where
         .collect(alloc)
 }
 
-/// Returns the places of those of the keys that are among these.
+/// Returns the places of the keys in a list that are wanted.
 fn places_of<K: Key + Hash + NumericKey, L: Listed<Item = K>>(
     alloc: Global,
     all: &L,
@@ -72,7 +72,7 @@ fn places_of<K: Key + Hash + NumericKey, L: Listed<Item = K>>(
         .collect(alloc)
 }
 
-/// Returns those of the keys that are among these, with their places.
+/// Picks the wanted keys of a list, with their places.
 fn pick<K: Key + Hash + NumericKey, L: Listed<Item = K>>(
     alloc: Global,
     all: &L,
@@ -86,7 +86,7 @@ fn pick<K: Key + Hash + NumericKey, L: Listed<Item = K>>(
     Ok(Picked { keys, places })
 }
 
-/// Returns those of the keys that these chains have, with their places.
+/// Picks the keys of a list that these chains have, with their places.
 fn pick_named<K: Key + Hash + NumericKey, L: Listed<Item = K>, G: KeyGroups<Item = K>>(
     alloc: Global,
     all: &L,

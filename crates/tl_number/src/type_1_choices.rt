@@ -1,8 +1,8 @@
 //! The choices of a county with the least records of type 1.
 //!
 //! Records of type 1 come first in a text, and those at the places of one shape depend on the order and the directions of the chains of
-//! this shape alone. So they are compared shape by shape: the orders and directions with the least records of type 1 stay open, and the
-//! choice with the least text is among their combinations. In the number of a choice, the last shape has the last digit.
+//! this shape alone. So they are compared shape by shape: the orders and directions with the least records of type 1 are candidates, and
+//! the choice with the least text is among their combinations. In the number of a choice, the last shape has the last digit.
 
 ghost use Rattle.std.specs.List.{AllByRecursion, list_any};
 ghost use Rattle.std.specs.Ordering.{is_eq, is_gt};
@@ -36,7 +36,7 @@ fn compare_by_type_1<C: Chart>(
     compare_ones(chart, shape_order.open_places(), &one.chains, &other.chains)
 }
 
-/// Keeps the least of the digits so far, given how these compare with the next one.
+/// Stores the least of the digits so far, given how these compare with the next one.
 fn keep_least(digits: &mut Vec<u64>, ordering: Ordering, digit: u64) -> Result<(), AllocError>
     ensures { OnOk result (digits.new.items
         ≡ cond (is_gt ordering) (digit ∷ []) (digits.old.items ++ cond (is_eq ordering) (digit ∷ []) [])) }
@@ -133,7 +133,7 @@ fn reaches(at: OpenPlace, edge: u32) -> bool
     u64::from(edge) < u64::from(at.place) + u64::from(at.alike)
 }
 
-/// Checks whether one of these open places moves chains past this place.
+/// Checks whether some open place in `places` moves chains past this place.
 fn any_reaches(places: &[OpenPlace], edge: u32) -> bool
     ensures { result ≡ list_any (λ at. nat_lt edge (at.place + at.alike)) places.now }
 {
