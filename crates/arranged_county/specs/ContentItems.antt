@@ -31,7 +31,7 @@ classed_place classed = classed.1
 abbrev pub AgreeOn : {X : Type 0} → (X → X → Ordering) → (X → X → Ordering) → List X → Type 0
 AgreeOn by to xs = AllByRecursion (λ a. AllByRecursion (λ b. by a b ≡ to a b) xs) xs
 
--- the places below a count, each after its class; classes are in the order of what is at their places
+-- the places below a count, each after its class; classes are in the order of the items at their places
 pub record AreClasses (count : ℕ) (cmp : ℕ → ℕ → Ordering) (classed : List (ℕ × ℕ)) : Type 0 where
   pub all : in_order nat_cmp (map classed_place classed) ≡ range_with_len 0 count
   pub agree : AgreeOn (λ a b. nat_cmp a.0 b.0) (λ a b. cmp a.1 b.1) classed

@@ -148,7 +148,7 @@ pub fn arrange<C: Chart + Drop>(
     Ok(with_tables(chart, arrangement, tables))
 }
 
-/// Returns the same arranged county with a further fact about it, which must hold of its source county and of itself.
+/// Returns the same arranged county with a further fact about it, which must hold for its source county and for itself.
 pub fn with_evidence<C: Chart + Drop, S: Evidence>(view: Arranged<C>) -> Arranged<C, S>
     requires { S.holds (C.county (source_of view)) (arranged_county view) }
     ensures source { source_of result ≡ source_of view }

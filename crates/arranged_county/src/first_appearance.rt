@@ -141,7 +141,7 @@ impl Half for Side {
     ghost fewer = { fewer_polygons };
 }
 
-/// Sees the keys of these ends or sides, and replaces them with their numbers.
+/// Sees the keys of ends or sides, and replaces them with their numbers.
 fn see_pairs<T: Half>(
     numbers: &mut Interner<T::Old>,
     pairs: &mut [(T, T)],

@@ -1,8 +1,8 @@
 //! The names of a county in their new order: by their 43 bytes, and then by where chains first use them.
 //!
-//! Each use belongs to one name. If two names have the same content, the one that chains use first comes first, and one that no
-//! chain uses comes before both. A rank for each name is therefore enough, and no list of uses is made. Names with the same content are in
-//! one class, so ordering names compares only numbers.
+//! Each use belongs to one name. If two names have the same content, the name that chains use first comes first, and one that no chain uses
+//! comes before both. A rank for each name is therefore enough, and no list of uses is made. Names with the same content are in one class,
+//! so ordering names compares only numbers.
 
 ghost use Rattle.std.specs.Ordering.{nat_cmp};
 ghost use Rattle.std.specs.Prelude.{IfOk, IsPermutation, filter_map, length, map, slice_get, ◌<◌, ◌^◌, ◌≡◌};

@@ -18,11 +18,11 @@ pub fn both<A: Drop, B: Drop>(first: A, second: Result<B, AllocError>) -> Result
     Ok((first, second?))
 }
 
-/// Returns a value, if what was done after it was made succeeded.
+/// Returns a value, if the step after it succeeded.
 ///
 /// # Errors
 ///
-/// The error of what was done.
+/// The error of that step.
 pub fn if_done<A: Drop>(value: A, done: Result<(), AllocError>) -> Result<A, AllocError>
     ensures value { IfOk result (λ kept. kept ≡ value) }
     ensures done { OnOk result (done ≡ Ok tt) }

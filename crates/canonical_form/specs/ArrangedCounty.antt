@@ -35,8 +35,7 @@ pub record IsArranged (county : County) : Type 0 where
 abbrev pub entry_points : ℕ × Chain → List Coordinates
 entry_points entry = entry.1.points
 
--- TLIDs and directions, where points determine them: no chain's points come after their reverse, or after those of a later
--- chain.
+-- TLIDs and directions, where points determine them: no chain's points come after their reverse, or after the points of a later chain.
 pub record IsTidy (county : County) : Type 0 where
   pub directions : AllByRecursion (λ entry. is_gt (points_cmp (entry_points entry) (reverse (entry_points entry))) ≡ false) county.chains
   pub ascending : IsInOrder (on entry_points points_cmp) county.chains

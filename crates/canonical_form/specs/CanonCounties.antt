@@ -4,7 +4,7 @@ use Rattle.std.proofs.Props.{props}
 use Rattle.county_chart.specs.{County.County, CountyProps.IsInOrder-prop, CountyRules.IsCounty, Packing.packed, Renumbering.AreSame}
 use Rattle.canonical_form.specs.{ArrangedCounty.IsArranged, ArrangedCounty.IsTidy, Canonical.IsNotAfter, Growth.GrowsFrom}
 
--- all numbers are canonical, the county is tidy, and its text doesn't come after that of any other such county of the same map
+-- all numbers are canonical, the county is tidy, and no other such county of the same map has a lesser text
 pub record IsCanonCounty (county : County) : Type 0 where
   pub in_form : IsArranged county
   pub tidy : IsTidy county

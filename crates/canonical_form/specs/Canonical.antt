@@ -48,12 +48,12 @@ pub record IsTidyList (records : List Record) : Type 0 where
   pub in_form : IsArrangedList records
   pub tidy : IsTidy (county_of records)
 
--- the text of these records doesn't come after the text of the others
+-- the text of the records doesn't come after the text of the others
 abbrev pub IsNotAfter : List Record → List Record → Type 0
 IsNotAfter records other = is_gt (slice_cmp nat_cmp (text_of records) (text_of other)) ≡ false
 
--- A canonical list of records: a tidy one whose text comes after that of no tidy list of the same map. `in_form` doesn't
--- determine the TLIDs and directions of chains, `tidy` determines them where points do, and `least` determines the rest.
+-- A canonical list of records: a tidy list, and no tidy list of the same map has a lesser text. `in_form` doesn't determine the TLIDs and
+-- directions of chains, `tidy` determines them where points do, and `least` determines the rest.
 pub record IsCanonical (records : List Record) : Type 0 where
   pub in_form : IsArrangedList records
   pub tidy : IsTidy (county_of records)

@@ -13,6 +13,6 @@ choice_list county n = arranged_list county (numbered_choice county n)
 abbrev pub choices_cmp : County → ℕ → ℕ → Ordering
 choices_cmp county n m = slice_cmp nat_cmp (text_of (choice_list county n)) (text_of (choice_list county m))
 
--- its text doesn't come after that of the choice with any number below the bound
+-- no choice with a number below the bound has a lesser text
 abbrev pub IsLeastBelow : County → ℕ → ℕ → Type 0
 IsLeastBelow county bound n = (m : ℕ) → m < bound → IsNotAfter (choice_list county n) (choice_list county m)

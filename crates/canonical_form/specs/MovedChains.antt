@@ -1,4 +1,4 @@
--- Moving chains at the open places of the order of shapes, and the places at which no chain moves.
+-- Moving chains at the open places of the order of shapes, and the places where no chain moves.
 use Rattle.std.specs.Prelude.{List, [], length, not, slice_get, ℕ, ⊤, ◌+◌, ◌<◌, ◌∷◌, ◌≡◌, ◌≤◌}
 use Rattle.std.specs.List.{AllByRecursion}
 use Rattle.county_chart.specs.{County.County, declared.directed_chain.DirectedChain.DirectedChain, declared.open_place.OpenPlace.OpenPlace}

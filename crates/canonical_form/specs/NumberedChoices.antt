@@ -15,8 +15,8 @@ turned_by turn (suc digit) x = turn x
 abbrev pub stood : {X : Type 0} → (X → X) → ℕ → ℕ → X → List X × ℕ → List X × ℕ
 stood turn alike ways x later = (insert later.0 (later.1 % alike) (turned_by turn (later.1 / alike % ways) x), later.1 / alike / ways)
 
--- The elements, from the last to the first, placed among the later ones by the digits of a number: each moves behind some of those
--- with its key, and may be turned if its key can run either way.
+-- The elements, from the last to the first, placed among the later ones by the digits of a number: each moves behind some later ones with
+-- its key, and may be turned if its key can run either way.
 abbrev pub chosen : {X K : Type 0} → (K → K → Ordering) → (K → Bool) → (X → K) → (X → X) → List X → ℕ → List X × ℕ
 chosen cmp either key turn [] n = ([], n)
 chosen cmp either key turn (x ∷ xs) n =

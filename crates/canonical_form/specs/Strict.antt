@@ -7,7 +7,7 @@ use Rattle.tl_shape.specs.PointOrder.{points_cmp}
 use Rattle.county_chart.specs.{County.County, County.county_of, LinkRules.IsLinked, Profile.AreAllOnSides, Renumbering.AreSame}
 use Rattle.canonical_form.specs.{ArrangedCounty.entry_points, Canonical.IsArrangedList, CountyViews.plain, Tidy.HasShapesApart}
 
--- each chain's points come before their reverse, and before those of each later chain
+-- each chain's points come before their reverse, and before the points of each later chain
 pub record IsStrict (county : County) : Type 0 where
   pub directions : AllByRecursion (λ entry. points_cmp (entry_points entry) (reverse (entry_points entry)) ≡ Less) county.chains
   pub ascending : IsStrictlySortedBy (on entry_points points_cmp) county.chains

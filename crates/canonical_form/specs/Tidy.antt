@@ -17,7 +17,7 @@ pub record IsChoice (county : County) (arrangement : Arrangement) : Type 0 where
 abbrev pub arranged_list : County → Arrangement → List Record
 arranged_list county arrangement = packed (arranged county arrangement)
 
--- a choice whose text comes after that of no other choice
+-- a choice with the least text: no other choice has a lesser one
 pub record IsLeastChoice (county : County) (arrangement : Arrangement) : Type 0 where
   pub choice : IsChoice county arrangement
   pub least : (other : Arrangement) → IsChoice county other → IsNotAfter (arranged_list county arrangement) (arranged_list county other)

@@ -181,8 +181,8 @@ pub fn strict_lists_are_canonical()
         IsView view → IsStrictInView view records answer → IsCanonicalInView view records canonical → canonical ≡ answer }
 {}
 
-/// Each number selects a choice of a county: an arrangement in which no chain's points come after their reverse, or after those
-/// of a later chain. Each choice has a number below the number of choices, and number 0 is the ascending arrangement.
+/// Each number selects a choice of a county: an arrangement in which no chain's points come after their reverse, or after the points of a
+/// later chain. Each choice has a number below the number of choices, and number 0 is the ascending arrangement.
 pub fn choices_are_numbered()
     ensures stated { (county : County) (number : ℕ) → IsCounty county → IsChoice county (numbered_choice county number) }
     ensures each { (county : County) (arrangement : Arrangement) →

@@ -1,7 +1,7 @@
 //! The canonical form of a map: which lists of records are canonical, and the laws about them.
 //!
-//! Nothing here runs. The definitions are in `specs/`, and the functions are laws: they do nothing, and their contracts state what
-//! holds of the definitions. `tl_number` puts a county into this form.
+//! Nothing here runs. The definitions are in `specs/`, and the functions are laws: they do nothing, and their contracts state what holds
+//! for the definitions. `tl_number` puts a county into this form.
 #![tactic(auto)]
 
 mod laws;

@@ -54,7 +54,7 @@ used_before Fits text count used place rest columns e p h =
 one_more : (width place : ℕ) → width * (place + 1) ≡ width * place + width
 one_more width place = grind arith
 
--- the columns from a place on are the place and the columns behind it
+-- the columns from a place on are the place and the columns after it
 place_and_rest : (width place : ℕ) (columns : List ℕ) → 0 < place
     → drop (width * (place - 1)) columns
     ≡ slice_range columns (width * (place - 1)) (width * (place - 1) + width) ++ drop (width * place) columns
@@ -77,7 +77,7 @@ used_at Fits text width most place used columns some few p h =
     subst (λ (n : ℕ). ArePlaces Fits text n true (drop (width * (place - 1)) columns)) more
     (used_before Fits text (most - place) used _ (drop (width * place) columns) _ (place_and_rest width place columns some) p h)
 
--- the next place to the left is unused, like all places behind it
+-- the next place to the left is unused, like all places after it
 pub unused_at : {A : Type 0} (Fits : A → Type 0) (text : Option A → List ℕ) (width most place : ℕ) (used : Bool) (columns : List ℕ)
     → 0 < place → place ≤ most → used ≡ false
     → slice_range columns (width * (place - 1)) (width * (place - 1) + width) ≡ text None

@@ -113,7 +113,7 @@ pub length_behind : (columns : List ℕ) (width : ℕ) → length columns ≡ wi
 length_behind [] width l = absurd (omega arith)
 length_behind (byte ∷ columns) width l = ap length (take_all (length (byte ∷ columns) - 1) columns (omega arith)) ∙ omega arith
 
--- a longitude of ten columns, and the latitude behind it
+-- a longitude of ten columns, and the latitude after it
 pub two_parts : (columns : List ℕ) → length columns ≡ 19 → columns ≡ take 10 columns ++ slice_range columns 10 (length columns)
 two_parts columns l =
     let dropped = length-drop 10 columns in
@@ -125,7 +125,7 @@ zero_is : (value : ℤ) → unsigned_abs value ≡ 0 → value ≡ pos 0
 zero_is (pos n) h = ap pos h
 zero_is (negsuc n) h = absurd (omega arith)
 
--- a text that is not that of an unused place has a point that is not (0, 0)
+-- a text that is not the text of an unused place has a point that is not (0, 0)
 somewhere : (long lat : ℤ) (columns : List ℕ) → columns ≡ coordinate_text 9 long ++ coordinate_text 8 lat
     → (columns ≡ point_place_text None → ⊥) → (sum : ℕ) → unsigned_abs long + unsigned_abs lat ≡ sum → 0 < sum
 somewhere long lat columns e n zero s =

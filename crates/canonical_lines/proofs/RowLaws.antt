@@ -126,7 +126,7 @@ fit line (row ∷ rows) r h = (h.0, fit line rows r h.2)
 
 -- ---- the spelling
 
--- what lies behind some columns is the columns from there on, and what lies behind those
+-- the columns from one on are some columns, and the columns after them
 cut : (line : List ℕ) (first last : ℕ) → 1 ≤ first → first ≤ last → drop (first - 1) line ≡ columns first last line ++ drop last line
 cut line first last from o =
     let span : (first - 1) + (last - (first - 1)) ≡ last = omega arith in

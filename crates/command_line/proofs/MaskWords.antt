@@ -19,7 +19,7 @@ unfolding clap_on_literals
 unknown_reserved name false = refl
 unknown_reserved name true = refl
 
--- if a subcommand without these flags takes the words, none of the flags is among them
+-- if a subcommand without these flags takes the arguments, none of the flags is among them
 refuses_after : (name : Text) (is_stem sources reserved : Bool) (first : Text)
     → fault_from (set_job name) (before_word (flag_rows (codes "stem") is_stem) None 1) (source_words sources ++ (reserved_words reserved ++ first ∷ [])) ≡ []
     → (sources ≡ false) × (reserved ≡ false)

@@ -49,7 +49,7 @@ pub flag_given : (found : Found) (id : Text) (b : Bool) → (one_text found id �
 flag_given found id b none on off =
     subst (λ flag. IsFlagGiven flag b) (one_text-rows found id) (record { given = on; left_out = off; unknown = none })
 
--- the subcommand that was found, in two parts, is the one that the parser met
+-- the subcommand that was found, in two parts, is the subcommand that the parser met
 module _ {Z : Type 0} where
   met_in : (sub : Option (Box SubCommand Z)) (name : Text) (rows : List Row)
       → option_map (λ (b : Box SubCommand Z). (out-SubCommand (box_value b)).name.now) sub ≡ Some name

@@ -15,7 +15,7 @@ stem_flag = flag_named (codes "stem")
 abbrev pub set_argument : Text → Rule
 set_argument id = record (new_rule id) { required = true; action = Some Set; value_names = 1 }
 
--- a subcommand that reads one set, and the one that reads two
+-- a subcommand that reads one set, and a subcommand that reads two
 abbrev pub over_one_set : Text → App
 over_one_set name = with_rule (with_rule (new_app name) stem_flag) (set_argument (codes "FIRST"))
 

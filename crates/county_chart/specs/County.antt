@@ -65,17 +65,17 @@ link_key link = (link.cenid, link.polyid)
 abbrev pub p_key : FieldsP → PolygonKey
 p_key r = (r.cenid, r.polyid)
 
--- the shape points of a chain between its ends: those of its type 2 records, joined in the order of their RTSQs
+-- the shape points of a chain between its ends: the points of its type 2 records, joined in the order of their RTSQs
 abbrev pub shape_points : List Record → ℕ → List Coordinates
 shape_points records tlid = flat_map (λ r. r.points)
     (in_order (on (λ r. r.rtsq) nat_cmp) (of_number (λ r. r.tlid) tlid (of_type Type2 records)))
 
--- the further names of a chain: those of its type 4 records, joined in the order of their RTSQs
+-- the further names of a chain: the names of its type 4 records, joined in the order of their RTSQs
 abbrev pub further_names : List Record → ℕ → List ℕ
 further_names records tlid = flat_map (λ r. r.feats)
     (in_order (on (λ r. r.rtsq) nat_cmp) (of_number (λ r. r.tlid) tlid (of_type Type4 records)))
 
--- the further address ranges of a chain: those of its type 6 records, in the order of their RTSQs
+-- the further address ranges of a chain: the ranges of its type 6 records, in the order of their RTSQs
 abbrev pub further_ranges : List Record → ℕ → List Ranges
 further_ranges records tlid = map (λ r. r.ranges)
     (in_order (on (λ r. r.rtsq) nat_cmp) (of_number (λ r. r.tlid) tlid (of_type Type6 records)))

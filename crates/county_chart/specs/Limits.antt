@@ -49,7 +49,7 @@ pub record FitsChain (chain : Chain) : Type 0 where
   pub ranges : AllByRecursion FitsRanges chain.ranges
   pub link : FitsLinkContent chain.topology chain.left.cenid chain.right.cenid
 
--- its lists fit into records that each have an RTSQ of their own
+-- its lists fit into records with different RTSQs
 pub record ListsFit (chain : Chain) : Type 0 where
   pub points : length (inner_points chain.points) ≤ most_shape_points
   pub feats : length chain.feats ≤ most_names

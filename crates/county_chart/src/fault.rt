@@ -1,4 +1,4 @@
-//! The ways in which records can fail to fit together.
+//! How records can fail to fit together.
 
 ghost use Rattle.std.specs.Prelude.{◌≡◌};
 ghost use Rattle.fault_report.specs.{Reports.at, declared.report.FaultPlace.TheVariants.Number};

@@ -1,4 +1,4 @@
-//! Lists that are read by place: one loop for each question that is asked of all their items.
+//! Lists that are read by place: one loop for each question about all items.
 
 ghost use Rattle.std.specs.Prelude.{OnErr, OnOk, take, ℕ, ◌++◌, ◌≡◌};
 ghost use Rattle.std.specs.{Bool.Decides, Cmp.Lexicographic.slice_cmp, List.AllByRecursion};

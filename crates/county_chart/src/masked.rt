@@ -14,8 +14,8 @@ use crate::masked_bodies::masked_lists;
 use std::alloc::{AllocError, Global};
 use tl_layout::{Blank, Body1, Body5, Body7, BodyI, BodyP, Mask, Point, Ranges, Rec8, Side};
 
-/// A county under a mask: a chart in which the fields that the mask leaves out are blank, and each landmark's contents are in the
-/// order that they have then. Everything else is as in the chart that it was made from.
+/// A county under a mask: a chart where the fields that the mask leaves out are blank, and each landmark's contents are in the order that
+/// they have then. Everything else is as in the chart that it was made from.
 #[derive(Drop)]
 pub struct Masked<C: Chart> {
     chart: C,

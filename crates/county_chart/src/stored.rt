@@ -39,8 +39,8 @@ pub struct StoredCounty<C: StoredChain, N: StoredName, L: StoredLandmark> {
     ghost nodes_contained: { nodes.items ≡ nodes_in_order (county_with (map_values C.chain chains) (map_values N.name names) polygons (map_values L.landmark landmarks)) },
 }
 
-/// The map of one county that a set of records describes, as linking makes it, with lists of its own. The getters lend what linking
-/// made and put in order, and allocate no memory.
+/// The map of one county that a set of records describes, as linking makes it, with its own lists. The getters lend what linking made and
+/// put in order, and allocate no memory.
 pub type County = StoredCounty<Chain, Body5, Landmark>;
 
 /// The map of one county that a set of records describes, as [`County`], over an arena that outlives it. Its points, FEATs, address

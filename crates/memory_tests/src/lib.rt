@@ -1,6 +1,6 @@
-//! Tests of what the whole calls do if memory is refused, or if a county takes much of it.
+//! Tests of how the whole calls behave if memory is refused, or if a county takes much of it.
 //!
-//! They are a crate of their own, so that the prover can work on them beside `tigercanon_tests`.
+//! They are in a separate crate, so that the prover can work on them beside `tigercanon_tests`.
 #![tactic(auto)]
 
 #[cfg(test)]

@@ -1,8 +1,7 @@
 //! Records in groups, and passing them to a visitor.
 //!
-//! The records of a type are in groups: those of each chain, each landmark, each polygon. A group is read by place, and only
-//! the current record is made, so one loop serves all nine types. The head of a group is what a type reads before the group's
-//! records.
+//! The records of a type are in groups, one for each chain, landmark or polygon. A group is read by place, and only the current record is
+//! made, so one loop serves all nine types. The head of a group is read before the group's records.
 //!
 //! Trick: heads are read one after another before any of their records, because each may have to wait for memory.
 
@@ -13,7 +12,7 @@ use crate::heads::HeadBuffers;
 use crate::visitor::RecordVisitor;
 use tl_layout::{Layout, Tabled};
 
-/// Records of one type in groups, such as those of each chain. Groups are counted from 0, and so are the records of a group.
+/// Records of one type in groups, such as one group for each chain. Groups are counted from 0, and so are the records of a group.
 pub trait RecordGroups {
     /// The type of the records.
     type Item: Tabled;

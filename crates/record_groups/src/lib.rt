@@ -1,8 +1,8 @@
-//! The records of a county in groups: those of each chain, each name, each landmark.
+//! The records of a county in groups, one for each chain, name or landmark.
 //!
-//! A `RecordGroups` makes a record when it is asked for one, from whatever chart the county is in. `visit_three` passes the records of
-//! three types to a `RecordVisitor`. `compare_groups` compares records in groups by their text, without making it, and `are_same_groups`
-//! returns whether they are the same. Nothing here takes memory.
+//! A `RecordGroups` makes a record on request, from whatever chart the county is in. `visit_three` passes the records of three types to a
+//! `RecordVisitor`. `compare_groups` compares records in groups by their text, without making it, and `are_same_groups` returns whether
+//! they are the same. Nothing here takes memory.
 #![tactic(auto)]
 
 mod chain_records;

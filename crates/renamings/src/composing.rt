@@ -9,8 +9,8 @@ use crate::turning::{turned_back, turned_once};
 use std::alloc::AllocError;
 
 impl Renaming {
-    /// Returns the renaming back. It turns the new chains of those that this one turns. A turned TLID that `chains` doesn't name is left
-    /// out.
+    /// Returns the renaming back. It turns the new chain of each chain that this one turns. A turned TLID that `chains` doesn't name is
+    /// left out.
     ///
     /// # Errors
     ///

@@ -11,7 +11,7 @@ use crate::sorted_numbers::SortedNumbers;
 use std::alloc::{AllocError, Global};
 
 /// Checks whether exactly one of two renamings turns the chain of an old TLID. The first one turns the chains of `firsts`. The next one
-/// turns those of `nexts`, under the TLIDs that the first one gives.
+/// turns the chains of `nexts`, under the TLIDs that the first one gives.
 fn turns_once(
     images: &Images<u64>,
     firsts: &SortedNumbers,
@@ -25,7 +25,7 @@ fn turns_once(
     by_first != by_next
 }
 
-/// Returns the old TLIDs of those pairs whose chains exactly one of two renamings turns.
+/// Returns the old TLIDs of the pairs whose chains exactly one of two renamings turns.
 fn turned_by_one(
     alloc: Global,
     pairs: &[(u64, u64)],
@@ -43,8 +43,8 @@ fn turned_by_one(
         .collect(alloc)
 }
 
-/// Returns the old TLIDs of those pairs whose chains exactly one of two renamings turns. The first one has the pairs `chains` and turns the
-/// chains of `firsts`; the next one turns those of `nexts`.
+/// Returns the old TLIDs of the pairs whose chains exactly one of two renamings turns. The first one has the pairs `chains` and turns the
+/// chains of `firsts`; the next one turns the chains of `nexts`.
 pub(crate) fn turned_once(
     alloc: Global,
     pairs: &[(u64, u64)],

@@ -87,7 +87,7 @@ impl Read for SlowReader<'_> {
 pub struct SlowWriter {
     /// What was written.
     pub held: Vec<u8>,
-    /// How often it was asked to write.
+    /// The number of its writes.
     pub writes: usize,
     step: usize,
     capacity: Option<usize>,

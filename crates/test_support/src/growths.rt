@@ -93,7 +93,7 @@ pub enum Wrong {
     /// The result if this growth is refused, or if none is for 0. It isn't the one with ample memory, or it is out of memory although
     /// no growth was refused.
     Answer(usize, Option<String>),
-    /// A report of out of memory if this growth is refused. It is at a place before that of an earlier one.
+    /// A report of out of memory if this growth is refused. It is at a place before the report for an earlier growth.
     Order(usize),
     /// The call has other growths if all later ones are refused too. These are both counts.
     Counts(usize, usize),
@@ -140,7 +140,7 @@ fn is_right(run: &Run, ample: &str) -> bool {
     }
 }
 
-/// Judges the run in which this growth is refused, and counts it. Returns whether a growth was refused at all.
+/// Judges the run when this growth is refused, and counts it. Returns whether a growth was refused at all.
 fn judge_run(
     run: Run,
     growth: usize,
@@ -214,7 +214,7 @@ pub fn on_sets<'a>(what: &'a str, sets: &'a [SetLines]) -> Swept<'a> {
 ///
 /// # Errors
 ///
-/// The first set with a wrong run, and what is wrong with it.
+/// The first set with a wrong run, and its fault.
 pub fn count_on_sets<R, C: Call<R>>(
     rt: &R,
     of: Swept<'_>,

@@ -76,7 +76,7 @@ fn polygon(other: bool, n: u64) -> (u64, u64)
     (n % 400, number(other, n + 1, 5_000_000_000))
 }
 
-/// The polygon on the left of a chain. Each fourth chain has one of its own there.
+/// The polygon on the left of a chain. Each fourth chain has a separate one there.
 fn left(chain: u64) -> u64
     requires { chain < 5000 }
     ensures { result < 10_000 }

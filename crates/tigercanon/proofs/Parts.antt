@@ -16,7 +16,7 @@ pub parts_so_far : (slices : List (Bor (List ℕ))) (i : ℕ) (d : Bor (List ℕ
 parts_so_far slices i d within =
     sym (ap bytes_of_parts (take_more slices i d within) ∙ map-append (λ p. p.now) (take i slices) (get_or slices i d ∷ []))
 
--- a fault of every continuation of the open part and the set is the fault of the slices, one of which is the open part
+-- a fault of every continuation of the open part and the set is the fault of the slices with the open part
 pub fault_of_all : (slices : List (Bor (List ℕ))) (i : ℕ) (d : Bor (List ℕ)) (f : LoadFault) → i < length slices
     → IsFaultHowever most_records (bytes_of_parts (take i slices)) (get_or slices i d).now f → IsFirstFault (bytes_of_parts slices) f
 fault_of_all slices i d f within however =

@@ -36,7 +36,7 @@ module _ {R : Type 0} (remaining : R → Option (List ℕ)) (given : R → ℕ) 
       (g.0, g.1, next_changed others bs ns parts i d x g.2 (omega (arith, e)) (omega (arith, l)) h)
   next_changed others bs ns parts i d x g e l h = absurd g
 
-  -- the parts of the first sources, and those of the next ones
+  -- the parts of the first sources, and then of the next ones
   parts_joined : (others : List R → List R → Type 0) (more : List (List ℕ)) (bs ns : List R) (parts : List (List ℕ))
       → AreReadFirst remaining given (λ b n. AreReadFirst remaining given others b n more) bs ns parts
       → AreReadFirst remaining given others bs ns (parts ++ more)

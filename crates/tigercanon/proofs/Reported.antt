@@ -9,7 +9,7 @@ use Rattle.county_chart.specs.declared.fault.LinkFault.TheVariants.{Memory as Li
 use Rattle.county_chart.specs.declared.profile_fault.ProfileFault.TheVariants.{Memory as ProfileMemory}
 use Rattle.tl_load.specs.declared.fault.LoadFault.TheVariants as faults
 
--- parts that spell records can only be refused for lack of memory
+-- parts that spell records can only be refused because an allocation failed
 pub memory_alone : (parts : List (List ℕ)) (records : List Record) (f : LoadFault) → SpellsWithin tiger most_records parts records
     → (IsOfLines f → IsFirstFault parts f) → IsNotDevice f → IsWantOfMemory (Load f)
 memory_alone parts records faults.Device accepts first other = other

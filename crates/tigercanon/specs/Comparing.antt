@@ -1,4 +1,4 @@
--- The outcome of comparing two sets: whether they are one map, and why there may be no verdict.
+-- The outcome of comparing two sets: whether they describe the same map, and why there may be no verdict.
 use Rattle.std.specs.Prelude.{List, ℕ, ◌≡◌, ◌⊎◌}
 use Rattle.tl_layout.specs.declared.record_type.Record.{Record}
 use Rattle.county_chart.specs.{County.County, County.county_of, Renumbering.AreSame, Renumbering.Renumbering}
@@ -15,7 +15,7 @@ pub record AreDifferentInView (view : County → County) (a b : List (List ℕ))
   pub second : IsAcceptedSet b others
   pub not_same : AreSame (view (county_of records)) (view (county_of others)) → ⊥
 
--- both sets are accepted, and no renaming carries the county of the first onto that of the second
+-- both sets are accepted, and no renaming carries the county of the first onto the second's
 abbrev pub AreDifferent : List (List ℕ) → List (List ℕ) → Type 0
 AreDifferent = AreDifferentInView plain
 

@@ -15,7 +15,7 @@ ReportsFirstFault parts (Profile _) = ⊥
 ReportsFirstFault parts (Write _) = ⊥
 ReportsFirstFault parts Memory = Unit {0}
 
--- unless the fault is a failed allocation or a device's, it is one of these refusals; it is never a sink's
+-- unless the fault is a failed allocation or a device's, it is one of the refusals; it is never a sink's
 abbrev pub RefusesBy : (Fault → Type 0) → Fault → Type 0
 RefusesBy refused (Load fault) = IsOfLines fault → refused (Load fault)
 RefusesBy refused (Link fault) = fault ≢ LinkMemory → refused (Link fault)

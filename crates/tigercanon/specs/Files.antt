@@ -21,7 +21,7 @@ is_failed Absent = false
 abbrev pub opened_of : {R : Type 0} → List (Counted (Opened R)) → List (Opened R)
 opened_of files = map (λ file. file.inner) files
 
--- files that count their failures can be read once more
+-- files that count their failures can be read again
 pub record AreReadable {R : Type 0} (files : List (Counted (Opened R))) : Type 0 where
   pub below : All (λ file. file.failures < MAX) files
 

@@ -20,7 +20,7 @@ IsFound view a b OneMap = AreOneMapInView view a b
 IsFound view a b TwoMaps = AreDifferentInView view a b
 IsFound view a b NoMemory = IsAcceptable a × IsAcceptable b
 
--- the finding holds for two counties, by their canonical counties, which have the same records exactly if the two are one map
+-- the finding holds for two counties, by their canonical counties, which have the same records exactly if the two describe the same map
 abbrev pub IsFoundOfCounties : (a b canon other : County) → Finding → Type 0
 IsFoundOfCounties a b canon other (Carried r) = Carries r a b
 IsFoundOfCounties a b canon other OneMap = packed canon ≡ packed other

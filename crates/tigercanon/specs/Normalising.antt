@@ -15,7 +15,7 @@ IsOnlyTextInView view parts text = (records canonical : List Record) → IsAccep
     → view (county_of canonical) ≡ county_of canonical → AreSame (view (county_of records)) (county_of canonical)
     → text_of canonical ≡ text
 
--- each canonical list whose county is the same as that of the accepted parts has this text
+-- each canonical list whose county is the same as the county of the accepted parts has this text
 abbrev pub IsOnlyText : List (List ℕ) → List ℕ → Type 0
 IsOnlyText = IsOnlyTextInView plain
 

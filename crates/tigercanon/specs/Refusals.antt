@@ -1,4 +1,4 @@
--- The lines by which the program reports faults.
+-- The lines that report the program's faults.
 use Rattle.std.specs.Prelude.{List, None, Option, Some, [], codes, string_bytes, ℕ, ◌++◌, ◌∷◌, ◌≡◌}
 use Rattle.std.specs.Fmt.{decimal}
 use Rattle.fault_report.specs.{Reports.bare, Reports.report_line, declared.report.FaultReport.FaultReport}

@@ -61,7 +61,7 @@ pub record CarriesSetInView (view : County → County) (renaming : Renumbering) 
   pub other_accepted : IsAcceptedSet others other_records
   pub carries : Carries renaming (view (county_of records)) (view (county_of other_records))
 
--- both sets are accepted, and the renaming carries the county of the first onto that of the second
+-- both sets are accepted, and the renaming carries the county of the first onto the second's
 abbrev pub CarriesSet : Renumbering → List (List ℕ) → List (List ℕ) → Type 0
 CarriesSet = CarriesSetInView plain
 
@@ -89,10 +89,10 @@ pub record IsCanonSetInView (view : County → County) (parts : List (List ℕ))
   pub county_is : county ≡ view (county_of records)
   pub canonical : IsCanonicalInView view records (packed canon)
 
--- the records fit together, and their county is that of the tables
+-- the records fit together, and the tables have their county
 abbrev pub AreLinkedAs : Typed → List Record → Type 0
 AreLinkedAs tables records = IsLinked records × (county_of (type_after_type tables) ≡ county_of records)
 
--- the parts spell records which fit together, and whose county is that of the tables
+-- the parts spell records which fit together, and the tables have their county
 abbrev pub IsLinkedSet : List (List ℕ) → Typed → Type 0
 IsLinkedSet parts tables = (records : List Record) × SpellsWithin tiger most_records parts records × AreLinkedAs tables records

@@ -1,4 +1,4 @@
--- Why a job stopped, the set that it names, and the exit status, also for a command line that isn't a plan.
+-- Why a job stopped, the set that it names, and the exit status, even for a command line that isn't a plan.
 use Rattle.std.specs.Prelude.{Bool, Err, None, Ok, Option, Result, Some, false, true, ℕ}
 use Rattle.command_line.specs.{declared.plans.Job.Job, declared.plans.Job.TheVariants.Compare}
 use Rattle.command_line.specs.declared.plans.PlanFault.{PlanFault}
@@ -23,7 +23,7 @@ status_of (Profile _) = 3
 status_of (Write _) = 4
 status_of Memory = 5
 
--- the status of a job: 0 if it is done, 1 if it found two sets to be different maps, and otherwise that of its fault
+-- the status of a job: 0 if it is done, 1 if it found two sets to be different maps, and otherwise its fault's status
 abbrev pub status_of_outcome : Result Ending Stopped → ℕ
 status_of_outcome (Ok Done) = 0
 status_of_outcome (Ok Different) = 1

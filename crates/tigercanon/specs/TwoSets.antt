@@ -47,7 +47,7 @@ ReportsOne first second fault set = ((set ≡ Some 1) × ReportsSet first fault)
 abbrev pub IsOneRefused : GivenSet → GivenSet → Type 0
 IsOneRefused first second = (fault : Fault) × (first.refused fault ⊎ (HoldsAccepted first × second.refused fault))
 
--- what a completed job did: it printed its answer, and a comparison the line that its sets are one map
+-- what a completed job did: it printed its answer, and a comparison the line that its sets describe the same map
 abbrev pub IsDone : Mask → Job → GivenSet → GivenSet → GivenOutput → Type 0
 IsDone mask job first second = Prints (IsTextOf mask job first second Done)
 

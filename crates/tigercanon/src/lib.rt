@@ -1,12 +1,12 @@
 //! Whole calls over a county's record files, and the command line that makes them.
 //!
-//! [`normalise`] returns the canonical text of the map that a set of record files describes, and [`normalise_to`] reads the set
-//! from sources and writes the text to a sink. [`fingerprint`] returns the hash of that text, and [`compare`] returns whether two
-//! sets are one map. Each of them has a form for maps under a mask, without the fields that name the sources of the data, or
-//! without the reserved ones: [`normalise_masked`] and the like. [`respell`] returns records in canonical spelling, and [`check`]
-//! returns whether a set is accepted. [`plan`] reads a command line, and [`run_counted`] does the planned job, over files and outputs
-//! that count their failures. [`run`] does it over any files and outputs, by the same call. The crate `tigercanon_main` is the program
-//! around these. `alike.rt` and `citing.rt` of the crate `uses` are proved callers.
+//! [`normalise`] returns the canonical text of the map that a set of record files describes, and [`normalise_to`] reads the set from
+//! sources and writes the text to a sink. [`fingerprint`] returns the hash of that text, and [`compare`] returns whether two sets describe
+//! the same map. Each of them has a form for maps under a mask, without the fields that name the sources of the data, or without the
+//! reserved ones: [`normalise_masked`] and the like. [`respell`] returns records in canonical spelling, and [`check`] returns whether a set
+//! is accepted. [`plan`] reads a command line, and [`run_counted`] does the planned job, over files and outputs that count their failures.
+//! [`run`] does it over any files and outputs, by the same call. The crate `tigercanon_main` is the program around these. `alike.rt` and
+//! `citing.rt` of the crate `uses` are proved callers.
 #![tactic(auto)]
 
 mod fault;

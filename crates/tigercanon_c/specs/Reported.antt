@@ -58,7 +58,7 @@ place_number (Number number) = number
 place_number (RecordType byte) = 0
 place_number (Cenid bytes) = 0
 
--- A fault by its number and its places. A record type or a CENID has a field of its own, and the number after it is the first.
+-- A fault by its number and its places. A record type or a CENID has a separate field, and the number after it is the first.
 abbrev pub with_places : ℕ → ℕ → FaultPlace → ℕ → ℕ → FaultNumbers
 with_places set number Nowhere second third = with_numbers set number 0 second third
 with_places set number (Number first) second third = with_numbers set number first second third

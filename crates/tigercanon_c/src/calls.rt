@@ -107,7 +107,7 @@ pub(crate) fn fingerprint_parts(
     fingerprint_masked(alloc, slices.as_slice(), mask)
 }
 
-/// Checks whether two sets of parts are one map under a mask.
+/// Checks whether two sets of parts describe the same map under a mask.
 pub(crate) fn compare_parts(
     alloc: Global,
     first: &[Part],

@@ -58,7 +58,7 @@ pub struct FaultNumbers {
     /// The numbers among the places, in the order of the refusal line: parts, lines and columns, which count from 1, or TLIDs,
     /// FEATs, LANDs and POLYIDs.
     pub first: u64,
-    /// The second of these numbers.
+    /// The second number.
     pub second: u64,
     /// The third.
     pub third: u64,
@@ -199,8 +199,8 @@ pub extern "C" fn tigercanon_fingerprint(
     }
 }
 
-/// Checks whether two sets of parts are one map under a mask, like [`tigercanon::compare_masked`]. Returns 0 if they are, 1 if they
-/// are different maps, and otherwise the status of the reported fault.
+/// Checks whether two sets of parts describe the same map under a mask, like [`tigercanon::compare_masked`]. Returns 0 if they do, 1 if
+/// they describe different maps, and otherwise the status of the reported fault.
 #[unsafe(no_mangle)]
 pub extern "C" fn tigercanon_compare(
     alloc: Global,
@@ -210,7 +210,7 @@ pub extern "C" fn tigercanon_compare(
     no_reserved: bool,
     fault: &mut FaultNumbers,
 ) -> u8
-    // The sets are one map only if both are accepted and some renaming carries one onto the other under the mask,
+    // The sets describe the same map only if both are accepted and some renaming carries one onto the other under the mask,
     ensures same { result ≡ 0 →
         AreOneMapInView (masked (mask_of no_sources no_reserved)) (bytes_of_lent first.now) (bytes_of_lent second.now) }
     // and different only if both are accepted and no renaming does.

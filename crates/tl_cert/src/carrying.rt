@@ -30,7 +30,7 @@ fn are_parts_there<A: Chart, B: Chart>(a: &A, b: &B, tables: &RenamingTables) ->
         && all_hold(&Landmarks { a, b, tables })
 }
 
-/// Checks whether a renaming that pairs the numbers of the two counties carries the parts of `a` onto those of `b`.
+/// Checks whether a renaming that pairs the numbers of the two counties carries the parts of `a` onto the parts of `b`.
 fn carries_parts<A: Chart, B: Chart>(
     alloc: Global,
     a: &A,
@@ -50,8 +50,8 @@ fn carries_parts<A: Chart, B: Chart>(
 }
 
 /// Checks whether the renaming carries `a` onto `b`: its lists name each number of `a` once on the left and each of `b` once on the right,
-/// and under their new numbers, with the listed chains turned, the parts of `a` are those of `b`. It copies the lists and the links a few
-/// times, and looks numbers up in tables.
+/// and under their new numbers, with the listed chains turned, the parts of `a` are the parts of `b`. It copies the lists and the links a
+/// few times, and looks numbers up in tables.
 ///
 /// # Errors
 ///

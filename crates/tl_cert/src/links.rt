@@ -75,7 +75,7 @@ fn keys_of(alloc: Global, links: &[Rec8]) -> Result<Vec<LinkKey>, AllocError>
     links.iter().map(|link| link.key()).collect(alloc)
 }
 
-/// Checks whether the links of `b` are those of `a` under their new numbers, each the same number of times.
+/// Checks whether `b` has the links of `a` under their new numbers, each the same number of times.
 pub(crate) fn are_links_there<A: Chart, B: Chart>(
     alloc: Global,
     a: &A,

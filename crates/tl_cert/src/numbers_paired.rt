@@ -43,7 +43,7 @@ impl<'a> Tested for PolygonPairs<'a> {
     }
 }
 
-/// Checks whether the pairs of all five kinds are those of the two counties' numbers, and polygons keep their CENIDs.
+/// Checks whether the pairs of all five kinds pair the two counties' numbers, and polygons keep their CENIDs.
 fn lists_are_paired<A: Chart, B: Chart>(
     alloc: Global,
     a: &A,
@@ -81,7 +81,7 @@ fn lists_are_paired<A: Chart, B: Chart>(
     Ok(all_hold(&PolygonPairs { pairs }))
 }
 
-/// Checks whether a county has chains with all of these TLIDs.
+/// Checks whether a county has chains with all TLIDs of a list.
 fn has_chains<C: Chart>(chart: &C, numbers: &[u64]) -> bool
     ensures { Decides result (AllByRecursion (λ tlid. IsTrue (contains nat_cmp tlid (tlids (C.county chart.now)))) numbers.now) }
 {

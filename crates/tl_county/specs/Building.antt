@@ -9,7 +9,7 @@ use Rattle.county_chart.specs.PolygonKeys.{PolygonKey, key_cmp}
 use Rattle.county_chart.specs.{LandmarkParts.LandmarkParts, Packing.Typed, StoredCounty.county_with}
 use Rattle.ordered_lists.specs.Orders.{distinct}
 
--- the chain made from its records, with those of types 2, 4 and 6 in the order of their RTSQs
+-- the chain made from its records, with the records of types 2, 4 and 6 in the order of their RTSQs
 abbrev pub chain_with : Fields1 → FieldsI → List Fields2 → List Fields4 → List Fields6 → Chain
 chain_with r topology twos fours sixes = record {
   body = r.body;

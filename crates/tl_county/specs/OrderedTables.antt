@@ -21,7 +21,7 @@ typed_of tables = record {
   of_type_p = tables.type_p.items;
 }
 
--- the records of ordered tables, type by type: those of types 1 and I at their places, and the others as they lie
+-- the records of ordered tables, type by type: types 1 and I at their places, and the others in their order
 abbrev pub ordered_of : OrderedTables → Typed
 ordered_of tables = record (typed_of tables.records) {
   of_type_1 = at_places tables.records.type_1.items tables.all_basics.items;

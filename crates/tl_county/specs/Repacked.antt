@@ -9,7 +9,7 @@ use Rattle.county_chart.specs.{LinkRules.rtsqs, declared.fault.SequencedType.Seq
 use Rattle.ordered_lists.specs.Orders.{contains}
 use Rattle.county_chart.specs.declared.fault.SequencedType.TheVariants as sequenced
 
--- A record of a chain is cut into two: it holds the items of the first and then those of the second, the first keeps its RTSQ, the
+-- A record of a chain is cut into two: it holds the items of the first and then the items of the second, the first keeps its RTSQ, the
 -- second has a later one, and no other record of the chain has an RTSQ from the first to the second.
 pub record IsCut {X Y : Type 0} (tlid rtsq : X → ℕ) (held : X → List Y) (others : List X) (whole first second : X) : Type 0 where
   pub first_chain : tlid first ≡ tlid whole

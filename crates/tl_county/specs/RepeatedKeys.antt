@@ -5,7 +5,7 @@ use Rattle.county_chart.specs.SequenceKeys.{four_sequence, sequence_cmp, six_seq
 use Rattle.county_chart.specs.{County.p_key, Packing.Typed, PolygonKeys.key_cmp}
 use Rattle.ordered_lists.specs.Keyed.{IsLeastPassing, is_repeated}
 
--- for each of these types, the least key that two records share, or none
+-- for each type of the list, the least key that two records share, or none
 pub record AreLeastRepeated (r : Repeated) (t : Typed) : Type 0 where
   pub type_2 : IsLeastPassing sequence_cmp (is_repeated sequence_cmp (map two_sequence t.of_type_2)) r.type_2
   pub type_4 : IsLeastPassing sequence_cmp (is_repeated sequence_cmp (map four_sequence t.of_type_4)) r.type_4

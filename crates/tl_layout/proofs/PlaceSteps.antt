@@ -1,4 +1,4 @@
--- Reading places one after another: the items that were read, followed by those of the remaining places.
+-- Reading places one after another: the items that were read, followed by the items of the remaining places.
 use Rattle.tl_layout.proofs.Common.{Bool, Err, FieldFault, List, None, Ok, Option, Result, Some, ZEROS, [], and_parts, ap, append-nil}
 use Rattle.tl_layout.proofs.Common.{append_assoc, arith, columns, drop, drop-drop, drop-take, eqb, eqb-true, false, gap, most_latitude}
 use Rattle.tl_layout.proofs.Common.{most_longitude, coordinates_of, reads_on, refl, subst, suc, suc-mul, sym, take, take-take, true, ℕ, ◌*◌, ◌++◌}
@@ -19,7 +19,7 @@ one_more front x (Ok xs) = ap Ok (sym (append_assoc front (x ∷ []) xs))
 one_more front x (Err e) = refl
 
 module _ {A : Type 0} (reading : ℕ → Result (Option A) FieldFault) (width column : ℕ) (front : List A) (all : Result (List A) FieldFault) where
-  -- the items so far, followed by those of that many places from this column on, are all items
+  -- the items so far, followed by the items of that many places from this column on, are all items
   abbrev IsRest : Bool → ℕ → Type 0
   IsRest unused n = with_front front (places_reading reading width unused n column) ≡ all
 
@@ -57,7 +57,7 @@ at_start (Err e) = refl
 pub next_column : (n column width all : ℕ) → column + suc n * width ≡ all → column + width + n * width ≡ all
 next_column n column width all h = let one = suc-mul n width in omega arith
 
--- the columns of one place are within those of all places
+-- the columns of one place are within the columns of all places
 pub column_within : (n column width count wide many : ℕ) → column + suc n * width ≡ 19 + count * width → width ≡ wide → count ≡ many
     → column + wide ≤ 19 + many * wide
 column_within n column width count wide many h w c =

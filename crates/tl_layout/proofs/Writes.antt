@@ -28,7 +28,7 @@ head_written (x ∷ xs) rtype version h e =
 pub behind : {new rest before text text' : List ℕ} → new ≡ rest ++ text → rest ≡ before → text ≡ text' → new ≡ before ++ text'
 behind w h e = (cc)
 
--- The same for columns from left to right: how each was written, and what its text is.
+-- The same for columns from left to right: how each was written, and its text.
 infixl 10 ◌▸◌
 pub ◌▸◌ : {new rest before text text' : List ℕ} → rest ≡ before → (new ≡ rest ++ text) × (text ≡ text') → new ≡ before ++ text'
 stood ▸ column = behind column.0 stood column.1

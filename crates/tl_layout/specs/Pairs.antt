@@ -7,7 +7,7 @@ pub record FitsPair (N : ℕ) (pair : LeftRight N) : Type 0 where
   pub left : IsText N pair.left
   pub right : IsText N pair.right
 
--- the pair of these fields
+-- the pair with these fields
 abbrev pub pair_of : {N : ℕ} → List ℕ → List ℕ → LeftRight N
 pair_of left right = record { left = left; right = right }
 

@@ -201,7 +201,7 @@ of_type t = filter_map (as_type t)
 abbrev pub ListsByType : Type 0
 ListsByType = (t : RecordType) → List (FieldsOf t)
 
--- the records of these types one type after another: those of the first, and then those of the others
+-- the records of these types one type after another: first the first type's, and then the others'
 abbrev pub listed_by_type : ListsByType → RecordType → List RecordType → List Record
 listed_by_type lists t [] = map (record_of t) (lists t)
 listed_by_type lists t (u ∷ us) = map (record_of t) (lists t) ++ listed_by_type lists u us

@@ -120,11 +120,11 @@ no_type_reported : (fault : LineFault) → ◌≡◌ {A = Result Record LineFaul
     → fault ≡ line_faults.UnknownType
 no_type_reported fault e = cc
 
--- the line begins with the byte of none of these types
+-- the line begins with the byte of no type in the list
 abbrev IsOfNone : List RecordType → List ℕ → Type 0
 IsOfNone ts line = AllByRecursion (λ t. ¬ BeginsWith (byte_of t) line) ts
 
--- the fault of a line is that of the type whose byte it begins with, or that it begins with none
+-- the fault of a line is the fault for the type whose byte it begins with, or that it begins with none
 fault_among : (ts : List RecordType) (b : ℕ) (line : List ℕ) (fault : LineFault) → judged_among ts b (b ∷ line) ≡ Err fault
     → IsFaultOfLine (b ∷ line) fault ⊎ (IsOfNone ts (b ∷ line) × (fault ≡ line_faults.UnknownType))
 fault_among [] b line fault e = inr (tt, no_type_reported fault e)

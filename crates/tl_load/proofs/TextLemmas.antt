@@ -13,7 +13,7 @@ use Rattle.tl_load.specs.declared.fault.LineFault.TheVariants as line_faults
 
 -- ---- a canonical line
 
--- a line that is as long with the version as without has room for it
+-- a line that is as long with the version as without has space for it
 pub has_version : (line : List ℕ) → length (with_version line) ≡ length line → 5 ≤ length line
 has_version [] h = absurd (omega (arith, h))
 has_version (b ∷ bytes) h = omega (arith, h, length-drop 4 bytes)

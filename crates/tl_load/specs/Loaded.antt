@@ -23,7 +23,7 @@ IsOfLines faults.Device = ⊥
 IsOfLines faults.Memory = ⊥
 IsOfLines _ = Unit {0}
 
--- the fault of these closed parts and this open part, however the input continues
+-- the fault of the closed parts and the open part, however the input continues
 abbrev pub IsFaultHowever : ℕ → List (List ℕ) → List ℕ → LoadFault → Type 0
 IsFaultHowever limit closed open_part fault = (more : List ℕ) (later : List (List ℕ))
     → FaultAt tiger limit (closed ++ (open_part ++ more) ∷ later) fault

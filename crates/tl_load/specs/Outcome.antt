@@ -35,7 +35,7 @@ pub data IsFaultOf {R : Type 0} (judge : Judge R) (limit : ℕ) (records : List 
   of_limit : (r : R) → judge.Has line.bytes r → limit ≤ count_of judge (judge.rtype r) records
       → fault ≡ faults.TooManyRecords (judge.rtype r) → IsFaultOf judge limit records line fault
 
--- the fault of the parts: that of the first line with a fault
+-- the fault of the parts: the fault of the first line that has one
 pub record FaultAt {R : Type 0} (judge : Judge R) (limit : ℕ) (parts : List (List ℕ)) (fault : LoadFault) : Type 0 where
   pub before : List PlacedLine
   pub line : PlacedLine

@@ -56,8 +56,8 @@ pub fn sets_of_the_same_lines_are_alike()
         → (reported : LoadFault) × FaultAt tiger limit others reported × (without_place reported ≡ without_place fault) }
 {}
 
-/// A set can be cut into parts anywhere between lines. The lines stay the same, and the bytes after the cut spell the same as a
-/// part of their own. An empty part has no line and spells nothing; at the end of a set it changes no fault.
+/// A set can be cut into parts anywhere between lines. The lines stay the same, and the bytes after the cut spell the same as a separate
+/// part. An empty part has no line and spells nothing; at the end of a set it changes no fault.
 pub fn parts_may_be_cut_between_lines()
     ensures lines { (before later : List (List ℕ)) (text rest : List ℕ)
         → HaveSameLines (before ++ (text ++ 10 ∷ rest) ∷ later) (before ++ (text ++ 10 ∷ []) ∷ rest ∷ later) }

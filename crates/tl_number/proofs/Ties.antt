@@ -1,4 +1,4 @@
--- The small county by which choices are compared: what it keeps, and that its choices are in the order of the county's.
+-- The small county, which decides how choices compare: what it keeps, and that its choices are in the order of the county's.
 pub mod Keys
 pub mod Ranks
 pub mod Places

@@ -7,7 +7,7 @@ use Rattle.county_chart.proofs.Common.{Coordinates, IsOnMap, MatchOrdering, pos}
 between : (z : ℤ) → unsigned_abs z ≤ 99999999 → (neg_ℤ (pos 99999999) ≤ℤ z) × (z ≤ℤ pos 99999999)
 between z h = (omega (arith, ints, h), omega (arith, ints, h))
 
--- how the order of two points determines that of their ranks
+-- how the order of two points determines the order of their ranks
 ranked : (p q : Coordinates) → IsOnMap p → IsOnMap q
     → MatchOrdering (point_cmp p q) (point_rank p <ℤ point_rank q) (point_rank p ≡ point_rank q) (point_rank q <ℤ point_rank p)
 ranked p q a b = go (int_cmp p.long q.long) (int_ranks p.long q.long) (int_cmp p.lat q.lat) (int_ranks p.lat q.lat)

@@ -35,6 +35,6 @@ beyond_first_cmp county a b =
 abbrev pub placed_cmp : County → PlacedShape → PlacedShape → Ordering
 placed_cmp county a b = ordering_then (int_cmp a.first b.first) (beyond_first_cmp county a b)
 
--- in the same order, and then in that of the places
+-- in the same order, and then in the order of the places
 abbrev pub placed_key_cmp : County → PlacedShape → PlacedShape → Ordering
 placed_key_cmp county a b = ordering_then (placed_cmp county a b) (nat_cmp a.place b.place)

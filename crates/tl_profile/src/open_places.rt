@@ -73,7 +73,7 @@ impl OpenChoices {
     }
 }
 
-/// Checks whether a shape is the same as the first of those after it.
+/// Checks whether a shape is the same as the first shape after it.
 fn is_twin<C: Chart>(chart: &C, shape: &PlacedShape, later: &[PlacedShape]) -> bool
     requires shape { HasFirstPoints (C.county chart.now) shape.now }
     requires later { AllByRecursion (HasFirstPoints (C.county chart.now)) later.now }
@@ -85,7 +85,7 @@ fn is_twin<C: Chart>(chart: &C, shape: &PlacedShape, later: &[PlacedShape]) -> b
     }
 }
 
-/// Returns the place of a shape. `later` are the shapes after it, and `alike` is how many of them are the same as the first of these.
+/// Returns the place of a shape. `later` are the shapes after it, and `alike` is how many of them are the same as the first later one.
 fn place_in_order<C: Chart>(
     chart: &C,
     shape: &PlacedShape,

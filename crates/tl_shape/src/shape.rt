@@ -56,8 +56,8 @@ impl Shape {
         self.points.as_slice()
     }
 
-    /// Compares the points with those of another shape. The first point that differs decides, by longitude and then by
-    /// latitude as numbers; a shape comes after each of its beginnings.
+    /// Compares the points with another shape's. The first point that differs decides, by longitude and then by latitude as numbers; a
+    /// shape comes after each of its beginnings.
     pub fn cmp(&self, other: &Shape) -> Ordering
         ensures { result ≡ points_cmp self.now other.now }
     {

@@ -33,7 +33,7 @@ pub listed : {X : Type 0} (xs : List X) → map (slice_get xs) (range_with_len 0
 listed [] = refl
 listed (x ∷ xs) = ap (λ ys. Some x ∷ ys) (shifted (slice_get (x ∷ xs)) 0 (length xs) ∙ listed xs)
 
--- the links of the landmarks at some places, found by the LANDs of these landmarks
+-- the links of the landmarks at some places, found by their LANDs
 links_there : (links : List Fields8) (land : ℕ → Option ℕ) (places : List ℕ) → flat_map (λ place. links_with links (land place)) places
     ≡ flat_map (λ number. of_number eight_land number links) (filter_map land places)
 links_there links land [] = refl

@@ -1,4 +1,4 @@
--- Places in the order of what is there, with classes: the classes are in the same order.
+-- Places in the order of their items, with classes: the classes are in the same order.
 use Rattle.arranged_county.proofs.Common.{AgreeOn, AllByRecursion, AreClasses, Equal, Greater, IsInOrder, IsPermutation, IsPermutation-sym}
 use Rattle.arranged_county.proofs.Common.{IsPermutation-trans, IsTotalOrder, Less, List, Ordering, [], alike_right, all_map, all_permuted}
 use Rattle.arranged_county.proofs.Common.{all_weaker, ap, arith, class_after, classed_place, classes_along, cond, false, in_order}
@@ -45,7 +45,7 @@ places_kept cmp class [] = refl
 places_kept cmp class (place ∷ places) = ap (λ ps. place ∷ ps) (places_kept cmp (class_after cmp class place places) places)
 
 module _ {cmp : ℕ → ℕ → Ordering} (o : IsTotalOrder cmp) where
-  -- a later place has a class that is compared as what is there, and no lesser one
+  -- a later place has a class that is compared as its item, and no lesser one
   abbrev Fits : ℕ → ℕ → ℕ × ℕ → Type 0
   Fits class place later = (nat_cmp class later.0 ≡ cmp place later.1) × (class ≤ later.0)
 

@@ -40,7 +40,7 @@ module _ (county : County) where
   tlids_found [] there = refl
   tlids_found (s ∷ ss) there = ap₂ cons_option (tlid_there s.place there.0) (tlids_found ss there.1)
 
-  -- and those of the turned ones
+  -- and the turned ones
   pub turned_found : (arrangement : List DirectedChain) → HasChainsOf county arrangement
       → filter_map (λ directed. slice_get (tlids county) directed.place) (filter (λ directed. directed.turned) arrangement) ≡ turned_tlids (arrangement_of county arrangement)
   turned_found [] there = refl

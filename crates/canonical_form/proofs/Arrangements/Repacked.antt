@@ -122,7 +122,7 @@ module _ (records : List Record) (linked : IsLinked records) where
         in_order-itself (on rtsq nat_cmp) xs
         (in_order-from_strict rtsq xs (subst (IsStrictlySortedBy nat_cmp) (sym e) (up_to-strict (length xs))))
 
-    -- the contents of full records, joined and cut into pieces again, are the contents of these records
+    -- the contents of full records, joined and cut into pieces again, are their contents
     contents_back : {X Y : Type 0} (width : ℕ) → 1 ≤ width → (rtsq : X → ℕ) (content : X → List Y) (rs : List X)
         → map rtsq rs ≡ up_to (length rs) → AreFull width (map content rs)
         → in_pieces width (flat_map content (in_order (on rtsq nat_cmp) rs)) ≡ map content rs

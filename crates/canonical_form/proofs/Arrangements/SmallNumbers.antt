@@ -94,7 +94,7 @@ p_low key (Some body) r e h =
     let same : record { cenid = key.0; polyid = key.1; body = body } ≡ r = cc in
     subst (λ (q : FieldsP). IsLowRecord (P q)) same (h.1, tt)
 
--- records have small numbers if those of each entry do
+-- records have small numbers if the records of each entry do
 each_entry : {E X : Type 0} (Small : E → Type 0) (wrap : X → Record) (pack : E → List X)
     → ((entry : E) → Small entry → AllByRecursion (λ x. IsLowRecord (wrap x)) (pack entry)) → (entries : List E) → AllByRecursion Small entries
     → AllByRecursion IsLowRecord (map wrap (flat_map pack entries))

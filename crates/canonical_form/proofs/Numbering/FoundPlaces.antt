@@ -46,7 +46,7 @@ module _ {X : Type 0} (p : X → Bool) where
       go true e ih = cc
       go false e ih = let h = ih e in omega (arith, h)
 
-  -- and is found behind a list that doesn't have it
+  -- and is found after a list that doesn't have it
   pub place_behind : (xs ys : List X) → length xs ≤ position_or_len p xs → position_or_len p (xs ++ ys) ≡ length xs + position_or_len p ys
   place_behind [] ys h = (let t : position_or_len p ys ≡ 0 + position_or_len p ys = omega arith in t)
   place_behind (x ∷ xs) ys h = go (p x) h (place_behind xs ys)

@@ -26,7 +26,7 @@ module _ (c : County) (is : IsCounty c) where
   all_linked Six = search (rules, sixes, linked_known, six_own)
   all_linked I = search (rules, link_numbers, each_from, among_known, nat_keys)
 
-  -- what holds of the records of each chain holds of those of each TLID
+  -- what holds for the records of each chain holds for the records of each TLID
   pub in_group : {X : Type 0} (number : X → ℕ) (pack : ℕ × Chain → List X) → ((e : ℕ × Chain) → AllByRecursion (λ x. number x ≡ e.0) (pack e))
       → (P : List X → Type 0) → P [] → ((e : ℕ × Chain) → P (pack e)) → (xs : List X) → xs ≡ flat_map pack c.chains → (tlid : ℕ)
       → P (of_number number tlid xs)

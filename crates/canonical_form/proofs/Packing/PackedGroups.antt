@@ -74,8 +74,7 @@ module _ {V X : Type 0} (key : X → ℕ) (pack : ℕ × V → List X) (own : (e
       go (inl same) ih = subst Q (sym (first_group n e es same apart)) a.0
       go (inr ne) ih = subst Q (sym (later_group n e es ne)) ih
 
-  -- if entries ascend, and the records of each are in an order of their own, all records are in order by number and then by that
-  -- order
+  -- if entries ascend, and the records of each are in some order, all records are in order by number and then by that order
   module _ (sub : X → X → Ordering) where
     abbrev pub by_number : X → X → Ordering
     by_number x y = ordering_then (nat_cmp (key x) (key y)) (sub x y)

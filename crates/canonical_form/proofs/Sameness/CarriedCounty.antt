@@ -36,7 +36,7 @@ pub paired_known : {K : Type 0} {cmp : K → K → Ordering} (o : IsKeyOrder cmp
     → ArePaired pairs olds news → (k : K) → Known cmp olds k → Known cmp news (image cmp pairs k)
 paired_known {K} {cmp} o pairs olds news h k l = search (rules, known-permutation_to, image-known, known-permutation)
 
--- what holds of elements holds of a permutation of their images
+-- what holds for elements holds for a permutation of their images
 pub all_carried : {X Y : Type 0} (P : X → Type 0) (Q : Y → Type 0) (f : X → Y) → ((x : X) → P x → Q (f x)) → (xs : List X) (ys : List Y)
     → IsPermutation (map f xs) ys → AllByRecursion P xs → AllByRecursion Q ys
 all_carried P Q f h xs ys p a = all_permuted Q (map f xs) ys p (all_map Q f xs (all_weaker P (λ x. Q (f x)) h xs a))

@@ -66,7 +66,7 @@ pub lands_known : (c : County) → IsClosed c → AllByRecursion (λ (l : Fields
 lands_known c closed = all_weaker (λ (l : Fields8). IsTrue (contains nat_cmp l.land (lands c))) (λ l. Known nat_cmp (lands c) l.land)
     (λ l t. ltb-true 0 (times nat_cmp l.land (lands c)) t) c.links closed.link_lands
 
--- links in order are those of their LANDs, one LAND after another
+-- links in order are the links of their LANDs, one LAND after another
 abbrev with_land : ℕ → LinkPart → Fields8
 with_land y part = record { file = part.2; cenid = part.1; polyid = part.0; land = y }
 

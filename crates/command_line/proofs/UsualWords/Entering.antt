@@ -18,7 +18,7 @@ grammar_of Check = over_one_set (codes "check")
 grammar_of Fingerprint = with_mask (over_one_set (codes "fingerprint"))
 grammar_of Compare = with_mask (over_two_sets (codes "compare"))
 
--- what the parser finds wrong with the words after a subcommand's name
+-- what the parser finds wrong with the arguments after a subcommand's name
 abbrev pub words_fault : Shape → List Text → Kinds
 words_fault sub words = level_fault sub [] nothing_held words false []
 
@@ -36,7 +36,7 @@ record Enters (a : App) (word : Text) (sub : Shape) : Type 0 where
   late : late_fault a ≡ []
   named : sub.name ≡ word
 
--- the walk leaves the words to the subcommand
+-- the walk leaves the arguments to the subcommand
 left : (a : App) (word : Text) (sub : Shape) (rest : List Text) → Enters a word sub
     → walk a.top.rules (names_of a) nothing_held (word ∷ rest) ≡ record (walk_from nothing_held) { stopped = Some (word, rest) }
 left a word sub rest enters = rw enters.steps (sym (walk_stopped a.top.rules (names_of a) (walk_from nothing_held) word [] rest))

@@ -42,7 +42,7 @@ reserved_step true false true name = record { passes = refl; steps = refl }
 reserved_step true true false name = record { passes = refl; steps = refl }
 reserved_step true true true name = record { passes = refl; steps = refl }
 
--- the flags are read, and then the rest of the words
+-- the flags are read, and then the remaining arguments
 module _ (two : Bool) (name : Text) (rest : List Text) (wanted : Read) where
   after_reserved : (is_stem sources reserved : Bool) → Reads (map_job two name) (before_word (found is_stem sources reserved) None 1) rest wanted
       → Reads (map_job two name) (before_word (found is_stem sources false) None 1) (reserved_words reserved ++ rest) wanted

@@ -1,4 +1,4 @@
--- The usual command lines are valid, and their plans are the ones that they describe.
+-- The usual command lines are valid, and their plans are as they describe them.
 use Rattle.command_line.proofs.Common.{AreSecondOf, AreUsualWordsPlanned, Fingerprint, HasFilesOf, NamesItsSets, second_files, string_bytes}
 use Rattle.command_line.proofs.Common.{Bool, Job, List, Mask, None, Plan, Row, Some, Text, ap, map, refl, sym, true, ◌++◌, ◌∙◌, ◌≡◌}
 use Rattle.command_line.proofs.Common.{Check, Compare, IsPlanOf, Option, Respell, arith, codes, false, first_of, one_of, subst, unwrap_or}
@@ -7,7 +7,7 @@ use Rattle.command_line.proofs.UsualWords.Words.{IsNoFlag, Read, flag, mask_flag
 use Rattle.command_line.proofs.UsualWords.{Comparing.maps_are_read, Entering.job_subcommand, OverOneSet.map_is_read, OverOneSet.set_is_read}
 use Rattle.command_line.proofs.UsualWords.{Entering.grammar_of, Entering.job_fault, Entering.prepared, Walking.Reads, Walking.before_word}
 
--- a flag that was given and one that wasn't are told apart by their values
+-- a flag that was given and one that wasn't have different values
 values_apart : Some (codes "true") ≡ Some (codes "false") → ⊥
 values_apart same =
     let first : 116 ≡ 102 = ap (λ (t : Option Text). slice_index (unwrap_or t []) 0) same in
@@ -38,7 +38,7 @@ second_read rows Normalise is_stem second names given named = named
 second_read rows Check is_stem second names given named = named
 second_read rows Fingerprint is_stem second names given named = named
 
--- the words after the name of the job, and what the parser reads from them
+-- the arguments after the name of the job, as the parser reads them
 abbrev arguments : Job → Bool → Mask → Text → Text → List Text
 arguments job is_stem mask first second = stem_words is_stem ++ (mask_words job mask ++ set_words job first second)
 

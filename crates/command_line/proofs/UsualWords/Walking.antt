@@ -26,7 +26,7 @@ late_fault s h =
 abbrev pub fault_from : Shape → Walk → List Text → Kinds
 fault_from s w words = or_else (walk_fault s [] w words) (late_fault s (end_of s w words).held)
 
--- the remaining words are accepted, and this is what was parsed
+-- the remaining words are accepted, and parsed like this
 pub record Reads (s : Shape) (w : Walk) (words : List Text) (wanted : Read) : Type 0 where
   pub taken : fault_from s w words ≡ []
   pub met : read (finished s.rules (end_of s w words).held) ≡ wanted

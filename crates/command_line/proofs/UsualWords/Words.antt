@@ -1,4 +1,4 @@
--- The parsed form of the words after a subcommand.
+-- The parsed form of the arguments after a subcommand.
 use Rattle.command_line.proofs.Common.{Bool, Check, CommandLine, Compare, IsPlain, Job, List, None, Option, Respell, Row, Some, Text, []}
 use Rattle.command_line.proofs.Common.{bytes_eq, codes, false, first_of, long_of, ne_eqb, one_of, reading_of, refl, short_of, true, ◌==◌}
 use Rattle.command_line.proofs.Common.{◌∷◌, ◌≡◌}

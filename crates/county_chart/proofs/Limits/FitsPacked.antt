@@ -96,7 +96,7 @@ module _ (county : County) (whole : IsWhole county) (contents : ContentsFit coun
       (all_both (λ entry. FitsChain entry.1) (λ entry. FitsNumbers entry.1 × ListsFit entry.1) county.chains contents.chains
       (all_both (λ entry. FitsNumbers entry.1) (λ entry. ListsFit entry.1) county.chains numbers.named lists)))
 
-  -- records of chains fit if those of each chain do
+  -- records of chains fit if the records of each chain do
   each_chain : {Y : Type 0} (Fits : Y → Type 0) (pack : ℕ × Chain → List Y)
       → ((entry : ℕ × Chain) → IsFitEntry entry → AllByRecursion Fits (pack entry)) → AllByRecursion Fits (flat_map pack county.chains)
   each_chain Fits pack h = search (rules, all_joined, all_weaker, fit_entries)

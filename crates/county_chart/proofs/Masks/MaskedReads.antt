@@ -73,7 +73,7 @@ pub bodies_unmasked : (mask : Mask) (county : County) (place : ℕ) → mask.sou
     → bodies_at (masked mask county) place ≡ bodies_at county place
 bodies_unmasked mask county place e = search (rules, bodies_masked)
 
--- the contents of the landmark at a place are at the same place among those of all landmarks
+-- the contents of the landmark at a place are at the same place among the contents of all landmarks
 pub masked_values_count : (mask : Mask) (county : County) → length (entry_values (masked mask county).landmarks) ≡ length county.landmarks
 masked_values_count mask county = search (rules, length-map, landmark_count_masked)
 

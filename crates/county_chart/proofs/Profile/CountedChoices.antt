@@ -16,7 +16,7 @@ module _ {K : Type 0} {cmp : K → K → Ordering} (o : IsKeyOrder cmp) where
           times-yes o k j js same ∙ ap (λ i. suc (times cmp i js)) same
       go false e = before_all o k j js h.1 (less_from o (cmp k j) h.0.0 e)
 
-  -- the count of a key therefore follows from that of the next one
+  -- the count of a key therefore follows from the next one's
   pub alike-next : (k : K) (ks : List K) → IsInOrder cmp (k ∷ ks) → cond (is_first cmp k ks) (alike_first cmp ks + 1) 1 ≡ suc (times cmp k ks)
   alike-next k [] h = refl
   alike-next k (j ∷ js) h = go (is_eq (cmp k j)) (run_on k j js h)

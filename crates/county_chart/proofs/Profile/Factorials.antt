@@ -19,7 +19,7 @@ module _ {K : Type 0} {cmp : K → K → Ordering} (o : IsKeyOrder cmp) where
       go true ih = ap (λ n. f d * n) ih ∙ exchanged (f d) (f k) (product (map f ds))
       go false ih = refl
 
-  -- if f is n times g for one key and equal to g for all others, its product is n times that of g
+  -- if f is n times g for one key and equal to g for all others, its product is n times g's
   product-more : (f g : K → ℕ) (n : ℕ) (k : K) → f k ≡ n * g k → ((j : K) → (j ≡ k → ⊥) → f j ≡ g j) → (ds : List K) → IsApart cmp ds
       → Known cmp ds k → product (map f ds) ≡ n * product (map g ds)
   product-more f g n k here other [] a m = absurd (omega (arith, m))

@@ -79,7 +79,7 @@ shape_two county is place h =
     behind [] y zs = inl refl
     behind (x ∷ xs) y zs = inr (behind xs y zs)
 
--- the points of a directed chain are those of its chain, or their reverse
+-- a directed chain has the points of its chain, or their reverse
 pub along_from : (county : County) (directed : DirectedChain) → points_along county directed ≡ points_from directed.turned (points_at county directed.place)
 along_from county directed = points_turned directed.turned (chain_at county directed.place)
 

@@ -30,7 +30,7 @@ same_choices a b s =
     ∙ running-same points_keys is_either_way (shapes a) (shapes b) (shapes_carried s.by a b s.carries)
     ∙ choices_of_shapes b
 
--- the points of the directed chains, in any order of these, are the shapes
+-- the points of the directed chains, in any order, are the shapes
 pub shapes_by_shape : (county : County) (by_shape : List DirectedChain) → IsPermutation (along_shapes county) by_shape
     → SameElements (map (points_along county) by_shape) (shapes county)
 shapes_by_shape county by_shape p =

@@ -121,7 +121,7 @@ among_types sequenced.Two f records h = search (rules, among_right, among_left)
 among_types sequenced.Four f records h = search (rules, among_right, among_left)
 among_types sequenced.Six f records h = search (rules, among_right, among_left)
 
--- a fault listed after those of types 2, 4 and 6 is in the whole list
+-- a fault listed after the faults of types 2, 4 and 6 is in the whole list
 after_types : (f : LinkFault) (records : List Record)
     → Among f (map (NoChain I) (linked_tlids I records)
     ++ (map LinkMissing (chain_tlids records) ++ map LinkTwice (map i_tlid (of_type_i records)))) → Among f (faults_11_to_15 records)

@@ -1,4 +1,4 @@
-//! The ways in which a county can store its chains, names and landmarks.
+//! How a county can store its chains, names and landmarks.
 
 ghost use Rattle.std.specs.Prelude.{◌≡◌};
 

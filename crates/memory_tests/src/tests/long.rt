@@ -41,7 +41,7 @@ fn goes_there_and_back(rt: &impl Host, set: &[u8], text: &[u8], renaming: &Renam
     same(rt, "chains, turned ones", &[chains, turned], &wanted);
 }
 
-/// Both sets are one map.
+/// Both sets describe the same map.
 fn are_one_map(rt: &impl Host, set: &[u8], text: &[u8]) {
     let verdict = compare(rt.alloc(), &[set], &[text]).expect(rt, "compare");
     match &verdict {

@@ -8,7 +8,7 @@ use test_support::made::made;
 use test_support::sets::SetLines;
 use tigercanon::{Verdict, compare, normalise};
 
-/// Both spellings are one map, and have the same text. It is its own text, and is longer than the buffer of a writer.
+/// Both spellings describe the same map, and have the same text. It is its own text, and is longer than the buffer of a writer.
 fn has_one_text(rt: &impl Host, set: &[u8], other: &[u8]) -> Vec<u8> {
     let text = normalise(rt.alloc(), &[set]).expect(rt, "one hand");
     assert!(rt; text.len() > 1_000_000, "the text is long");
@@ -19,7 +19,7 @@ fn has_one_text(rt: &impl Host, set: &[u8], other: &[u8]) -> Vec<u8> {
     text
 }
 
-/// The sets are one map.
+/// The sets describe the same map.
 fn are_same(rt: &impl Host, set: &[u8], other: &[u8]) {
     let verdict = compare(rt.alloc(), &[set], &[other]).expect(rt, "both are accepted");
     let is_same = matches!(&verdict, Verdict::Same(_));

@@ -93,7 +93,7 @@ all_drop P zero xs a = a
 all_drop P (suc n) [] a = tt
 all_drop P (suc n) (x ∷ xs) a = all_drop P n xs a.1
 
--- if a property of an element gives a property of what is selected from it, all selected values have that one
+-- if a property of an element gives a property of the value selected from it, all selected values have that one
 pub all_selected : {X Y : Type 0} (P : X → Type 0) (Q : Y → Type 0) (h : X → Option Y) → ((x : X) (y : Y) → h x ≡ Some y → P x → Q y)
     → (xs : List X) → AllByRecursion P xs → AllByRecursion Q (filter_map h xs)
 all_selected P Q h f [] a = tt

@@ -1,4 +1,4 @@
--- A record at a place among those of a chain.
+-- A record at a place among the records of a chain.
 use Rattle.record_groups.proofs.Common.{Chain, County, Fields2, Fields4, Fields6, FieldsI, Option, Ranges, length, part_of, subst, tlids, ℕ}
 use Rattle.record_groups.proofs.Common.{ChainThere, Coordinates, IsWithinLimits, List, chain_there, length-map, most_records, numbered_from}
 use Rattle.record_groups.proofs.Common.{IsCounty, chain_at, group_at, in_pieces, map, option_map, packed_i, points_of, slice_get, some-same}

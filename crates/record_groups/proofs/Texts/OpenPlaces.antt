@@ -121,7 +121,7 @@ module _ {X : Type 0} (cmp : X → X → Ordering) (key : X → ℕ) (bound : �
 
       module _ (left_out : (place : ℕ) → is_in place ≡ false → TiedBefore place → slice_cmp cmp (F place) (E place) ≡ Equal)
           (lengths : (place : ℕ) → is_in place ≡ false → length (F place) ≡ length (E place)) where
-        -- as many more records of the one as of the other are at the other places
+        -- the other places have as many more records of the first list as of the second
         as_many_in : (place count : ℕ) → length (groups_from F place count) + length (those_from is_in E place count)
             ≡ length (groups_from E place count) + length (those_from is_in F place count)
         as_many_in place zero = refl

@@ -1,4 +1,4 @@
-//! Whether two sets are one map, as they are or under a mask.
+//! Whether two sets describe the same map, as they are or under a mask.
 
 ghost use Rattle.std.specs.Prelude.{Err, IfErr, IfOk, List, MatchResult, Ok, Some, false, if◌then◌else◌, true, ℕ, ◌≡◌, ◌≢◌};
 ghost use Rattle.tigercanon.specs.Comparing.{AreDifferent, AreDifferentInView, AreOneMap, AreOneMapInView, IsAcceptable};
@@ -32,9 +32,9 @@ pub const SECOND: u8 = 2;
 /// The result of comparing two sets.
 #[derive(Debug, Drop)]
 pub enum Verdict {
-    /// The sets are one map: the renaming carries the county of the first set onto that of the second.
+    /// The sets describe the same map: the renaming carries the county of the first set onto the second's.
     Same(Renaming),
-    /// The sets are different maps: no renaming carries the county of one onto that of the other.
+    /// The sets are different maps: no renaming carries one county onto the other.
     Different,
 }
 
@@ -123,7 +123,7 @@ impl Comparison for Result<Verdict, AllocError> {
     }
 }
 
-/// Whether the counties are one map. This takes no memory.
+/// Whether the counties are the same map. This takes no memory.
 impl Comparison for bool {
     ghost finding = { λ is_one_map. if is_one_map then OneMap else TwoMaps };
 
@@ -211,8 +211,8 @@ pub(crate) fn compare_unlinked<A: UnlinkedSet, B: UnlinkedSet, V: Comparison>(
     tag_set(SECOND, made)
 }
 
-/// Checks whether two sets of parts are one map: some renumbering and turning of chains carries the county of the first set onto that of
-/// the second. If so, returns such a renaming. The first set is judged completely before the second is looked at.
+/// Checks whether two sets of parts describe the same map: some renumbering and turning of chains carries the county of the first set onto
+/// the second's. If so, returns such a renaming. The first set is judged completely before the second is looked at.
 ///
 /// # Errors
 ///
@@ -220,7 +220,7 @@ pub(crate) fn compare_unlinked<A: UnlinkedSet, B: UnlinkedSet, V: Comparison>(
 /// failed for that set. [`CompareFault::Memory`] if an allocation failed for the verdict.
 #[tactic(auto, using(crate::proofs::Masking::none_is_plain))]
 pub fn compare(alloc: Global, a: &[&[u8]], b: &[&[u8]]) -> Result<Verdict, CompareFault>
-    // The sets are one map only if both are accepted and this renaming carries the first onto the second,
+    // The sets describe the same map only if both are accepted and this renaming carries the first onto the second,
     ensures same { (r : Renumbering) → result ≡ Ok (Verdict.Same r) → CarriesSet r (bytes_of_parts a.now) (bytes_of_parts b.now) }
     // and different only if both are accepted and no renaming does.
     ensures different { result ≡ Ok Verdict.Different → AreDifferent (bytes_of_parts a.now) (bytes_of_parts b.now) }
@@ -233,8 +233,8 @@ pub fn compare(alloc: Global, a: &[&[u8]], b: &[&[u8]]) -> Result<Verdict, Compa
     compare_masked(alloc, a, b, Mask::NONE)
 }
 
-/// Checks whether two sets of parts are one map under a mask, as [`compare`] does without a mask: the renaming carries the county of the
-/// first set under the mask onto that of the second under it.
+/// Checks whether two sets of parts describe the same map under a mask, as [`compare`] does without a mask: the renaming carries the first
+/// set's county under the mask onto the second's under it.
 ///
 /// # Errors
 ///
@@ -245,7 +245,7 @@ pub fn compare_masked(
     b: &[&[u8]],
     mask: Mask,
 ) -> Result<Verdict, CompareFault>
-    // The sets are one map only if both are accepted and this renaming carries the first onto the second under the mask,
+    // The sets describe the same map only if both are accepted and this renaming carries the first onto the second under the mask,
     ensures same { (r : Renumbering) → result ≡ Ok (Verdict.Same r) →
         CarriesSetInView (masked mask) r (bytes_of_parts a.now) (bytes_of_parts b.now) }
     // and different only if both are accepted and no renaming does.
@@ -263,14 +263,14 @@ pub fn compare_masked(
     }
 }
 
-/// Checks whether two sets of parts are one map, as for [`compare`], but without making the renaming.
+/// Checks whether two sets of parts describe the same map, as for [`compare`], but without making the renaming.
 ///
 /// # Errors
 ///
 /// As for [`compare`], but each names a set: [`CompareFault::Memory`] doesn't occur.
 #[tactic(auto, using(crate::proofs::Masking::none_is_plain))]
 pub fn are_one_map(alloc: Global, a: &[&[u8]], b: &[&[u8]]) -> Result<bool, CompareFault>
-    // The sets are one map only if both are accepted and some renaming carries the first onto the second,
+    // The sets describe the same map only if both are accepted and some renaming carries the first onto the second,
     ensures same { result ≡ Ok true → AreOneMap (bytes_of_parts a.now) (bytes_of_parts b.now) }
     // and different only if both are accepted and no renaming does.
     ensures different { result ≡ Ok false → AreDifferent (bytes_of_parts a.now) (bytes_of_parts b.now) }
@@ -284,7 +284,7 @@ pub fn are_one_map(alloc: Global, a: &[&[u8]], b: &[&[u8]]) -> Result<bool, Comp
     are_one_map_masked(alloc, a, b, Mask::NONE)
 }
 
-/// Checks whether two sets of parts are one map under a mask, as for [`compare_masked`], but without making the renaming.
+/// Checks whether two sets of parts describe the same map under a mask, as for [`compare_masked`], but without making the renaming.
 ///
 /// # Errors
 ///
@@ -295,7 +295,7 @@ pub fn are_one_map_masked(
     b: &[&[u8]],
     mask: Mask,
 ) -> Result<bool, CompareFault>
-    // The sets are one map only if both are accepted and some renaming carries the first onto the second under the mask,
+    // The sets describe the same map only if both are accepted and some renaming carries the first onto the second under the mask,
     ensures same { result ≡ Ok true → AreOneMapInView (masked mask) (bytes_of_parts a.now) (bytes_of_parts b.now) }
     // and different only if both are accepted and no renaming does.
     ensures different { result ≡ Ok false → AreDifferentInView (masked mask) (bytes_of_parts a.now) (bytes_of_parts b.now) }

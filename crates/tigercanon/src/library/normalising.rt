@@ -74,8 +74,8 @@ pub fn normalise_masked(alloc: Global, parts: &[&[u8]], mask: Mask) -> Result<Ve
     Ok(text)
 }
 
-/// Returns the canonical text of the parts, and the renaming that carries the county of the parts onto that of the text: each old number
-/// with its new one, and the old TLIDs of the chains that are turned.
+/// Returns the canonical text of the parts, and the renaming that carries the county of the parts onto the text's: each old number with its
+/// new one, and the old TLIDs of the chains that are turned.
 ///
 /// # Errors
 ///
@@ -94,8 +94,8 @@ pub fn normalise_with_renaming(alloc: Global, parts: &[&[u8]]) -> Result<(Vec<u8
     normalise_with_renaming_masked(alloc, parts, Mask::NONE)
 }
 
-/// Returns the canonical text of the parts under a mask, and the renaming that carries the county of the parts under the mask onto that of
-/// the text, as [`normalise_with_renaming`] returns them without a mask.
+/// Returns the canonical text of the parts under a mask, and the renaming that carries the county of the parts under the mask onto the
+/// text's, as [`normalise_with_renaming`] returns them without a mask.
 ///
 /// # Errors
 ///

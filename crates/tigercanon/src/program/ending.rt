@@ -18,7 +18,7 @@ use tl_write::{Sink, write_bytes};
 /// How a completed job ended.
 #[derive(Clone, Copy, Debug, PartialEq, Eq)]
 pub(crate) enum Ending {
-    /// The result was printed; for two sets, that they are one map.
+    /// The result was printed; for two sets, that they describe the same map.
     Done,
     /// It was printed that two sets are different maps.
     Different,
@@ -164,7 +164,8 @@ pub fn report<E: Sink>(fault: &PlanFault, err: &mut E) -> u8
     }
 }
 
-/// Returns the exit status of a job: its own, or, if its files weren't opened, that of the fault that is then written to `err` in one line.
+/// Returns the exit status of a job: its own, or, if its files weren't opened, the status of the fault that is then written to `err` in one
+/// line.
 pub fn job_status<E: Sink>(outcome: Result<u8, Stopped>, err: &mut E) -> u8
     requires { E.failed err.old < u64.MAX }
     ensures done { IfOk outcome (λ status. (result ≡ status) × (err.new ≡ err.old)) }
@@ -177,7 +178,8 @@ pub fn job_status<E: Sink>(outcome: Result<u8, Stopped>, err: &mut E) -> u8
     }
 }
 
-/// Returns the program's exit status: the job's, or, if the command line led to no job, that of the fault that [`report`] writes to `err`.
+/// Returns the program's exit status: the job's, or, if the command line led to no job, the status of the fault that [`report`] writes to
+/// `err`.
 pub fn exit_status<E: Sink>(outcome: Result<u8, PlanFault>, err: &mut E) -> u8
     requires { E.failed err.old < u64.MAX }
     ensures done { IfOk outcome (λ status. (result ≡ status) × (err.new ≡ err.old)) }

@@ -173,7 +173,7 @@ fn has_text_under(rt: &impl Host, set: &Set<'_>, print: [u8; 32]) {
     is_written(rt, set);
 }
 
-/// Main St from either end has the row's text under its mask. So does the text itself, which is its own text under no mask too.
+/// Main St from either end has the row's text under its mask. The text has it too, and is its own text without a mask.
 fn street_has_text(rt: &impl Host, (row, mask, _, text, print): StreetRow) {
     for lines in [street(), street_turned(), text] {
         let set = SetLines::of(rt.alloc(), &(row, lines, text)).expect(rt, row);
@@ -202,7 +202,7 @@ fn is_turned_under(rt: &impl Host, mask: Mask, sets: [&[u8]; 2], by: &Renaming) 
     same(rt, "carried", &carried, &Ok(true));
 }
 
-/// Whether the sets are one map under the mask. If they are, Main St is turned.
+/// Whether the sets describe the same map under the mask. If they do, Main St is turned.
 fn are_one_map(rt: &impl Host, mask: Mask, set: &[u8], other: &[u8]) -> bool {
     let verdict = compare_masked(rt.alloc(), &[set], &[other], mask);
     let verdict = verdict.expect(rt, "both are accepted");
@@ -219,7 +219,7 @@ fn are_one_map(rt: &impl Host, mask: Mask, set: &[u8], other: &[u8]) -> bool {
     is_same
 }
 
-/// Under the row's mask, Main St is one map with itself from its other end. It is one map with a Main St of another SOURCE if the
+/// Under the row's mask, Main St is the same map as itself from its other end. It is the same map as a Main St of another SOURCE if the
 /// mask leaves SOURCE out.
 fn street_is_one_map(rt: &impl Host, (row, mask, is_of_any_source, _, _): StreetRow) {
     let set = lines_of(rt, street());

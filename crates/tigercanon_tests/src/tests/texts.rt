@@ -23,7 +23,7 @@ fn is_refused(rt: &impl Host, fault: Fault, text: &str, status: u8) {
     same(rt, text, &fault.status(), &status);
 }
 
-/// Faulty lines, broken rules and clauses, devices that fail, and want of memory in each layer.
+/// Faulty lines, broken rules and clauses, devices that fail, and failed allocations in each layer.
 fn of_each_layer() -> [(Fault, &'static str, u8); 9] {
     let (part, line, column) = (2, 34, 156);
     let (tlid, written) = (9_000_000_001, 229);

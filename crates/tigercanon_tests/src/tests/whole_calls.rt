@@ -20,7 +20,7 @@ fn a_street_is_respelt_and_has_a_fingerprint(rt: HostRuntime) {
     same(&rt, "its fingerprint", &print, &Ok(PRINT));
 }
 
-/// The sets are one map exactly if they have the same text, and then the returned renaming carries the first onto the second.
+/// The sets describe the same map exactly if they have the same text, and then the returned renaming carries the first onto the second.
 fn are_compared(rt: &impl Host, set: &Set<'_>, other: &Set<'_>) {
     let verdict = compare(rt.alloc(), &[set.bytes], &[other.bytes]).expect(rt, set.row);
     let found = match &verdict {
@@ -104,8 +104,8 @@ fn a_text_goes_out_as_far_as_the_sink_lets_it(rt: HostRuntime) {
     }
 }
 
-/// The failing read of Main St, or of a second source, and which source failed. The fifth read of Main St is the one at its end.
-/// Nothing is read behind a failure.
+/// The failing read of Main St, or of a second source, and which source failed. The fifth read of Main St is the one at its end. Nothing is
+/// read after a failure.
 fn failing() -> [([Option<u64>; 2], [u64; 2]); 7] {
     [
         ([Some(1), None], [1, 0]),

@@ -98,7 +98,7 @@ polygons-step done whole key later keys points group body group_is body_is keys_
     (body_is ∙ ap (λ l. first (map (λ (r : FieldsP). r.body) l)) (group_is ∙ group-flipped key_keys p_key key points))
     (polygons-later key points later (strict_head key_cmp key later (subst (IsStrictlySortedBy key_cmp) keys_are ascending)))
 
--- a polygon's content isn't that of a record with a lesser key
+-- a polygon's content isn't from a record with a lesser key
 polygons-above : (r : FieldsP) (points : List FieldsP) (keys : List PolygonKey) → AllByRecursion (λ j. key_cmp (p_key r) j ≡ Less) keys
     → map (polygon_body_of points) keys ≡ map (polygon_body_of (r ∷ points)) keys
 polygons-above r points [] h = refl

@@ -19,7 +19,7 @@ length-chains_along twos fours sixes (r ∷ rs) [] e = cc
 length-chains_along twos fours sixes (r ∷ rs) (l ∷ ls) e = let rest : map one_tlid rs ≡ map i_tlid ls = cc in
     omega (arith, length-chains_along twos fours sixes rs ls rest)
 
--- the nodes of chains are those of their type I records
+-- the nodes of chains are the nodes of their type I records
 nodes-chains_along : (twos : List Fields2) (fours : List Fields4) (sixes : List Fields6) (rs : List Fields1) (ls : List FieldsI)
     → map one_tlid rs ≡ map i_tlid ls → flat_map chain_nodes (chains_along twos fours sixes rs ls) ≡ flat_map topology_nodes ls
 nodes-chains_along twos fours sixes [] [] e = refl
@@ -77,7 +77,7 @@ module _ (records : List Record) (t u : Typed) (holds : by_type records ≡ t) (
   pub same_county : IsLinked (type_after_type u) → county_of (type_after_type u) ≡ county_of records
   same_county linked = reordered-county records (type_after_type u) moved (also_linked linked)
 
--- the names of type 5 records, under the FEATs of these records
+-- the names of type 5 records, under their FEATs
 pub names-built : {V : Type 0} (f : V → Body5) (xs : List (ℕ × V)) (t : Typed) → entry_keys xs ≡ map five_feat t.of_type_5
     → map f (entry_values xs) ≡ map (λ (r : Fields5). r.body) t.of_type_5 → map_values f xs ≡ (county_along t).names
 names-built f xs t keys values = search (rules, entries-equal, keys-map_values, map-map, values-map_values)

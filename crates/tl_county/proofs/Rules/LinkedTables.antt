@@ -36,7 +36,7 @@ pub group_in_order : {X : Type 0} (number : X → ℕ) (next : X → X → Order
     → IsInOrder (λ x y. ordering_then (nat_cmp (number x) (number y)) (next x y)) xs → IsInOrder next (of_number number n xs)
 group_in_order number next n xs h = search (rules, group_order, of_number-all, in_order-filter)
 
--- records in the order of their numbers are the groups of those numbers, one after the other
+-- records in the order of their numbers are the groups of the numbers, one after the other
 pub groups-join : {X : Type 0} (number : X → ℕ) (ks : List ℕ) (xs : List X) → IsStrictlySortedBy nat_cmp ks
     → IsInOrder (on number nat_cmp) xs → AllByRecursion (λ x. Known nat_cmp ks (number x)) xs
     → flat_map (λ k. of_number number k xs) ks ≡ xs
@@ -173,7 +173,7 @@ module _ (records : List Record) (order : AreInOrder (by_type records)) (linked 
       (in_order-first (on eight_land nat_cmp) (on link_part link_part_cmp) (of_type_8 records) order.type_8) lands_known)
       ∙ links_at lands
 
-  -- the county of the records is the one that is built
+  -- the county of the records is the built county
   pub county-built : county_of records ≡ county_along (by_type records)
   county-built = λ i. record {
     chains = chains-kept i;

@@ -98,7 +98,7 @@ module _ {X : Type 0} (f g : X → ℕ) where
           absurd (false≢true (sym (h (k, found.0))
           ∙ lt-ltb 1 (times sequence_cmp (k, found.0) (map (λ x. (f x, g x)) xs)) (omega (arith, found.1, times-pair k found.0 xs))))
 
--- a use occurs among all uses as often as its FEAT among those of its chain
+-- a use occurs among all uses as often as its FEAT among the FEATs of its chain
 pub times-uses : (n y : ℕ) (rs : List Fields4) → times sequence_cmp (n, y) (flat_map uses_of rs) ≡ times nat_cmp y
     (flat_map (λ r. r.feats) (of_number four_tlid n rs))
 times-uses n y [] = refl

@@ -8,7 +8,7 @@ use Rattle.tl_county.proofs.Rules.RuleTests.{in_order-first}
 pub tlids_in_order : {tlids : List ℕ} (t : Typed) → AreInOrder t → tlids ≡ map one_tlid t.of_type_1 → IsInOrder nat_cmp tlids
 tlids_in_order t ordered stated = search (rules, in_order-map)
 
--- those of the type I records
+-- the TLIDs of the type I records
 pub linked_in_order : {linked : List ℕ} (t : Typed) → AreInOrder t → linked ≡ map i_tlid t.of_type_i → IsInOrder nat_cmp linked
 linked_in_order t ordered stated = search (rules, in_order-map)
 

@@ -125,7 +125,7 @@ pub(crate) fn surroundings_of(topology: &RecI) -> Surroundings
     }
 }
 
-/// The records of a chain: those of types 1 and I, which live for `'t`, and those of types 2, 4 and 6 in the order of their RTSQs.
+/// The records of a chain: those of types 1 and I, which live for `'t`, and the records of types 2, 4 and 6 in the order of their RTSQs.
 #[derive(Drop)]
 pub(crate) struct OneChain<'t, 'h, 'r> {
     pub(crate) basics: &'h ChainBasics<'t>,

@@ -76,7 +76,7 @@ impl LinkedRecords {
         build_county(alloc, &mut builder, &self.tables, gathered, names)
     }
 
-    /// Returns the county of the records, with lists of its own.
+    /// Returns the county of the records, with its own lists.
     ///
     /// # Errors
     ///

@@ -20,10 +20,10 @@ use county_chart::{LandmarkKey, LinkKey, PolygonKey, sort_by_keys};
 use std::alloc::{AllocError, Global};
 use tl_layout::{Rec1, Rec2, Rec4, Rec5, Rec6, Rec7, Rec8, RecI, RecP, Tables};
 
-/// Tables in the order of their records' numbers. The records of types 1 and I lie in any order, and are read at their places.
+/// Tables in the order of their records' numbers. The records of types 1 and I are in any order, and are read at their places.
 #[derive(Drop)]
 pub(crate) struct OrderedTables {
-    /// The records. Those of all types but 1 and I lie in order.
+    /// The records. The records of all types except 1 and I are in order.
     pub(crate) records: Tables,
     /// The places of the type 1 records, in the order of their TLIDs.
     pub(crate) all_basics: Vec<u64>,

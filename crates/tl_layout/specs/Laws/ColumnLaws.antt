@@ -1,4 +1,4 @@
--- What the columns of a line hold if the line is made of texts of those widths.
+-- What the columns of a line hold if the line is made of texts with these widths.
 use Rattle.std.proofs.Common.{IsTrue, List, [], ap, append_assoc, arith, drop, length, refl, subst, sym, take, ℕ, ◌++◌, ◌+◌, ◌-◌, ◌∙◌, ◌∷◌}
 use Rattle.std.proofs.Common.{◌≡◌, ◌≤◌}
 use Rattle.std.proofs.lemmas.{List.Elements.All-drop, List.Elements.All-take, List.append-nil, List.length-drop, List.length-take-le}
@@ -11,7 +11,7 @@ joined-before before (text ∷ texts) =
     joined-before (before ++ text) texts ∙ (append_assoc before text (joined [] texts)
     ∙ ap (λ (l : List ℕ). before ++ l) (sym (joined-before text texts)))
 
--- part of a text is text of its own width
+-- part of a text is text of the part's width
 pub part_of_text : (len : ℕ) (text : List ℕ) → IsText len text → (at width : ℕ) → at + width ≤ len → IsText width (take width (drop at text))
 unfolding AreAllowed
 part_of_text len text t at width within =

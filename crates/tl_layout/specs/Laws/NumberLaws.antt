@@ -14,7 +14,7 @@ digit_not_blank byte h = ne_eqb byte 32 (λ e. let low : 48 ≤ byte = leb-true 
 pub blank_not_digit : (byte : ℕ) → is_blank byte ≡ true → is_digit byte ≡ false
 blank_not_digit byte h = let e : byte ≡ 32 = eqb-true byte 32 h in rw e refl
 
--- digits that continue those of n, followed only by blanks
+-- digits that continue the digits of n, followed only by blanks
 pub record IsNumberRest (n : ℕ) (bytes : List ℕ) (value : ℕ) : Type 0 where
   pub digits : List ℕ
   pub after : List ℕ

@@ -81,7 +81,7 @@ every_type t Holds own other u = go (same_or_apart t u)
     go (inl same) = subst Holds same own
     go (inr apart) = other u apart
 
--- a record whose fields are selected as those of a type is the record of this type with these fields
+-- a record whose fields are selected as fields of a type is the record of this type with these fields
 pub record_selected : (t : RecordType) (r : Record) (fields : FieldsOf t) → as_type t r ≡ Some fields → r ≡ record_of t fields
 record_selected t r fields = every_record (λ q. as_type t q ≡ Some fields → q ≡ record_of t fields)
     (every_type t (λ u. (others : FieldsOf u) → as_type t (record_of u others) ≡ Some fields → record_of u others ≡ record_of t fields)

@@ -12,7 +12,7 @@ use Rattle.tl_layout.specs.{FieldMeaning.SpellsNumberPlace, Laws.FieldLaws.numbe
 use Rattle.tl_layout.specs.{FieldMeaning.SpellsPointPlace, Laws.FieldLaws.point_or_none_at_only, Laws.PlaceFaultLaws.places_fault_only}
 use Rattle.tl_layout.specs.{FieldReading.number_or_none_at, Laws.FieldLaws.number_or_none_at_only, Laws.FieldLaws.point_or_none_at_found}
 
--- the faults of a number or none, and of a point or none, as fields of their own or places
+-- the faults of a number or none, and of a point or none, as separate fields or places
 number_or_none_fault_found : (line : List ℕ) (first last : ℕ) (fault : FieldFault) → number_or_none_at first last line ≡ Err fault
     → IsBadField line first last NumberOrNone fault
 number_or_none_fault_found line first last fault h =

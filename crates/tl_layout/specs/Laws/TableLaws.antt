@@ -97,7 +97,7 @@ first_row next row rows len h =
     let front = and_parts (nat_eq row.first next) (is_suited row.first row.last row.kind) parts.0 in
     record { first = eqb-true row.first next front.0; suited = front.1; later = parts.1 }
 
--- the first column is not behind the last one
+-- the first column is not after the last one
 pub ordered : (first last : ℕ) (kind : Kind) → is_suited first last kind ≡ true → first ≤ last
 ordered first last Pair h = let e = eqb-true last (first + 18) h in omega arith
 ordered first last PairOrNone h = let e = eqb-true last (first + 18) h in omega arith

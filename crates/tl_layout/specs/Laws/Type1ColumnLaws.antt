@@ -60,7 +60,7 @@ pub content_behind : (before text : List ℕ) → IsText 175 text → before ++ 
 content_behind before text t =
     ap (λ (l : List ℕ). before ++ l) (sym (text_of_columns text t)) ∙ sym (joined-before before (body_1_texts (body_1_of text)))
 
--- fields that are cut out of these columns fit
+-- fields that are cut out of columns fit
 pub content_fits : (text : List ℕ) → IsText 175 text → FitsBody1 (body_1_of text)
 unfolding body_1_at entities_at
 content_fits text t =

@@ -19,7 +19,7 @@ greater_from Less e = absurd (false≢true (sym e))
 greater_from Equal e = absurd (false≢true (sym e))
 greater_from Greater e = refl
 
--- What holds of two pairs holds of the pair of what is taken from both of them.
+-- A property of two pairs is a property of the pair taken from both.
 pub of_each : {X Y : Type 0} (P : X → Y → Type 0) (b : Bool) (x y : X) (v w : Y) → P x v → P y w → P (cond b x y) (cond b v w)
 of_each P true x y v w p q = p
 of_each P false x y v w p q = q

@@ -105,7 +105,7 @@ module _ {D R : Type 0} (turn : D → D) (cmp : R → R → Ordering) (same_one 
     (decided : (i k place : ℕ) → slice_get (moved turn places (xs, i)).0 place ≡ slice_get (moved turn places (xs, k)).0 place
     → slice_get (value i) place ≡ slice_get (value k) place)
     (as_many : (i k : ℕ) → length (value i) ≡ length (value k)) where
-  -- If earlier open places move elements before all that later ones move, the digits of the later ones compare alike behind each digit.
+  -- If earlier open places move elements before all that later ones move, the digits of the later ones compare alike after each digit.
   pub digits_apart : (front back : List OpenPlace) → places ≡ front ++ back → AreWithin (length xs) places → ArePlacesApart (length xs) front back
       → (digit n m : ℕ) → n < ways_of back → m < ways_of back
       → slice_cmp cmp (value (digit * ways_of back + n)) (value (digit * ways_of back + m)) ≡ slice_cmp cmp (value n) (value m)

@@ -13,7 +13,7 @@ use Rattle.tl_number.specs.LeastOnes.{AreLeastBelow, combined}
 contained : (n : ℕ) (ns : List ℕ) → Known nat_cmp ns n → contains nat_cmp n ns ≡ true
 contained n ns known = lt-ltb 0 (times nat_cmp n ns) known
 
--- what holds of all numbers holds of one that is contained
+-- what holds for all numbers holds for one that is contained
 pub contained_all : (P : ℕ → Type 0) (ns : List ℕ) → AllByRecursion P ns → (n : ℕ) → contains nat_cmp n ns ≡ true → P n
 contained_all P ns all n is_in = known_all nat_keys P ns all n (ltb-true 0 (times nat_cmp n ns) is_in)
 
@@ -179,7 +179,7 @@ module _ {K : Type 0} {cmp : K → K → Ordering} (o : IsTotalOrder cmp) where
       least_next Equal e = least_tied (sym e)
       least_next Greater e = least_less (ap is_gt (sym e))
 
-    -- Of numbers with one digit more. Numbers with one digit compare as the numbers behind it do.
+    -- Of numbers with one digit more. Numbers with one digit compare as the numbers after it do.
     module _ (ways count : ℕ) (alike : (digit n m : ℕ) → n < ways → m < ways
         → cmp (value (digit * ways + n)) (value (digit * ways + m)) ≡ cmp (value n) (value m))
         (numbers : List ℕ) (are : AreLeastBelow cmp value ways numbers) (c : ℕ) (is_in : contains nat_cmp c numbers ≡ true)
@@ -200,7 +200,7 @@ module _ {K : Type 0} {cmp : K → K → Ordering} (o : IsTotalOrder cmp) where
       abbrev Below : (ℕ → Type 0) → Type 0
       Below P = (m : ℕ) → m < count * ways → P m
 
-      -- what holds of each digit with each number holds below the product
+      -- what holds for each digit with each number holds below the product
       by_digits : (P : ℕ → Type 0) → ((digit n : ℕ) → digit < count → n < ways → P (digit * ways + n)) → Below P
       by_digits P each m l =
           let some : 0 < ways = omega (arith, low) in
@@ -255,7 +255,7 @@ module _ {K : Type 0} {cmp : K → K → Ordering} (o : IsTotalOrder cmp) where
             (contained_all (λ d. AllByRecursion (λ m. NotAfter (digit * ways + n) (d * ways + m)) numbers) digits each digit top)))));
       }
 
-  -- All of these values are the same,
+  -- All values are the same,
   pub least_tie : (value : ℕ → K) (bound : ℕ) (numbers : List ℕ) → AreLeastBelow cmp value bound numbers
       → AllByRecursion (λ n. AllByRecursion (λ m. cmp (value n) (value m) ≡ Equal) numbers) numbers
   least_tie value bound numbers are =
@@ -270,7 +270,7 @@ module _ {K : Type 0} {cmp : K → K → Ordering} (o : IsTotalOrder cmp) where
       tied p Equal e f g = e
       tied p Greater e f g = absurd (false≢true (sym g))
 
-  -- If these values decide another order, the least of these numbers in that order is the least of all.
+  -- If the values decide another order, the least of the numbers in that order is the least of all.
   pub least_leads : (value : ℕ → K) (bound : ℕ) (numbers : List ℕ) → AreLeastBelow cmp value bound numbers
       → {T : Type 0} {by : T → T → Ordering} (p : IsTotalOrder by) (text : ℕ → T)
       → ((m k : ℕ) → is_gt (cmp (value m) (value k)) ≡ true → is_gt (by (text m) (text k)) ≡ true)
@@ -285,7 +285,7 @@ module _ {K : Type 0} {cmp : K → K → Ordering} (o : IsTotalOrder cmp) where
       go true e = upto p (text n) (text x) (text m) among.0
           (not_greater (by (text m) (text x)) (by (text x) (text m)) (p.antisymm (text m) (text x)) (decide m x e))
 
--- what holds of the only one of some numbers holds of all
+-- what holds for the only one of some numbers holds for all
 pub lone_all : (P : ℕ → Type 0) (ns : List ℕ) → length ns ≡ 1 → P (get_or ns 0 0) → AllByRecursion P ns
 lone_all P [] one p = tt
 lone_all P (n ∷ []) one p = (p, tt)

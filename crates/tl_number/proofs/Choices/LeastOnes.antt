@@ -1,4 +1,4 @@
--- Records of type 1 by the digits of choices, and the least choice among those with the least of these records.
+-- Records of type 1 by the digits of choices, and the least choice among those with the least records of type 1.
 use Rattle.std.specs.Prelude.{Bool, List, false, length, nat_lt, true, ℕ, ◌*◌, ◌++◌, ◌+◌, ◌<◌, ◌≡◌, ◌≤◌, drop, slice_get, suc, take, zero, ◌-◌}
 use Rattle.std.specs.{Ordering.is_gt}
 use Rattle.std.proofs.Common.{Some, ap, arith, get_or, refl, sym, ◌∙◌}
@@ -37,7 +37,7 @@ module _ (c : OrderedCounty) where
   pub few_ways : (first : ℕ) → ways_of (drop first c.shapes.places) ≤ most_choices
   few_ways first = omega (arith, fewer_ways (length c.shapes.by_shape) c.shapes.places c.known.within first, all_ways, c.known.few)
 
-  -- The places from one on up to another leave some choices, few enough, and with those behind them all from the first one on.
+  -- The places from one on up to another leave some choices, few enough, and with the places after them all from the first one on.
   pub taken_some : (first end : ℕ) → 0 < ways_of (take (end - first) (drop first c.shapes.places))
   taken_some first end = some_ways (length c.shapes.by_shape) (take (end - first) (drop first c.shapes.places))
       (all_take _ (end - first) (drop first c.shapes.places) (all_drop _ first c.shapes.places c.known.within))
@@ -91,7 +91,7 @@ module _ (c : OrderedCounty) where
   pub by_ones : (i k : ℕ) → ones_cmp c.county i k ≡ records_cmp (ones_of (choice c i)) (ones_of (choice c k))
   by_ones i k = sym (λ j. records_cmp (ones_of (arranged c.county (stated c i j))) (ones_of (arranged c.county (stated c k j))))
 
-  -- If earlier open places move chains before all that later ones move, the digits of the later ones compare alike behind each digit.
+  -- If earlier open places move chains before all that later ones move, the digits of the later ones compare alike after each digit.
   pub ones_apart : (front back : List OpenPlace) → c.shapes.places ≡ front ++ back → ArePlacesApart (length c.shapes.by_shape) front back
       → IsDigitApart c.county (ways_of back)
   ones_apart front back split apart digit n m l k =

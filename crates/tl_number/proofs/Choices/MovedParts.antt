@@ -144,7 +144,7 @@ module _ {X : Type 0} (turn : X → X) where
   -- Earlier places that end before a place at which or after which all later ones begin.
   module _ (front back : List OpenPlace) (xs : List X) (within : AreWithin (length xs) back) (edge : ℕ) (inside : edge ≤ length xs)
       (ends : AreWithin edge front) (begins : AllByRecursion (λ at. edge ≤ at.place) back) where
-    -- the elements before the edge, and those behind it
+    -- the elements before the edge, and the elements after it
     abbrev first_part : ℕ → List X
     first_part digit = (moved turn front (take edge xs, digit)).0
 
@@ -181,7 +181,7 @@ module _ {X : Type 0} (turn : X → X) where
         ∙ get_left (first_part digit) (second_part n) (second_part m) place (omega (arith, h, first_count digit))
         ∙ sym (ap (λ ys. slice_get ys place) (in_parts digit m k))
 
-    -- and behind it not on the earlier places'.
+    -- and after it not on the earlier places'.
     pub same_behind : (digit n : ℕ) → n < ways_of back → (place : ℕ) → edge ≤ place
         → slice_get (moved turn (front ++ back) (xs, digit * ways_of back + n)).0 place
         ≡ slice_get (moved turn (front ++ back) (xs, n)).0 place

@@ -1,4 +1,4 @@
--- Open places in two parts, of which one ends before the other begins.
+-- Open places in two parts: one ends before the other begins.
 use Rattle.std.proofs.Common.{List, None, Some, [], arith, drop, false, ltb-false, nat_lt, slice_get, suc, take, zero, ℕ, ◌+◌, ◌∷◌, ◌≡◌, ◌≤◌, length, subst, sym}
 use Rattle.std.proofs.Math.Seq.{drop-length}
 use Rattle.std.specs.List.{AllByRecursion, list_any}
@@ -9,7 +9,7 @@ use Rattle.tl_number.specs.LeastOnes.{ArePlacesApart}
 use Rattle.county_chart.specs.declared.open_place.OpenPlace.{OpenPlace}
 
 module _ (at : OpenPlace) where
-  -- places in order begin behind the first of them
+  -- places in order begin after the first place
   begin_behind : (first : ℕ) (places : List OpenPlace) → ArePlacesInOrder places → slice_get places first ≡ Some at
       → AllByRecursion (λ later. at.place ≤ later.place) (drop first places)
   begin_behind first [] in_order there = absurd (let e : None ≡ Some at = there in cc)

@@ -30,7 +30,7 @@ places_alike zero f g h k alike = refl
 places_alike (suc count) f g h k alike = ap₂ ordering_then (alike 0)
     (places_alike count (λ place. f (suc place)) (λ place. g (suc place)) (λ place. h (suc place)) (λ place. k (suc place)) (λ place. alike (suc place)))
 
--- the order of two values: that of numbers, with 0 for none, and otherwise that of their texts
+-- the order of two values: as numbers, with 0 for none, and otherwise as texts
 abbrev pub value_cmp : ℕ → (kind : Kind) → ValueOf kind → ValueOf kind → Ordering
 value_cmp width Number a b = nat_cmp a b
 value_cmp width NumberOrNone a b = nat_cmp (unwrap_or a 0) (unwrap_or b 0)

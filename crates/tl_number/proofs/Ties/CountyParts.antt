@@ -75,7 +75,7 @@ module _ (county : County) (keeps : ℕ × Chain → Bool) (with_landmarks : Boo
   abbrev used_polygon : PolygonKey × Option BodyP → Bool
   used_polygon polygon = contains key_cmp polygon.0 (polygons_along kept)
 
-  -- what holds of landmarks or links, and of none
+  -- what holds for landmarks or links, and for none
   all_or_none : {X : Type 0} (P : List X → Type 0) (xs : List X) → P xs → P [] → P (cond with_landmarks xs [])
   all_or_none P xs h none = cond_both with_landmarks xs [] P (λ e. h) (λ e. none)
 

@@ -81,8 +81,8 @@ module _ {K : Type 0} {cmp : K → K → Ordering} (o : IsKeyOrder cmp) (c : Ord
   pub placed_seen : Known cmp placed_keys k → Known cmp (seen_in cmp keys c i) k
   placed_seen h = subst (λ ks. Known cmp (first_seen cmp ks) k) (sym (keys_placed c i keys)) (to_first_seen o placed_keys k h)
 
--- A kind of keys: those of a chain, whichever way it runs; the new key of each, and its number, which determines the new key; all keys of the
--- county; and the list of all keys in the order of a choice, in which numbers are places, counted from 1.
+-- A kind of keys: the keys of a chain, whichever way it runs; the new key of each, and its number, which determines the new key; all keys
+-- of the county; and the list of all keys in the order of a choice, where numbers are places, counted from 1.
 pub record KeyKind {K : Type 0} (cmp : K → K → Ordering) : Type 0 where
   pub order : IsKeyOrder cmp
   pub keys : Chain → List K

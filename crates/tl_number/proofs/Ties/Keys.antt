@@ -212,7 +212,7 @@ module _ {K : Type 0} {cmp : K → K → Ordering} (o : IsKeyOrder cmp) (places 
       among_any (λ key. contains cmp key opened && not (contains cmp key (fixed_keys places along place))) k (group_at along place)
       (known_is_among o k (group_at along place) here) (ap₂ (λ x y. x && not y) is_opened new)
 
-  -- the first fixed place of one of these keys brings it
+  -- the first fixed place of a wanted key brings it
   pub record FirstFixed (k : K) : Type 0 where
     pub first : ℕ
     pub fixed : is_open places first ≡ false

@@ -1,4 +1,4 @@
--- The choices of a part of a list, and those of a county that has some of another county's chains.
+-- The choices of a part of a list, and of a county that has some of another county's chains.
 use Rattle.tl_number.proofs.Common.{AllByRecursion, filter-agree_all, filter-filtered, numbered_choice, shapes_ascending, turned_directed}
 use Rattle.tl_number.proofs.Common.{Bool, Chain, List, Some, arith, cond, map, on, refl, subst, suc, take, true, upto, zero, ◌/◌, ◌==◌, ◌≤◌}
 use Rattle.tl_number.proofs.Common.{County, [], choices, chosen, false, filter, insert, is_eq, is_gt, is_open, length, shapes, stood, times}
@@ -72,8 +72,8 @@ module _ {X K : Type 0} {cmp : K → K → Ordering} (o : IsKeyOrder cmp) (eithe
   abbrev pub later_alike : X → List X → ℕ
   later_alike x xs = times cmp (key x) (map key xs)
 
-  -- An element that isn't kept has a key of its own that runs one way. Those behind which an element can move are kept, and they're all
-  -- that have its key.
+  -- An element that isn't kept has a unique key that runs one way. Those behind which an element can move are kept, and they're all that
+  -- have its key.
   pub record IsKeptOpen (x : X) (xs : List X) : Type 0 where
     pub settled : keep x ≡ false → (later_alike x xs ≡ 0) × (either (key x) ≡ false)
     pub first : AllByRecursion (λ b. b ≡ true) (take (later_alike x xs) (map keep xs))

@@ -12,7 +12,7 @@ use Rattle.tl_number.proofs.Ties.Keys.{AreAlike, alike_append, alike_itself, fla
 use Rattle.tl_number.proofs.Ties.Keys.{newly_both, newly_known, newly_unseen, place_later, seen_newly, there_found}
 use Rattle.tl_number.proofs.Ties.ListsAlike.{among_filtered}
 
--- the keys with nothing in the place of each wanted one
+-- the keys with nothing instead of each wanted one
 abbrev pub masked_by : {K : Type 0} → (K → Bool) → List K → List (Option K)
 masked_by wanted keys = map (λ key. cond (wanted key) None (Some key)) keys
 
@@ -136,7 +136,7 @@ module _ {K : Type 0} {cmp : K → K → Ordering} (o : IsKeyOrder cmp) where
       each i x y e f (inl g) (inr h) =
           ap (λ k. cond (wanted k) None (Some k)) (sym (there ys xs b (sym long) (λ k l. sym (stay k l)) i y x f e h))
 
-  -- Lists with the same keys, which differ in wanted keys alone, also after any test of their keys.
+  -- Lists with the same keys, which differ in wanted keys alone, even after any test of their keys.
   pub record AreReordered (wanted : K → Bool) (xs ys : List K) : Type 0 where
     pub alike : AreAlike cmp xs ys
     pub masked : (test : K → Bool) → masked_by wanted (filter test xs) ≡ masked_by wanted (filter test ys)

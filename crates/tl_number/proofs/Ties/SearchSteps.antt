@@ -1,4 +1,4 @@
--- Finding the keys that first appear at open places, and the chains by which choices are compared, step by step.
+-- Finding the open keys and the kept chains, step by step.
 use Rattle.tl_number.proofs.Common.{Bool, List, [], ap, ap₂, cond, map, not, refl, sym, ◌++◌, ◌+◌, ◌<◌, ◌∙◌, ◌∷◌, ◌≡◌}
 use Rattle.tl_number.proofs.Common.{Chain, County, Option, Some, arith, brings, drop, false, lt-ltb, nat_lt, subst, times, true, ◌&&◌, ◌||◌}
 use Rattle.tl_number.proofs.Common.{Fields8, IsCounty, Ordering, get_or, group_at, grouped, is_open, key_cmp, links_at, ltb-true, map-id}
@@ -22,7 +22,7 @@ pub group_dropped : {Y : Type 0} (groups : List (List Y)) (i : ℕ) (group : Lis
     → drop i groups ≡ group ∷ drop (i + 1) groups
 group_dropped groups i group within is = drop_more groups i [] within ∙ ap (λ g. g ∷ drop (i + 1) groups) (sym (is ∙ unwrap_or-slice_get groups i []))
 
--- the keys of one list, and those behind it
+-- the keys of one list, and of the lists after it
 pub seen_more : {K : Type 0} (cmp : K → K → Ordering) (keys rest all before after whole : List K) → all ≡ keys ++ rest → after ≡ first_seen_after cmp before keys
     → first_seen_after cmp before all ≡ whole → first_seen_after cmp after rest ≡ whole
 seen_more cmp keys rest all before after whole split put is =
@@ -38,7 +38,7 @@ chosen_more cmp is_chosen keys rest all before after whole split =
 
 -- Keys that are seen, and the open ones of them.
 module _ {K : Type 0} {cmp : K → K → Ordering} (o : IsKeyOrder cmp) where
-  -- the new keys of one list, if its place is open, and those behind it
+  -- the new keys of one list, if its place is open, and of the lists after it
   pub new_more : (b : Bool) (keys rest all before after opened next whole : List K) → all ≡ keys ++ rest → after ≡ first_seen_after cmp before keys
       → next ≡ opened ++ cond b (newly_seen cmp before keys) [] → opened ++ cond b (newly_seen cmp before all) [] ≡ whole
       → next ++ cond b (newly_seen cmp after rest) [] ≡ whole
@@ -104,7 +104,7 @@ module _ {K : Type 0} {cmp : K → K → Ordering} (o : IsKeyOrder cmp) where
         go true = refl
         go false = ap of_opened (sym (ap (λ (g : Option (List K)). unwrap_or g []) there))
 
--- ---- finding the chains by which the choices of a county are compared
+-- ---- finding the kept chains of a county
 
 -- ---- walking along places
 

@@ -132,7 +132,7 @@ module _ (c : OrderedCounty) where
   on_side : (i : ℕ) (key : PolygonKey) → Among key (polygons_at i) → Known key_cmp (polygons_along c.county.chains) key
   on_side i key there = polygon_kind.in_all c i key (among_known key_keys key (polygons_at i) there)
 
-  -- If two choices differ in wanted polygons alone, the records of these decide.
+  -- If two choices differ in wanted polygons alone, their records decide.
   wanted_records : (wanted : PolygonKey → Bool) (n k : ℕ) → masked_by wanted (with_record n) ≡ masked_by wanted (with_record k)
       → ((key : PolygonKey) → wanted key ≡ false → Known key_cmp (polygons_along c.county.chains) key
       → polygon_number (new_in c n) key ≡ polygon_number (new_in c k) key)

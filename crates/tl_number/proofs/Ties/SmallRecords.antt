@@ -36,7 +36,7 @@ numbered_groups under F [] p h = refl
 numbered_groups under F (x ∷ xs) p h =
     ap₂ (λ us vs. us ++ vs) (h 0 x refl p (omega arith)) (numbered_groups under F xs (suc p) (λ i y e q f. h (suc i) y e q (omega (arith, f))))
 
--- what holds of all elements holds of those in each group
+-- what holds for all elements holds for the elements of each group
 all_there : {X : Type 0} (Holds : X → Type 0) (F : ℕ → List X) (p count : ℕ) → AllByRecursion Holds (groups_from F p count)
     → (i : ℕ) → i < count → (q : ℕ) → q ≡ p + i → AllByRecursion Holds (F q)
 all_there Holds F p zero all i l q e = absurd (omega (arith, l))

@@ -179,7 +179,7 @@ module _ {X K : Type 0} {cmp : K → K → Ordering} (o : IsKeyOrder cmp) (keys_
     turned_by_alike zero x = alike_itself o (keys_of x)
     turned_by_alike (suc digit) x = turned x
 
-    -- One move: the element at an open place turns, and goes behind some of those after it.
+    -- One move: the element at an open place turns, and goes behind some later ones.
     module _ (at : OpenPlace) (covered : (place : ℕ) → Covers at place → is_open place ≡ true) where
       moved_in : (j : ℕ) (met : List K) (place : ℕ) (x t : X) (rest : List X) → AreAlike cmp (keys_of t) (keys_of x) → at.place ≤ place
           → place + j < at.place + at.alike → j ≤ length rest → AreMet met place (x ∷ rest)

@@ -1,4 +1,4 @@
--- What is pushed and what follows are all places with their classes.
+-- The pushed places and the following ones are all places, with their classes.
 use Rattle.arranged_county.proofs.Common.{classes_along, length, ◌++◌, ◌+◌, ◌<◌, ◌^◌, ◌≡◌}
 use Rattle.arranged_county.proofs.content_classes.with_classes.Given as goal
 

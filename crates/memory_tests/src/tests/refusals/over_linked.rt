@@ -1,4 +1,4 @@
-//! Admission within whole calls, of a county over linked records, with growths refused as is asked for.
+//! Admission within whole calls, of a county over linked records, with growths refused as requested.
 
 ghost use Rattle.std.specs.Prelude.{◌≡◌};
 ghost use Rattle.county_chart.specs.County.{county_of};
@@ -26,7 +26,7 @@ fn admit_over<'a>(
     tl_profile::admit_linked(alloc, county, linked.polygon_without_chain())
 }
 
-/// The county that is admitted is that of the set. The answer is the order of its chains, or why it isn't admitted.
+/// The set's county is admitted. The answer is the order of its chains, or why it isn't admitted.
 fn order_of<C: Chart + Drop>(
     rt: &impl Host,
     set: &Set<'_>,

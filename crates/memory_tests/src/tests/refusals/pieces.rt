@@ -1,4 +1,4 @@
-//! What comes behind admission within whole calls, with growths refused as is asked for.
+//! The steps after admission within whole calls, with growths refused as requested.
 
 ghost use Rattle.std.specs.Prelude.{◌≡◌};
 ghost use Rattle.canonical_form.specs.Arrangement.{ascending};
@@ -78,7 +78,7 @@ fn arrange_ascending<C: Chart + Drop>(
     arrange(alloc, chart, arrangement)
 }
 
-/// The renaming of the set's county onto an arranged one. It carries the one onto the other.
+/// The renaming of the set's county onto an arranged one. It carries the county there.
 fn renaming_onto<C: Chart>(rt: &impl Host, set: &Set<'_>, view: &Arranged<C>) -> Renaming {
     let renaming = view.renaming(rt.alloc()).expect(rt, set.row);
     let carried = carries_onto(rt, set, view, &renaming);

@@ -33,7 +33,7 @@ fn is_refused(rt: &impl Host, set: &Set<'_>) {
     each_reports(rt, set, fault);
 }
 
-/// The sets of this table. Each is rejected as its row states, also where growths are refused.
+/// The sets of this table. Each is rejected as its row states, even where growths are refused.
 fn refused_by_calls(rt: &impl Host, what: &str, rows: &[Refused]) -> Vec<SetLines> {
     let sets = refused_sets(rt.alloc(), rows).expect(rt, "there is memory");
     for lines in &sets {

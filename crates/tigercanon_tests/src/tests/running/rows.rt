@@ -245,8 +245,8 @@ fn comparisons_print_one_line(rt: HostRuntime) {
     }
 }
 
-/// A job on Main St, how many bytes a write takes at most, how many the output takes, the whole output, and what is reported. Where
-/// a write takes nothing, nothing is written.
+/// A job on Main St, how many bytes a write takes at most, how many the output takes, the whole output, and the reported lines. Where a
+/// write takes nothing, nothing is written.
 type Limited = (Job, usize, usize, &'static [&'static str], &'static str);
 
 /// Outputs that take nothing, less than one write, some writes, and all but the last byte.

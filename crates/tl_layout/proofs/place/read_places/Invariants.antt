@@ -1,5 +1,4 @@
--- The items read so far, followed by those of the remaining places, are the reading of all
--- places.
+-- The items read so far, followed by the items of the remaining places, are the reading of all places.
 use Rattle.tl_layout.proofs.Common.{false, length, places_reading, ℕ, ◌*◌, ◌+◌, ◌≡◌, ◌≤◌}
 use Rattle.tl_layout.proofs.PlaceSteps.{with_front}
 use Rattle.tl_layout.proofs.place.read_places.Given as goal

@@ -10,7 +10,7 @@ alone Less = refl
 alone Equal = refl
 alone Greater = refl
 
--- the order by the records of type 4, and then by those behind them; those of types 5 and 7 tie
+-- the order by the records of type 4, and then by the types after it; types 5 and 7 tie
 whole : (g : Over) (c : Start g) → let a = arranged_by (g.A.Chart.county c.args.a.now.chart) c.args.a.now.arrangement.items in
     let b = arranged_by (g.B.Chart.county c.args.b.now.chart) c.args.b.now.arrangement.items in
     ordering_then (groups_cmp Four (type_4_by_chain a) (type_4_by_chain b))

@@ -2,13 +2,13 @@ use Rattle.tl_number.proofs.Common.{Carries, County, Err, IfOk, IfOk-weaker, IsC
 use Rattle.tl_number.proofs.Common.{arranged, arranged_county, arrangement_in, renaming_of, source_of, subst, sym, ◌∙◌, ◌≡◌}
 use Rattle.tl_number.proofs.canonising.canonise.Goals as goal
 
--- what holds of a value holds of it beside any other
+-- what holds for a value holds for it with any other value
 with_other : {A B E : Type 0} (a : A) (r : Result B E) (pair : Result (A × B) E) (P : A → Type 0)
     → MatchResult r (λ b. pair ≡ Ok (a, b)) (λ e. pair ≡ Err e) → P a → IfOk pair (λ p. P p.0)
 with_other a (Ok b) pair P is h = subst (λ r. IfOk r (λ p. P p.0)) (sym is) h
 with_other a (Err e) pair P is h = subst (λ r. IfOk r (λ p. P p.0)) (sym is) tt
 
--- and what holds of both
+-- and a property of both
 with_both : {A B E : Type 0} (a : A) (r : Result B E) (pair : Result (A × B) E) (P : A → B → Type 0)
     → MatchResult r (λ b. pair ≡ Ok (a, b)) (λ e. pair ≡ Err e) → IfOk r (P a) → IfOk pair (λ p. P p.0 p.1)
 with_both a (Ok b) pair P is h = subst (λ r. IfOk r (λ p. P p.0 p.1)) (sym is) h

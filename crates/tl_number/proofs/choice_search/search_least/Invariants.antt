@@ -1,5 +1,5 @@
--- The choice with the least text among those so far, which has the records of type 1 that all have; if a county is arranged, it's that of
--- this choice.
+-- The choice with the least text among those so far, which has the records of type 1 that all have; if a county is arranged, it's the
+-- county of this choice.
 use Rattle.tl_number.proofs.Common.{AllByRecursion, Equal, IfSome, IsChosen, arranged_county, chosen_county, ones_cmp, take, ◌≡◌}
 use Rattle.tl_number.specs.LeastOnes.{IsLeastAmong}
 use Rattle.tl_number.proofs.choice_search.search_least.Given as goal

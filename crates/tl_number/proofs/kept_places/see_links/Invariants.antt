@@ -1,4 +1,4 @@
--- the polygons seen so far are those of the landmarks so far
+-- the polygons seen so far are the polygons of the landmarks so far
 use Rattle.tl_number.proofs.Common.{first_seen_after, flat_map, key_cmp, link_keys_at, range_with_len, ◌≡◌}
 use Rattle.tl_number.proofs.kept_places.see_links.Given as goal
 

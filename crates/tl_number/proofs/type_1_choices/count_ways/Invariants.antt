@@ -1,4 +1,4 @@
--- the ways so far and those of the remaining places
+-- the ways so far and the ways of the remaining places
 use Rattle.std.proofs.Common.{length, ◌*◌, ◌≡◌}
 use Rattle.tl_number.specs.LeastOnes.{ways_of}
 use Rattle.tl_number.proofs.type_1_choices.count_ways.Given as goal

@@ -21,7 +21,7 @@ returns-then-are_in_order-clause-numbers g c =
     c.in_ok-numbers.ensures
     ∙ ap (map g.T.Keyed.key_of) (sym (ap (at_places items) c.in_ok-places.ensures ∙ at_all_places items))
 
--- what a call says of the numbers says it of the items that have them
+-- the result for the numbers is the result for the items that have them
 module _ {X : Type 0} (key : X → ℕ) (items : List X) (numbers : List ℕ) (are : numbers ≡ map key items) where
   reordered : (places : List ℕ) → IsPermutation (range_with_len 0 (length numbers)) places → IsPermutation items (at_places items places)
   reordered places p = all_at_places items places
