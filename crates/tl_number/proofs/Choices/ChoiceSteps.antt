@@ -24,7 +24,7 @@ pub of_each : {X Y : Type 0} (P : X → Y → Type 0) (b : Bool) (x y : X) (v w 
 of_each P true x y v w p q = p
 of_each P false x y v w p q = q
 
--- What is kept of the first of two, if it isn't forgotten, is kept of the one that is taken.
+-- If a value stored for the first of two isn't dropped, it's a value for the one that is taken.
 pub forgotten : {V : Type 0} (P : ℕ → V → Type 0) (b : Bool) (n m : ℕ) (kept : Option V) → IfSome kept (P n)
     → IfSome (cond b None kept) (P (cond b m n))
 forgotten P true n m kept p = tt

@@ -17,7 +17,7 @@ contained n ns known = lt-ltb 0 (times nat_cmp n ns) known
 pub contained_all : (P : ℕ → Type 0) (ns : List ℕ) → AllByRecursion P ns → (n : ℕ) → contains nat_cmp n ns ≡ true → P n
 contained_all P ns all n is_in = known_all nat_keys P ns all n (ltb-true 0 (times nat_cmp n ns) is_in)
 
--- the number that is kept
+-- a number of the list stays in it
 pub stays_in : (p : Ordering) (n c : ℕ) (numbers : List ℕ) → is_gt p ≡ false → contains nat_cmp c numbers ≡ true
     → contains nat_cmp c (cond (is_gt p) (n ∷ []) (numbers ++ cond (is_eq p) (n ∷ []) [])) ≡ true
 stays_in Less n c numbers e is_in = contained c (numbers ++ []) (known-left nat_keys c numbers [] (ltb-true 0 (times nat_cmp c numbers) is_in))
