@@ -175,7 +175,8 @@ pub(crate) fn is_at<K: Key>(keys: &[K], place: usize, key: K) -> bool
 }
 
 /// Returns the place of a key without a mark, counted from 0, or `None` if there is none.
-// Trick: not inlined, because nearly all keys have a mark.
+///
+/// Trick: not inlined, because nearly all keys have a mark.
 #[inline(never)]
 fn place_among<K: Key + Hash>(keys: &[K], others: &OtherPlaces<K>, key: K) -> Option<usize>
     ensures found { IfSome result (λ place. slice_get keys.now place ≡ Some key) }

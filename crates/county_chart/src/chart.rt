@@ -109,7 +109,8 @@ pub trait Chart {
     }
 
     /// Returns a byte made from the content of the type 1 record of the chain at a place. It has no meaning.
-    // Trick: reading the byte brings the content into the cache.
+    ///
+    /// Trick: reading the byte brings the content into the cache.
     fn chain_byte(&self, _place: usize) -> u8 {
         0
     }

@@ -88,7 +88,8 @@ pub enum LinkFault {
 }
 
 /// Prints the fault as a derived `Debug` would.
-// Trick: one derived function for all variants is too large for the prover.
+///
+/// Trick: one derived function for all variants is too large for the prover.
 impl fmt::Debug for LinkFault {
     fn fmt<W: fmt::Write>(&self, f: &mut fmt::Formatter<W>) -> fmt::Result {
         match self {

@@ -75,7 +75,8 @@ impl<C: Chart> Listed for ShapePoints<'_, C> {
 }
 
 /// The type 1 record of each chain. A head has the ends of the chain, and a byte that has no meaning.
-// Trick: reading the byte brings the record's content into the cache before the record is written.
+///
+/// Trick: reading the byte brings the record's content into the cache before the record is written.
 #[derive(Drop)]
 pub struct ChainRecords<'a, C: Chart> {
     /// The county.
@@ -252,7 +253,8 @@ impl<C: Chart, R: SequencedRecord> CountedGroups for SequencedRecords<'_, C, R> 
 
 /// The record of type I of each chain: its nodes and the polygons on its sides. A head is a byte made from two bytes of the record's
 /// content. It has no meaning.
-// Trick: reading the byte brings the content into the cache before the record is written.
+///
+/// Trick: reading the byte brings the content into the cache before the record is written.
 #[derive(Drop)]
 pub struct TopologyRecords<'a, C: Chart> {
     /// The county.

@@ -4,7 +4,8 @@ use county_chart::PolygonKey;
 use tl_layout::{BodyP, Point};
 
 /// How many heads are read together.
-// Trick: the data of groups may be anywhere in memory, and this way no head waits for the one before it.
+///
+/// Trick: the data of groups may be anywhere in memory, and this way no head waits for the one before it.
 const HEADS_TOGETHER: usize = 64;
 
 /// Buffers for the heads of each kind of group.

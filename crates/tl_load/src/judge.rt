@@ -26,7 +26,8 @@ pub(crate) fn judge_line<L: Layout>(line: &[u8], is_clean: bool) -> Result<L, Li
 }
 
 /// Judges a line that begins with the layout's type and is shorter than the layout, after padding it with blanks.
-// Trick: not inlined. A function clears the memory for the padded line on entry, and most lines are full.
+///
+/// Trick: not inlined. A function clears the memory for the padded line on entry, and most lines are full.
 #[inline(never)]
 #[tactic(auto, unfolding(crate::specs::LineOf::judged_as))]
 fn judge_short<L: Layout>(line: &[u8]) -> Result<L, LineFault>

@@ -32,7 +32,8 @@ pub(crate) fn line_end(bytes: &[u8]) -> Option<LineEnd>
 }
 
 /// Searches for the LF of the first line. Doesn't test the bytes before it.
-// Trick: not inlined, so that a full line costs no call. Nearly all lines are full.
+///
+/// Trick: not inlined, so that a full line costs no call. Nearly all lines are full.
 #[inline(never)]
 fn searched_line_end(bytes: &[u8]) -> Option<LineEnd>
     ensures { MatchOption result (IsWithoutLineFeed bytes.now) (λ end. IsLineEnd bytes.now end.place end.is_clean) }

@@ -105,7 +105,8 @@ fn kept_or_arranged<'a, C: Shared>(
 }
 
 /// Replaces a value.
-// Trick: one call for the prover, which otherwise reads the drop of the old value.
+///
+/// Trick: one call for the prover, which otherwise reads the drop of the old value.
 fn put<V: Drop>(kept: &mut Option<V>, value: Option<V>)
     ensures { kept.new ≡ value }
 {

@@ -86,7 +86,8 @@ impl Body1 {
     }
 
     /// Returns a byte made from bytes that are less than 64 apart. It has no meaning.
-    // Trick: reading the byte brings the whole content into the cache.
+    ///
+    /// Trick: reading the byte brings the whole content into the cache.
     pub fn any_byte(&self) -> u8 {
         let bytes = self.columns.as_bytes();
         bytes[0] ^ bytes[58] ^ bytes[116] ^ bytes[174]

@@ -74,7 +74,8 @@ impl<K: Collector> LoaderFor<K> {
 
     /// Reads the next line, which may be shorter or longer than the layout of its type or have other bytes than printable ASCII, and
     /// keeps its record.
-    // Trick: not inlined, because such lines are rare.
+    ///
+    /// Trick: not inlined, because such lines are rare.
     #[inline(never)]
     fn read_unusual<L: Tabled>(&mut self, line: &[u8], is_clean: bool) -> Result<(), LoadFault>
         requires parts { self.old.parts < u64.MAX }
