@@ -1,5 +1,5 @@
 -- What is known of a result that a helper returns.
-use Rattle.arranged_county.proofs.Common.{◌≡◌, IfOk, OnOk, Ok, Err, Result, subst, sym}
+use Rattle.arranged_county.proofs.Common.{Err, IfOk, Ok, OnOk, Result, subst, sym, ◌≡◌}
 
 -- what holds for a value once this is done, where the value is kept
 pub of_done : {X E F : Type 0} (P : X → Type 0) (Q : Type 0) (done : Result (Unit {0}) F) (r : Result X E) {value : X} → (Q → P value)

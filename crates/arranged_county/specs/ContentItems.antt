@@ -1,8 +1,12 @@
 -- The names and the landmarks of a county in classes with the same content.
 use Rattle.std.specs.Prelude.{List, [], cond, map, ℕ, ◌+◌, ◌∷◌, ◌≡◌}
-use Rattle.std.specs.{Cmp.Lexicographic.slice_cmp, List.AllByRecursion, List.range_with_len, Option.option_cmp, Ordering.is_eq}
-use Rattle.std.specs.{Ordering.nat_cmp, declared.cmp.Ordering.Ordering}
-use Rattle.county_chart.specs.{BodyOrder.landmark_body_cmp, BodyOrder.name_body_cmp, ChartWords.bodies_at, ChartWords.name_at}
+use Rattle.std.specs.Cmp.Lexicographic.{slice_cmp}
+use Rattle.std.specs.List.{AllByRecursion, range_with_len}
+use Rattle.std.specs.Option.{option_cmp}
+use Rattle.std.specs.Ordering.{is_eq, nat_cmp}
+use Rattle.std.specs.declared.cmp.Ordering.{Ordering}
+use Rattle.county_chart.specs.BodyOrder.{landmark_body_cmp, name_body_cmp}
+use Rattle.county_chart.specs.ChartWords.{bodies_at, name_at}
 use Rattle.county_chart.specs.County.{County}
 use Rattle.ordered_lists.specs.Orders.{in_order}
 

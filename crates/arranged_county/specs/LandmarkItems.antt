@@ -1,11 +1,18 @@
 -- The links of landmarks with new numbers, and the order of landmarks.
 use Rattle.std.specs.Prelude.{IsPermutation, List, filter_map, length, map, slice_get, ℕ, ◌≡◌}
-use Rattle.std.specs.{Cmp.Lexicographic.slice_cmp, Ordering.nat_cmp, Ordering.ordering_then, declared.cmp.Ordering.Ordering}
+use Rattle.std.specs.Cmp.Lexicographic.{slice_cmp}
+use Rattle.std.specs.Ordering.{nat_cmp, ordering_then}
+use Rattle.std.specs.declared.cmp.Ordering.{Ordering}
 use Rattle.tl_layout.specs.Fields.{Fields8}
-use Rattle.county_chart.specs.{BodyOrder.link_cmp, BodyOrder.link_part, BodyOrder.link_part_cmp, ChartWords.links_with, County.County}
-use Rattle.county_chart.specs.{County.link_key, CountyRules.lands, PolygonKeys.PolygonKey, PolygonKeys.key_cmp}
-use Rattle.ordered_lists.specs.{Orders.IsInOrder, Orders.in_order, Pairs.image}
-use Rattle.canonical_form.specs.{Arrangement.under_cenid, Growth.numbered, Growth.up_to}
+use Rattle.county_chart.specs.BodyOrder.{link_cmp, link_part, link_part_cmp}
+use Rattle.county_chart.specs.ChartWords.{links_with}
+use Rattle.county_chart.specs.County.{County, link_key}
+use Rattle.county_chart.specs.CountyRules.{lands}
+use Rattle.county_chart.specs.PolygonKeys.{PolygonKey, key_cmp}
+use Rattle.ordered_lists.specs.Orders.{IsInOrder, in_order}
+use Rattle.ordered_lists.specs.Pairs.{image}
+use Rattle.canonical_form.specs.Arrangement.{under_cenid}
+use Rattle.canonical_form.specs.Growth.{numbered, up_to}
 use Rattle.arranged_county.specs.ContentItems.{classed_place, landmark_bodies_cmp}
 
 -- a link with its polygon and its landmark numbered by their positions in these lists, from 1

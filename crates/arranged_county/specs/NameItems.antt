@@ -1,8 +1,13 @@
 -- Names with the ranks of their first uses, and the order of names.
 use Rattle.std.specs.Prelude.{IsPermutation, List, None, Option, Some, flat_map, map, slice_get, ℕ, ◌+◌, ◌≡◌}
-use Rattle.std.specs.{List.position, Ordering.is_eq, Ordering.nat_cmp, Ordering.ordering_then, declared.cmp.Ordering.Ordering}
+use Rattle.std.specs.List.{position}
+use Rattle.std.specs.Ordering.{is_eq, nat_cmp, ordering_then}
+use Rattle.std.specs.declared.cmp.Ordering.{Ordering}
 use Rattle.ordered_lists.specs.Orders.{IsInOrder}
-use Rattle.county_chart.specs.{ChartWords.feats_of, County.County, CountyRules.feats, DirectedChains.directed_chain}
+use Rattle.county_chart.specs.ChartWords.{feats_of}
+use Rattle.county_chart.specs.County.{County}
+use Rattle.county_chart.specs.CountyRules.{feats}
+use Rattle.county_chart.specs.DirectedChains.{directed_chain}
 use Rattle.county_chart.specs.declared.directed_chain.DirectedChain.{DirectedChain}
 use Rattle.arranged_county.specs.ContentItems.{name_content_cmp}
 

@@ -1,6 +1,6 @@
 -- How keys in a list are found: by marks in slots, or by a table of the other keys.
 use Rattle.std.specs.Option.{option_or}
-use Rattle.std.specs.Prelude.{◌≡◌, ◌+◌, ◌⊎◌, ℕ, List, Option, Some, slice_get, slice_index}
+use Rattle.std.specs.Prelude.{List, Option, Some, slice_get, slice_index, ℕ, ◌+◌, ◌≡◌, ◌⊎◌}
 
 -- no key is at two places
 abbrev pub AreApart : {K : Type 0} → List K → Type 0

@@ -1,13 +1,19 @@
 -- Facts about the tables of a county in an arrangement.
 use Rattle.std.specs.Prelude.{List, length, map, ◌<◌, ◌^◌, ◌≡◌}
 use Rattle.county_chart.specs.ChartWords.{ends_of, sides_of}
-use Rattle.county_chart.specs.{County.County, CountyRules.polygon_keys, declared.directed_chain.DirectedChain.DirectedChain}
+use Rattle.county_chart.specs.County.{County}
+use Rattle.county_chart.specs.CountyRules.{polygon_keys}
+use Rattle.county_chart.specs.declared.directed_chain.DirectedChain.{DirectedChain}
 use Rattle.ordered_lists.specs.Entries.{entry_keys, entry_values}
 use Rattle.canonical_form.specs.Arrangement.{landmarks_in_order, names_in_order, nodes_in_order, polygons_in_order}
 use Rattle.canonical_form.specs.WholeArrangements.{AreReadAt, arranged_by, link_bounds}
-use Rattle.canonical_form.specs.{ByNumber.polygons_by_number, ByNumber.under_number, DirectedChains.arrangement_of, Growth.numbered}
-use Rattle.arranged_county.specs.{declared.arranged_tables.LandmarkTables.LandmarkTables, declared.arranged_tables.NameTables.NameTables}
-use Rattle.arranged_county.specs.{declared.arranged_tables.NodeTables.NodeTables, declared.arranged_tables.PolygonTables.PolygonTables}
+use Rattle.canonical_form.specs.ByNumber.{polygons_by_number, under_number}
+use Rattle.canonical_form.specs.DirectedChains.{arrangement_of}
+use Rattle.canonical_form.specs.Growth.{numbered}
+use Rattle.arranged_county.specs.declared.arranged_tables.LandmarkTables.{LandmarkTables}
+use Rattle.arranged_county.specs.declared.arranged_tables.NameTables.{NameTables}
+use Rattle.arranged_county.specs.declared.arranged_tables.NodeTables.{NodeTables}
+use Rattle.arranged_county.specs.declared.arranged_tables.PolygonTables.{PolygonTables}
 
 -- the nodes by first appearance, and the ends of each chain
 pub record MatchesNodes (county : County) (arrangement : List DirectedChain) (tables : NodeTables) : Type 0 where

@@ -1,11 +1,17 @@
 -- The facts about a county in an arrangement, and about classes of contents, have at most one proof each.
-use Rattle.std.specs.{Prelude.List, Prelude.ℕ, declared.cmp.Ordering.Ordering}
+use Rattle.std.specs.Prelude.{List, ℕ}
+use Rattle.std.specs.declared.cmp.Ordering.{Ordering}
 use Rattle.std.proofs.Props.{props}
-use Rattle.county_chart.specs.{County.County, LimitsProps.IsWithinLimits-prop, declared.directed_chain.DirectedChain.DirectedChain}
-use Rattle.county_chart.specs.{CountyProps.IsCounty-prop, CountyRules.AllKeysContained, CountyRules.polygon_keys, CountyRules.polygons_along}
+use Rattle.county_chart.specs.County.{County}
+use Rattle.county_chart.specs.LimitsProps.{IsWithinLimits-prop}
+use Rattle.county_chart.specs.declared.directed_chain.DirectedChain.{DirectedChain}
+use Rattle.county_chart.specs.CountyProps.{IsCounty-prop}
+use Rattle.county_chart.specs.CountyRules.{AllKeysContained, polygon_keys, polygons_along}
 use Rattle.arranged_county.specs.ViewFacts.{MatchesLandmarks, MatchesNames, MatchesNodes, MatchesPolygons}
-use Rattle.arranged_county.specs.{ContentItems.AreClasses, declared.arranged_tables.LandmarkTables.LandmarkTables}
-use Rattle.arranged_county.specs.{declared.arranged_tables.NameTables.NameTables, declared.arranged_tables.NodeTables.NodeTables}
+use Rattle.arranged_county.specs.ContentItems.{AreClasses}
+use Rattle.arranged_county.specs.declared.arranged_tables.LandmarkTables.{LandmarkTables}
+use Rattle.arranged_county.specs.declared.arranged_tables.NameTables.{NameTables}
+use Rattle.arranged_county.specs.declared.arranged_tables.NodeTables.{NodeTables}
 use Rattle.arranged_county.specs.declared.arranged_tables.PolygonTables.{PolygonTables}
 use Rattle.canonical_form.specs.WholeArrangements.{AreWhole}
 

@@ -1,10 +1,14 @@
 -- An arranged county: its source county, its arrangement, and the resulting county.
 use Rattle.std.specs.Global.{Vec}
 use Rattle.county_chart.specs.declared.chart.Chart.{Ghosts as Charts}
-use Rattle.county_chart.specs.{County.County, declared.directed_chain.DirectedChain.DirectedChain}
-use Rattle.canonical_form.specs.{Arrangement.Arrangement, DirectedChains.arrangement_of, WholeArrangements.arranged_by}
+use Rattle.county_chart.specs.County.{County}
+use Rattle.county_chart.specs.declared.directed_chain.DirectedChain.{DirectedChain}
+use Rattle.canonical_form.specs.Arrangement.{Arrangement}
+use Rattle.canonical_form.specs.DirectedChains.{arrangement_of}
+use Rattle.canonical_form.specs.WholeArrangements.{arranged_by}
 use Rattle.arranged_county.specs.declared.arranged.Evidence.{Ghosts as Evidences}
-use Rattle.arranged_county.specs.{declared.arranged.Arranged.Arranged, declared.content_classes.Classes.Classes}
+use Rattle.arranged_county.specs.declared.arranged.Arranged.{Arranged}
+use Rattle.arranged_county.specs.declared.content_classes.Classes.{Classes}
 
 -- the source county, as it is stored
 abbrev pub source_of : {C S : Type 0} {chart : Charts C} {evidence : Evidences S} → Arranged C S chart evidence → C

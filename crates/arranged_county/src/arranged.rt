@@ -1,15 +1,19 @@
 //! A county in an arrangement of its chains, read through its source county.
 
 ghost use Rattle.std.specs.Prelude.{Some, length, option_map, slice_get, ◌<◌, ◌≡◌};
-ghost use Rattle.std.specs.{Option.option_and_then, Ordering.nat_cmp};
+ghost use Rattle.std.specs.Option.{option_and_then};
+ghost use Rattle.std.specs.Ordering.{nat_cmp};
 ghost use Rattle.county_chart.specs.CountyRules.{AllKeysContained, polygon_keys, polygons_along};
-ghost use Rattle.county_chart.specs.{ChartWords.chain_at, ChartWords.polygon_under, DirectedChains.directed_chain, Renumbering.renumbered};
-ghost use Rattle.ordered_lists.specs.{Entries.entry_values, Pairs.image};
-ghost use Rattle.canonical_form.specs.{Arrangement.renaming_of, WholeArrangements.AreWhole};
-ghost use Rattle.canonical_form.specs.{ByNumber.polygons_by_number, DirectedChains.arrangement_of, WholeArrangements.arranged_by};
+ghost use Rattle.county_chart.specs.ChartWords.{chain_at, polygon_under};
+ghost use Rattle.county_chart.specs.DirectedChains.{directed_chain};
+ghost use Rattle.county_chart.specs.Renumbering.{renumbered};
+ghost use Rattle.ordered_lists.specs.Pairs.{image};
+ghost use Rattle.canonical_form.specs.Arrangement.{renaming_of};
+ghost use Rattle.canonical_form.specs.WholeArrangements.{AreWhole, arranged_by};
+ghost use Rattle.canonical_form.specs.ByNumber.{polygons_by_number};
+ghost use Rattle.canonical_form.specs.DirectedChains.{arrangement_of};
 ghost use Rattle.arranged_county.specs.ViewFacts.{MatchesLandmarks, MatchesNames, MatchesNodes, MatchesPolygons};
-ghost use Rattle.arranged_county.specs.ViewProps.{AreWhole-prop, MatchesLandmarks-prop, MatchesNames-prop, MatchesNodes-prop};
-ghost use Rattle.arranged_county.specs.ViewProps.{MatchesPolygons-prop, AreSidesContained-prop};
+ghost use Rattle.arranged_county.specs.ViewProps.{AreSidesContained-prop, AreWhole-prop, MatchesLandmarks-prop, MatchesNames-prop, MatchesNodes-prop, MatchesPolygons-prop};
 
 use crate::arranged_tables::{Ends, LandmarkTables, NameTables, NodeTables, PolygonTables, Sides};
 use crate::numbers::is_at;

@@ -4,7 +4,7 @@
 //! aren't copied: chains are read through the source county, and turned and renumbered as they are read.
 
 ghost use Rattle.std.specs.Ordering.{nat_cmp};
-ghost use Rattle.std.specs.Prelude.{◌<◌, ◌≡◌, IfSome, Some, is_some, slice_get};
+ghost use Rattle.std.specs.Prelude.{IfSome, Some, is_some, slice_get, ◌<◌, ◌≡◌};
 ghost use Rattle.ordered_lists.specs.Orders.{contains};
 ghost use Rattle.canonical_form.specs.Growth.{up_to};
 

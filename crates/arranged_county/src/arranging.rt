@@ -2,8 +2,9 @@
 
 ghost use Rattle.std.specs.Prelude.{IfOk, length, ◌<◌, ◌^◌, ◌≡◌};
 ghost use Rattle.county_chart.specs.CountyRules.{AllKeysContained, polygon_keys, polygons_along};
-ghost use Rattle.canonical_form.specs.{Arrangement.arranged, Arrangement.polygons_in_order, DirectedChains.HasChainsOf};
-ghost use Rattle.canonical_form.specs.{DirectedChains.arrangement_of, WholeArrangements.AreWhole, WholeArrangements.NamesEachOnce};
+ghost use Rattle.canonical_form.specs.Arrangement.{arranged, polygons_in_order};
+ghost use Rattle.canonical_form.specs.DirectedChains.{HasChainsOf, arrangement_of};
+ghost use Rattle.canonical_form.specs.WholeArrangements.{AreWhole, NamesEachOnce};
 ghost use Rattle.arranged_county.specs.ViewFacts.{MatchTables, MatchesLandmarks, MatchesNames};
 ghost use Rattle.arranged_county.specs.Views.{arranged_county, classed_county, directed_chains_of, source_of};
 

@@ -4,7 +4,7 @@
 //! within a class depends on the arrangement. So contents are compared once, however many arrangements of the county are made.
 
 ghost use Rattle.std.specs.List.{range_with_len};
-ghost use Rattle.std.specs.Prelude.{◌≡◌, ◌≤◌, ◌<◌, ◌+◌, ◌^◌, IfOk, IsPermutation, length};
+ghost use Rattle.std.specs.Prelude.{IfOk, IsPermutation, length, ◌+◌, ◌<◌, ◌^◌, ◌≡◌, ◌≤◌};
 ghost use Rattle.ordered_lists.specs.Orders.{IsInOrder};
 ghost use Rattle.arranged_county.specs.ContentItems.{AreClasses, class_after, classes_along, landmark_bodies_cmp, name_content_cmp};
 ghost use Rattle.arranged_county.specs.ViewProps.{AreClasses-prop};
@@ -22,7 +22,8 @@ pub(crate) type ClassedPlace = (u32, u32);
 /// The contents at the places of a list.
 pub(crate) trait Contents {
     ghost use Rattle.std.specs.Prelude.{ℕ, ◌≡◌};
-    ghost use Rattle.std.specs.{Cmp.IsTotalOrder, declared.cmp.Ordering.Ordering};
+    ghost use Rattle.std.specs.Cmp.{IsTotalOrder};
+    ghost use Rattle.std.specs.declared.cmp.Ordering.{Ordering};
 
     /// The number of places.
     ghost places: { Self → ℕ };

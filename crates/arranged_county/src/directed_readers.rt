@@ -1,7 +1,8 @@
 //! The ends and the sides of a directed chain, in its direction.
 
-ghost use Rattle.std.specs.Prelude.{◌≡◌, ◌<◌, Some, length, option_map};
-ghost use Rattle.county_chart.specs.{ChartWords.ends_of, ChartWords.sides_of, DirectedChains.directed_chain};
+ghost use Rattle.std.specs.Prelude.{Some, length, option_map, ◌<◌, ◌≡◌};
+ghost use Rattle.county_chart.specs.ChartWords.{ends_of, sides_of};
+ghost use Rattle.county_chart.specs.DirectedChains.{directed_chain};
 
 use crate::arranged_tables::{Ends, Sides};
 use county_chart::{Chart, DirectedChain};

@@ -8,8 +8,10 @@ ghost use Rattle.std.specs.Prelude.{IfOk, OnOk, Some, [], flat_map, length, map,
 ghost use Rattle.ordered_lists.specs.Entries.{entry_values};
 ghost use Rattle.county_chart.specs.ChartWords.{ends_of, sides_of};
 ghost use Rattle.canonical_form.specs.EndsAndSides.{changed_both, keys_at};
-ghost use Rattle.canonical_form.specs.{Arrangement.polygons_in_order, DirectedChains.HasChainsOf, DirectedChains.arrangement_of};
-ghost use Rattle.canonical_form.specs.{Growth.first_seen, WholeArrangements.AreWhole, WholeArrangements.arranged_by};
+ghost use Rattle.canonical_form.specs.Arrangement.{polygons_in_order};
+ghost use Rattle.canonical_form.specs.DirectedChains.{HasChainsOf, arrangement_of};
+ghost use Rattle.canonical_form.specs.Growth.{first_seen};
+ghost use Rattle.canonical_form.specs.WholeArrangements.{AreWhole, arranged_by};
 ghost use Rattle.county_chart.specs.DirectedChains.{directed_chain};
 ghost use Rattle.arranged_county.specs.ViewFacts.{MatchesNodes};
 
@@ -51,7 +53,7 @@ pub fn topologies_along<C: Chart>(
 
 /// An end or a side of a chain. It may have a key, a node or a polygon, which is replaced with its number.
 pub trait Half: Copy + Drop {
-    ghost use Rattle.std.specs.Prelude.{◌≡◌, ◌≤◌, ℕ, List, IfOk, OnOk, length, option_to_list};
+    ghost use Rattle.std.specs.Prelude.{IfOk, List, OnOk, length, option_to_list, ℕ, ◌≡◌, ◌≤◌};
     ghost use Rattle.canonical_form.specs.Growth.{first_seen_after};
 
     /// A key.

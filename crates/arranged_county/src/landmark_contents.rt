@@ -1,8 +1,10 @@
 //! The bodies of landmarks: the contents of their records of type 7.
 
 ghost use Rattle.std.specs.Prelude.{length, ◌<◌, ◌^◌, ◌≡◌};
-ghost use Rattle.std.specs.{Cmp.Lexicographic.slice_cmp, Option.option_cmp};
-ghost use Rattle.county_chart.specs.{BodyOrder.landmark_body_cmp, ChartWords.bodies_at};
+ghost use Rattle.std.specs.Cmp.Lexicographic.{slice_cmp};
+ghost use Rattle.std.specs.Option.{option_cmp};
+ghost use Rattle.county_chart.specs.BodyOrder.{landmark_body_cmp};
+ghost use Rattle.county_chart.specs.ChartWords.{bodies_at};
 
 use crate::content_classes::Contents;
 use county_chart::{Chart, cmp_landmark_bodies};
@@ -56,7 +58,8 @@ pub(crate) struct LandmarkContents<'a, C: Chart> {
 impl<C: Chart> Contents for LandmarkContents<'_, C> {
     ghost use Rattle.std.specs.Prelude.{length};
     ghost use Rattle.std.proofs.lemmas.Cmp.{lists_total, on_total};
-    ghost use Rattle.county_chart.specs.{ChartWords.bodies_at, Laws.KeyOrders.landmark_body_keys};
+    ghost use Rattle.county_chart.specs.ChartWords.{bodies_at};
+    ghost use Rattle.county_chart.specs.Laws.KeyOrders.{landmark_body_keys};
     ghost use Rattle.arranged_county.specs.ContentItems.{landmark_bodies_cmp};
 
     ghost places = { λ landmarks. length (C.county landmarks.chart.now).landmarks };

@@ -1,10 +1,14 @@
 //! The links of a county's landmarks with new numbers, in order, and the links of one landmark among them.
 
 ghost use Rattle.std.specs.Prelude.{IfOk, IsPermutation, OnOk, flat_map, length, map, slice_get, ◌++◌, ◌+◌, ◌-◌, ◌<◌, ◌^◌, ◌≡◌};
-ghost use Rattle.std.specs.{List.range_with_len, Ordering.nat_cmp, Ordering.on};
-ghost use Rattle.county_chart.specs.{BodyOrder.link_cmp, ChartWords.links_at, ChartWords.links_with, County.eight_land};
+ghost use Rattle.std.specs.List.{range_with_len};
+ghost use Rattle.std.specs.Ordering.{nat_cmp, on};
+ghost use Rattle.county_chart.specs.BodyOrder.{link_cmp};
+ghost use Rattle.county_chart.specs.ChartWords.{links_at, links_with};
+ghost use Rattle.county_chart.specs.County.{eight_land};
 ghost use Rattle.ordered_lists.specs.Orders.{IsInOrder, in_order};
-ghost use Rattle.canonical_form.specs.{Growth.up_to, WholeArrangements.link_bounds};
+ghost use Rattle.canonical_form.specs.Growth.{up_to};
+ghost use Rattle.canonical_form.specs.WholeArrangements.{link_bounds};
 ghost use Rattle.arranged_county.specs.LandmarkItems.{link_under};
 
 use crate::numbers::Interner;

@@ -1,13 +1,20 @@
 //! The landmarks of a county in their new order: by their bodies, and then by their links with the new numbers.
 
 ghost use Rattle.std.specs.Prelude.{IfOk, IsPermutation, false, length, map, ◌-◌, ◌<◌, ◌^◌, ◌≡◌};
-ghost use Rattle.std.specs.{Cmp.Lexicographic.slice_cmp, List.range_with_len, Ordering.nat_cmp, Ordering.on};
-ghost use Rattle.county_chart.specs.{BodyOrder.link_part, BodyOrder.link_part_cmp, County.eight_land, CountyProps.IsInOrder-prop};
+ghost use Rattle.std.specs.Cmp.Lexicographic.{slice_cmp};
+ghost use Rattle.std.specs.List.{range_with_len};
+ghost use Rattle.std.specs.Ordering.{nat_cmp, on};
+ghost use Rattle.county_chart.specs.BodyOrder.{link_part, link_part_cmp};
+ghost use Rattle.county_chart.specs.County.{eight_land};
+ghost use Rattle.county_chart.specs.CountyProps.{IsInOrder-prop};
 ghost use Rattle.ordered_lists.specs.Orders.{IsInOrder, has_repeat};
 ghost use Rattle.canonical_form.specs.WholeArrangements.{AreWhole, link_bounds};
-ghost use Rattle.canonical_form.specs.{Arrangement.polygons_in_order, DirectedChains.arrangement_of};
+ghost use Rattle.canonical_form.specs.Arrangement.{polygons_in_order};
+ghost use Rattle.canonical_form.specs.DirectedChains.{arrangement_of};
 ghost use Rattle.arranged_county.specs.LandmarkItems.{AreSortedLandmarks, classed_landmark_cmp, lands_at, numbered_links, place_cmp_under};
-ghost use Rattle.arranged_county.specs.{ContentItems.classed_place, ViewFacts.MatchesLandmarks, Views.classed_county};
+ghost use Rattle.arranged_county.specs.ContentItems.{classed_place};
+ghost use Rattle.arranged_county.specs.ViewFacts.{MatchesLandmarks};
+ghost use Rattle.arranged_county.specs.Views.{classed_county};
 
 use crate::arranged_tables::LandmarkTables;
 use crate::content_classes::{ClassedPlace, Classes, all_places};

@@ -1,7 +1,7 @@
 //! The contents of names: their 43 bytes.
 
 ghost use Rattle.std.specs.Option.{option_cmp};
-ghost use Rattle.std.specs.Prelude.{◌≡◌, ◌<◌, ◌^◌, length};
+ghost use Rattle.std.specs.Prelude.{length, ◌<◌, ◌^◌, ◌≡◌};
 ghost use Rattle.county_chart.specs.BodyOrder.{name_body_cmp};
 
 use crate::content_classes::Contents;
@@ -51,7 +51,8 @@ impl<C: Chart> Contents for NameContents<'_, C> {
     ghost use Rattle.std.specs.Prelude.{length};
     ghost use Rattle.std.proofs.lemmas.Cmp.{on_total};
     ghost use Rattle.canonical_form.proofs.Choices.AscendingArrangement.{options_total};
-    ghost use Rattle.county_chart.specs.{ChartWords.name_at, Laws.KeyOrders.name_body_keys};
+    ghost use Rattle.county_chart.specs.ChartWords.{name_at};
+    ghost use Rattle.county_chart.specs.Laws.KeyOrders.{name_body_keys};
     ghost use Rattle.arranged_county.specs.ContentItems.{name_content_cmp};
 
     ghost places = { λ names. length (C.county names.chart.now).names };

@@ -8,9 +8,12 @@ ghost use Rattle.std.specs.Ordering.{nat_cmp};
 ghost use Rattle.std.specs.Prelude.{IfOk, IsPermutation, filter_map, length, map, slice_get, ◌<◌, ◌^◌, ◌≡◌};
 ghost use Rattle.county_chart.specs.CountyRules.{feats};
 ghost use Rattle.canonical_form.specs.WholeArrangements.{AreReadAt, AreWhole};
-ghost use Rattle.canonical_form.specs.{Arrangement.names_in_order, DirectedChains.arrangement_of, Growth.first_seen};
+ghost use Rattle.canonical_form.specs.Arrangement.{names_in_order};
+ghost use Rattle.canonical_form.specs.DirectedChains.{arrangement_of};
+ghost use Rattle.canonical_form.specs.Growth.{first_seen};
 ghost use Rattle.arranged_county.specs.NameItems.{AreSortedNames, feats_along_arrangement, name_key_at, rank_of};
-ghost use Rattle.arranged_county.specs.{ViewFacts.MatchesNames, Views.classed_county};
+ghost use Rattle.arranged_county.specs.ViewFacts.{MatchesNames};
+ghost use Rattle.arranged_county.specs.Views.{classed_county};
 
 use crate::arranged_tables::NameTables;
 use crate::content_classes::{ClassedPlace, Classes};

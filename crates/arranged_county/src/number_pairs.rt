@@ -6,7 +6,8 @@ ghost use Rattle.county_chart.specs.Renumbering.{Carries};
 ghost use Rattle.tl_layout.specs.declared.type7.Body7.{Body7};
 ghost use Rattle.canonical_form.specs.Arrangement.{arranged_tlids, renaming_of, turned_tlids, under_cenid};
 ghost use Rattle.canonical_form.specs.DirectedChains.{HasChainsOf, arrangement_of};
-ghost use Rattle.canonical_form.specs.{Growth.numbered, WholeArrangements.AreReadAt};
+ghost use Rattle.canonical_form.specs.Growth.{numbered};
+ghost use Rattle.canonical_form.specs.WholeArrangements.{AreReadAt};
 ghost use Rattle.arranged_county.specs.Views.{arranged_county, arrangement_in, source_of};
 
 use crate::arranged::{Arranged, Evidence};

@@ -6,10 +6,10 @@
 
 ghost use Rattle.indexmap.specs.IndexMap.{get as found_by_hash};
 ghost use Rattle.std.specs.BTreeMap.{get as found_in_order};
-ghost use Rattle.std.specs.Prelude.{IfOk, IfSome, IsTrue, OnErr, OnOk, Some, [], false, is_some, length, slice_get, slice_index, ℕ, ◌%◌};
-ghost use Rattle.std.specs.Prelude.{◌*◌, ◌++◌, ◌+◌, ◌<◌, ◌^◌, ◌↔◌, ◌∷◌, ◌≡◌, ◌≤◌};
-ghost use Rattle.std.specs.{List.position, Ordering.is_eq};
-ghost use Rattle.ordered_lists.specs.Orders.{has_repeat, contains};
+ghost use Rattle.std.specs.Prelude.{IfOk, IfSome, IsTrue, OnErr, OnOk, Some, [], false, is_some, length, slice_get, slice_index, ℕ, ◌%◌, ◌*◌, ◌++◌, ◌+◌, ◌<◌, ◌^◌, ◌↔◌, ◌∷◌, ◌≡◌, ◌≤◌};
+ghost use Rattle.std.specs.List.{position};
+ghost use Rattle.std.specs.Ordering.{is_eq};
+ghost use Rattle.ordered_lists.specs.Orders.{contains, has_repeat};
 ghost use Rattle.canonical_form.specs.Growth.{first_seen_after};
 ghost use Rattle.arranged_county.specs.PlacedKeys.{AreApart, ArePlaced, found_by_either};
 
@@ -101,7 +101,7 @@ pub struct Interner<K: Key + Hash + NumericKey> {
 impl<K: Key + Hash + NumericKey> Model for Interner<K> {
     ghost use Rattle.indexmap.specs.IndexMap.{get as found_by_hash};
     ghost use Rattle.std.specs.BTreeMap.{get as found_in_order};
-    ghost use Rattle.std.specs.Prelude.{◌<◌, ◌^◌, ◌%◌, List, length};
+    ghost use Rattle.std.specs.Prelude.{List, length, ◌%◌, ◌<◌, ◌^◌};
     ghost use Rattle.arranged_county.specs.PlacedKeys.{AreApart, ArePlaced, found_by_either};
 
     ghost Value = { List K };

@@ -2,7 +2,7 @@
 
 ghost use Rattle.indexmap.specs.IndexMap.{get as found_by_hash};
 ghost use Rattle.std.specs.BTreeMap.{get as found_in_order};
-ghost use Rattle.std.specs.Prelude.{◌≡◌, None, OnOk, Some, IsTrue};
+ghost use Rattle.std.specs.Prelude.{IsTrue, None, OnOk, Some, ◌≡◌};
 ghost use Rattle.arranged_county.specs.PlacedKeys.{found_by_either};
 
 use indexmap::IndexMap;

@@ -2,7 +2,7 @@
 //!
 //! Trick: if the step fails, the prover reads one call that drops the value, which otherwise is the drop of each part.
 
-ghost use Rattle.std.specs.Prelude.{◌≡◌, IfOk, Ok, OnOk};
+ghost use Rattle.std.specs.Prelude.{IfOk, Ok, OnOk, ◌≡◌};
 
 use std::alloc::AllocError;
 

@@ -5,7 +5,8 @@ ghost use Rattle.std.specs.Prelude.{length, map, ◌<◌, ◌^◌, ◌≡◌};
 ghost use Rattle.county_chart.specs.PolygonKeys.{key_cmp};
 ghost use Rattle.ordered_lists.specs.Pairs.{image};
 ghost use Rattle.tl_layout.specs.Numbers.{IsNumber};
-ghost use Rattle.canonical_form.specs.{Arrangement.under_cenid, Growth.numbered};
+ghost use Rattle.canonical_form.specs.Arrangement.{under_cenid};
+ghost use Rattle.canonical_form.specs.Growth.{numbered};
 
 use crate::numbers::Interner;
 use county_chart::PolygonKey;

@@ -1,10 +1,14 @@
 -- Whole lists of records: which are accepted, why the others are refused, and the canonical list of an accepted one.
 use Rattle.std.specs.Prelude.{List, ◌≡◌}
 use Rattle.tl_layout.specs.declared.record_type.Record.{Record}
-use Rattle.county_chart.specs.{County.County, County.county_of, LinkRules.IsFirstBrokenRule, LinkRules.IsLinked}
-use Rattle.county_chart.specs.{Profile.IsFirstBrokenClause, Profile.IsInProfile, Renumbering.AreSame, declared.fault.LinkFault.LinkFault}
-use Rattle.county_chart.specs.{declared.profile_fault.ProfileFault.ProfileFault}
-use Rattle.canonical_form.specs.{Canonical.IsCanonical, CountyViews.plain}
+use Rattle.county_chart.specs.County.{County, county_of}
+use Rattle.county_chart.specs.LinkRules.{IsFirstBrokenRule, IsLinked}
+use Rattle.county_chart.specs.Profile.{IsFirstBrokenClause, IsInProfile}
+use Rattle.county_chart.specs.Renumbering.{AreSame}
+use Rattle.county_chart.specs.declared.fault.LinkFault.{LinkFault}
+use Rattle.county_chart.specs.declared.profile_fault.ProfileFault.{ProfileFault}
+use Rattle.canonical_form.specs.Canonical.{IsCanonical}
+use Rattle.canonical_form.specs.CountyViews.{plain}
 
 -- the records fit together, and their county is in the profile
 pub record IsAccepted (records : List Record) : Type 0 where

@@ -1,10 +1,13 @@
 -- A county with the numbers of the canonical form.
 use Rattle.std.specs.Prelude.{List, false, length, map, reverse, ℕ, ◌≡◌}
-use Rattle.std.specs.{List.AllByRecursion, Ordering.is_gt, Ordering.on}
+use Rattle.std.specs.List.{AllByRecursion}
+use Rattle.std.specs.Ordering.{is_gt, on}
 use Rattle.tl_layout.specs.Coordinates.{Coordinates}
-use Rattle.tl_shape.specs.{Chain.Chain, PointOrder.points_cmp}
+use Rattle.tl_shape.specs.Chain.{Chain}
+use Rattle.tl_shape.specs.PointOrder.{points_cmp}
 use Rattle.county_chart.specs.CountyRules.{AllKeysContained, feats, lands, nodes_along, polygon_keys, polygons_along, tlids}
-use Rattle.county_chart.specs.{County.County, PolygonKeys.PolygonKey}
+use Rattle.county_chart.specs.County.{County}
+use Rattle.county_chart.specs.PolygonKeys.{PolygonKey}
 use Rattle.ordered_lists.specs.Orders.{IsInOrder}
 use Rattle.canonical_form.specs.Growth.{Grows, up_to}
 use Rattle.canonical_form.specs.Uses.{all_uses, landmark_key, landmark_key_cmp, name_key, name_key_cmp}

@@ -1,13 +1,23 @@
 -- Arrangements: an order and a direction for each chain of a county, and the renaming and the county that result from them.
 use Rattle.std.specs.Prelude.{Bool, IsPermutation, List, filter, flat_map, map, reverse, ℕ}
 use Rattle.std.specs.Ordering.{is_gt, nat_cmp, on}
-use Rattle.tl_layout.specs.{ByType.of_number, Coordinates.Coordinates, Fields.Fields8, declared.type5.Body5.Body5}
-use Rattle.tl_layout.specs.{declared.type7.Body7.Body7}
-use Rattle.tl_shape.specs.{Chain.Chain, PointOrder.points_cmp, Turned.turned_if}
+use Rattle.tl_layout.specs.ByType.{of_number}
+use Rattle.tl_layout.specs.Coordinates.{Coordinates}
+use Rattle.tl_layout.specs.Fields.{Fields8}
+use Rattle.tl_layout.specs.declared.type5.Body5.{Body5}
+use Rattle.tl_layout.specs.declared.type7.Body7.{Body7}
+use Rattle.tl_shape.specs.Chain.{Chain}
+use Rattle.tl_shape.specs.PointOrder.{points_cmp}
+use Rattle.tl_shape.specs.Turned.{turned_if}
 use Rattle.county_chart.specs.Renumbering.{Renumbering, carried_chain, carried_landmark, carried_link, carried_name, carried_polygon}
-use Rattle.county_chart.specs.{BodyOrder.link_cmp, County.County, County.link_key, CountyRules.nodes_along, CountyRules.polygons_along}
-use Rattle.county_chart.specs.{CountyRules.tlids, Packing.numbered_from, PolygonKeys.PolygonKey, PolygonKeys.key_cmp, Shapes.least_points}
-use Rattle.ordered_lists.specs.{Orders.in_order, Pairs.image}
+use Rattle.county_chart.specs.BodyOrder.{link_cmp}
+use Rattle.county_chart.specs.County.{County, link_key}
+use Rattle.county_chart.specs.CountyRules.{nodes_along, polygons_along, tlids}
+use Rattle.county_chart.specs.Packing.{numbered_from}
+use Rattle.county_chart.specs.PolygonKeys.{PolygonKey, key_cmp}
+use Rattle.county_chart.specs.Shapes.{least_points}
+use Rattle.ordered_lists.specs.Orders.{in_order}
+use Rattle.ordered_lists.specs.Pairs.{image}
 use Rattle.canonical_form.specs.Growth.{first_seen, numbered}
 use Rattle.canonical_form.specs.Uses.{all_uses, landmark_key, landmark_key_cmp, name_key, name_key_cmp}
 

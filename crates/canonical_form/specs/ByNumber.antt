@@ -1,7 +1,11 @@
 -- Polygons in the order of their numbers.
-use Rattle.std.specs.{Option.option_and_then, Ordering.nat_cmp, Ordering.on, Prelude.List, Prelude.Option, Prelude.ℕ}
+use Rattle.std.specs.Option.{option_and_then}
+use Rattle.std.specs.Ordering.{nat_cmp, on}
+use Rattle.std.specs.Prelude.{List, Option, ℕ}
 use Rattle.tl_layout.specs.declared.type_p.BodyP.{BodyP}
-use Rattle.county_chart.specs.{ChartWords.polygon_under, County.County, PolygonKeys.PolygonKey}
+use Rattle.county_chart.specs.ChartWords.{polygon_under}
+use Rattle.county_chart.specs.County.{County}
+use Rattle.county_chart.specs.PolygonKeys.{PolygonKey}
 use Rattle.ordered_lists.specs.Orders.{in_order}
 
 -- the POLYID of a polygon

@@ -1,8 +1,14 @@
 -- A canonical county: it has the numbers, directions and order of the canonical form.
 use Rattle.std.specs.Prelude.{List, [], max, ℕ, ◌∷◌}
 use Rattle.std.proofs.Props.{props}
-use Rattle.county_chart.specs.{County.County, CountyProps.IsInOrder-prop, CountyRules.IsCounty, Packing.packed, Renumbering.AreSame}
-use Rattle.canonical_form.specs.{ArrangedCounty.IsArranged, ArrangedCounty.IsTidy, Canonical.IsNotAfter, Growth.GrowsFrom}
+use Rattle.county_chart.specs.County.{County}
+use Rattle.county_chart.specs.CountyProps.{IsInOrder-prop}
+use Rattle.county_chart.specs.CountyRules.{IsCounty}
+use Rattle.county_chart.specs.Packing.{packed}
+use Rattle.county_chart.specs.Renumbering.{AreSame}
+use Rattle.canonical_form.specs.ArrangedCounty.{IsArranged, IsTidy}
+use Rattle.canonical_form.specs.Canonical.{IsNotAfter}
+use Rattle.canonical_form.specs.Growth.{GrowsFrom}
 
 -- all numbers are canonical, the county is tidy, and no other such county of the same map has a lesser text
 pub record IsCanonCounty (county : County) : Type 0 where

@@ -1,13 +1,22 @@
 -- Canonical lists of records.
 use Rattle.std.specs.Prelude.{List, [], false, filter, flat_map, is_some, length, map, ℕ, ⊤, ◌∷◌, ◌≡◌, ◌≤◌}
-use Rattle.std.specs.{Cmp.Lexicographic.slice_cmp, List.AllByRecursion, Ordering.is_gt, Ordering.nat_cmp, Ordering.on, Ordering.then_cmp}
+use Rattle.std.specs.Cmp.Lexicographic.{slice_cmp}
+use Rattle.std.specs.List.{AllByRecursion}
+use Rattle.std.specs.Ordering.{is_gt, nat_cmp, on, then_cmp}
 use Rattle.tl_layout.specs.RecordTypes.{Type1, Type2, Type4, Type5, Type6, Type7, Type8, TypeI, TypeP, as_type, of_type, types}
-use Rattle.tl_layout.specs.{ByType.of_number, RecordText.text_of, declared.record_type.Record.Record}
-use Rattle.county_chart.specs.{BodyOrder.landmark_cmp, BodyOrder.link_cmp, County.County, County.county_of, CountyRules.tlids}
-use Rattle.county_chart.specs.{LinkRules.IsLinked, LinkRules.rtsqs, Renumbering.AreSame, Renumbering.Renumbering}
-use Rattle.county_chart.specs.{declared.fault.SequencedType.SequencedType}
-use Rattle.ordered_lists.specs.{Orders.IsInOrder, Pairs.image}
-use Rattle.canonical_form.specs.{ArrangedCounty.IsArranged, ArrangedCounty.IsTidy, Growth.up_to}
+use Rattle.tl_layout.specs.ByType.{of_number}
+use Rattle.tl_layout.specs.RecordText.{text_of}
+use Rattle.tl_layout.specs.declared.record_type.Record.{Record}
+use Rattle.county_chart.specs.BodyOrder.{landmark_cmp, link_cmp}
+use Rattle.county_chart.specs.County.{County, county_of}
+use Rattle.county_chart.specs.CountyRules.{tlids}
+use Rattle.county_chart.specs.LinkRules.{IsLinked, rtsqs}
+use Rattle.county_chart.specs.Renumbering.{AreSame, Renumbering}
+use Rattle.county_chart.specs.declared.fault.SequencedType.{SequencedType}
+use Rattle.ordered_lists.specs.Orders.{IsInOrder}
+use Rattle.ordered_lists.specs.Pairs.{image}
+use Rattle.canonical_form.specs.ArrangedCounty.{IsArranged, IsTidy}
+use Rattle.canonical_form.specs.Growth.{up_to}
 
 -- The records come type after type. Within a type they ascend: records of chains by TLID and, if they have one, RTSQ; names by
 -- FEAT; landmarks by LAND and content; links by LAND, POLYID, CENID and FILE; polygons by POLYID.

@@ -1,7 +1,10 @@
 -- Views of a county: the county itself, or the county without some of its content. Each canonical list belongs to one view.
 use Rattle.std.specs.Prelude.{ℕ, ◌≡◌}
 use Rattle.county_chart.specs.Renumbering.{Carries, Renumbering}
-use Rattle.county_chart.specs.{County.County, CountyRules.IsCounty, Limits.IsWithinLimits, Profile.IsInProfile}
+use Rattle.county_chart.specs.County.{County}
+use Rattle.county_chart.specs.CountyRules.{IsCounty}
+use Rattle.county_chart.specs.Limits.{IsWithinLimits}
+use Rattle.county_chart.specs.Profile.{IsInProfile}
 
 -- the county itself
 abbrev pub plain : County → County

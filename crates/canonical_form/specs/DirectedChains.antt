@@ -2,8 +2,10 @@
 use Rattle.std.specs.Prelude.{List, Option, length, map, slice_index, ℕ, ◌<◌}
 use Rattle.std.specs.List.{AllByRecursion}
 use Rattle.tl_shape.specs.Chain.{Chain}
-use Rattle.county_chart.specs.{County.County, CountyRules.tlids, DirectedChains.directed_chain}
-use Rattle.county_chart.specs.{declared.directed_chain.DirectedChain.DirectedChain}
+use Rattle.county_chart.specs.County.{County}
+use Rattle.county_chart.specs.CountyRules.{tlids}
+use Rattle.county_chart.specs.DirectedChains.{directed_chain}
+use Rattle.county_chart.specs.declared.directed_chain.DirectedChain.{DirectedChain}
 use Rattle.canonical_form.specs.Arrangement.{Arrangement}
 
 -- the TLID at a place; the place is below the number of chains

@@ -3,9 +3,11 @@ use Rattle.std.specs.Prelude.{List, None, Option, Some, map, option_map, option_
 use Rattle.std.specs.Ordering.{nat_cmp}
 use Rattle.std.proofs.Common.{arith}
 use Rattle.tl_layout.specs.PolygonSide.{PolygonSide}
-use Rattle.county_chart.specs.{PolygonKeys.PolygonKey, PolygonKeys.key_cmp, PolygonKeys.key_on, Renumbering.side_of}
+use Rattle.county_chart.specs.PolygonKeys.{PolygonKey, key_cmp, key_on}
+use Rattle.county_chart.specs.Renumbering.{side_of}
 use Rattle.ordered_lists.specs.Pairs.{image}
-use Rattle.canonical_form.specs.{Arrangement.under_cenid, Growth.numbered}
+use Rattle.canonical_form.specs.Arrangement.{under_cenid}
+use Rattle.canonical_form.specs.Growth.{numbered}
 
 -- the keys of two ends or sides, first before second
 abbrev pub keys_at : {K X : Type 0} → (X → List K) → X × X → List K

@@ -1,6 +1,7 @@
 -- Numbers by first appearance.
 use Rattle.std.specs.Prelude.{List, [], cond, map, max, ℕ, ⊤, ◌++◌, ◌+◌, ◌∷◌, ◌≤◌}
-use Rattle.std.specs.{List.range_with_len, declared.cmp.Ordering.Ordering}
+use Rattle.std.specs.List.{range_with_len}
+use Rattle.std.specs.declared.cmp.Ordering.{Ordering}
 use Rattle.ordered_lists.specs.Orders.{contains}
 use Rattle.county_chart.specs.Packing.{numbered_from}
 

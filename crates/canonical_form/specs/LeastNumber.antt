@@ -1,9 +1,13 @@
 -- Choices by their numbers, and the one with the least text.
 use Rattle.std.specs.Prelude.{List, ℕ, ◌<◌}
-use Rattle.std.specs.{Cmp.Lexicographic.slice_cmp, Ordering.nat_cmp, declared.cmp.Ordering.Ordering}
-use Rattle.tl_layout.specs.{RecordText.text_of, declared.record_type.Record.Record}
+use Rattle.std.specs.Cmp.Lexicographic.{slice_cmp}
+use Rattle.std.specs.Ordering.{nat_cmp}
+use Rattle.std.specs.declared.cmp.Ordering.{Ordering}
+use Rattle.tl_layout.specs.RecordText.{text_of}
+use Rattle.tl_layout.specs.declared.record_type.Record.{Record}
 use Rattle.county_chart.specs.County.{County}
-use Rattle.canonical_form.specs.{Canonical.IsNotAfter, Tidy.arranged_list, Tidy.numbered_choice}
+use Rattle.canonical_form.specs.Canonical.{IsNotAfter}
+use Rattle.canonical_form.specs.Tidy.{arranged_list, numbered_choice}
 
 -- the list of records of the choice with this number
 abbrev pub choice_list : County → ℕ → List Record

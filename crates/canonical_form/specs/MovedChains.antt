@@ -1,7 +1,9 @@
 -- Moving chains at the open places of the order of shapes, and the places where no chain moves.
 use Rattle.std.specs.Prelude.{List, [], length, not, slice_get, ℕ, ⊤, ◌+◌, ◌<◌, ◌∷◌, ◌≡◌, ◌≤◌}
 use Rattle.std.specs.List.{AllByRecursion}
-use Rattle.county_chart.specs.{County.County, declared.directed_chain.DirectedChain.DirectedChain, declared.open_place.OpenPlace.OpenPlace}
+use Rattle.county_chart.specs.County.{County}
+use Rattle.county_chart.specs.declared.directed_chain.DirectedChain.{DirectedChain}
+use Rattle.county_chart.specs.declared.open_place.OpenPlace.{OpenPlace}
 use Rattle.canonical_form.specs.WholeArrangements.{AreWhole}
 
 -- the chain in the other direction

@@ -1,6 +1,7 @@
 -- Choices as numbers: elements with the same key can have any order, and some keys can be turned.
 use Rattle.std.specs.Prelude.{Bool, List, [], cond, drop, map, suc, take, zero, ℕ, ◌%◌, ◌++◌, ◌/◌, ◌∷◌}
-use Rattle.std.specs.{List.insert, declared.cmp.Ordering.Ordering}
+use Rattle.std.specs.List.{insert}
+use Rattle.std.specs.declared.cmp.Ordering.{Ordering}
 use Rattle.ordered_lists.specs.Orders.{times}
 use Rattle.county_chart.specs.declared.open_place.OpenPlace.{OpenPlace}
 

@@ -1,7 +1,7 @@
 -- The numbers that records use as names.
-use Rattle.std.specs.Prelude.{ℕ, List, [], ◌∷◌, ◌++◌, option_to_list}
+use Rattle.std.specs.Prelude.{List, [], option_to_list, ℕ, ◌++◌, ◌∷◌}
 use Rattle.tl_layout.specs.declared.record_type.Record.{Record}
-use Rattle.tl_layout.specs.declared.record_type.Record.TheVariants.{One, Two, Four, Five, Six, Seven, Eight, I, P}
+use Rattle.tl_layout.specs.declared.record_type.Record.TheVariants.{Eight, Five, Four, I, One, P, Seven, Six, Two}
 
 -- the TLIDs, FEATs, LANDs, POLYIDs and nodes of a record; an RTSQ names nothing
 abbrev pub numbers_of : Record → List ℕ

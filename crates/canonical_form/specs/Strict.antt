@@ -1,11 +1,20 @@
 -- Lists in which points determine every TLID and every direction. They are the canonical lists of the sets that were accepted
 -- before chains with the same shape, and chains that are their own reverse, were accepted too.
 use Rattle.std.specs.Prelude.{List, reverse, ◌≡◌}
-use Rattle.std.specs.{List.AllByRecursion, List.Sorted.IsStrictlySortedBy, Ordering.on, declared.cmp.Ordering.TheVariants.Less}
+use Rattle.std.specs.List.{AllByRecursion}
+use Rattle.std.specs.List.Sorted.{IsStrictlySortedBy}
+use Rattle.std.specs.Ordering.{on}
+use Rattle.std.specs.declared.cmp.Ordering.TheVariants.{Less}
 use Rattle.tl_layout.specs.declared.record_type.Record.{Record}
 use Rattle.tl_shape.specs.PointOrder.{points_cmp}
-use Rattle.county_chart.specs.{County.County, County.county_of, LinkRules.IsLinked, Profile.AreAllOnSides, Renumbering.AreSame}
-use Rattle.canonical_form.specs.{ArrangedCounty.entry_points, Canonical.IsArrangedList, CountyViews.plain, Tidy.HasShapesApart}
+use Rattle.county_chart.specs.County.{County, county_of}
+use Rattle.county_chart.specs.LinkRules.{IsLinked}
+use Rattle.county_chart.specs.Profile.{AreAllOnSides}
+use Rattle.county_chart.specs.Renumbering.{AreSame}
+use Rattle.canonical_form.specs.ArrangedCounty.{entry_points}
+use Rattle.canonical_form.specs.Canonical.{IsArrangedList}
+use Rattle.canonical_form.specs.CountyViews.{plain}
+use Rattle.canonical_form.specs.Tidy.{HasShapesApart}
 
 -- each chain's points come before their reverse, and before the points of each later chain
 pub record IsStrict (county : County) : Type 0 where

@@ -1,12 +1,17 @@
 -- The choices that make a county tidy: which there are, and which has the least text.
 use Rattle.std.specs.Prelude.{Bool, List, false, flat_map, not, ℕ, ◌≡◌}
 use Rattle.std.specs.List.{AllByRecursion}
-use Rattle.tl_layout.specs.{Coordinates.Coordinates, declared.record_type.Record.Record}
+use Rattle.tl_layout.specs.Coordinates.{Coordinates}
+use Rattle.tl_layout.specs.declared.record_type.Record.{Record}
 use Rattle.tl_shape.specs.PointOrder.{points_cmp}
-use Rattle.county_chart.specs.{Choices.is_either_way, Choices.shapes, County.County, Packing.packed}
+use Rattle.county_chart.specs.Choices.{is_either_way, shapes}
+use Rattle.county_chart.specs.County.{County}
+use Rattle.county_chart.specs.Packing.{packed}
 use Rattle.ordered_lists.specs.Orders.{has_repeat}
 use Rattle.canonical_form.specs.Arrangement.{Arrangement, Arranges, arranged, ascending, entries_of, entry_shape}
-use Rattle.canonical_form.specs.{ArrangedCounty.IsTidy, Canonical.IsNotAfter, NumberedChoices.chosen}
+use Rattle.canonical_form.specs.ArrangedCounty.{IsTidy}
+use Rattle.canonical_form.specs.Canonical.{IsNotAfter}
+use Rattle.canonical_form.specs.NumberedChoices.{chosen}
 
 -- a choice: an arrangement that makes the county tidy
 pub record IsChoice (county : County) (arrangement : Arrangement) : Type 0 where

@@ -1,8 +1,12 @@
 -- What distinguishes names and landmarks besides their content: where chains use a name, and the polygons of a
 -- landmark.
 use Rattle.std.specs.Prelude.{List, [], filter, flat_map, map, suc, ℕ, ◌==◌, ◌∷◌}
-use Rattle.std.specs.{Cmp.Lexicographic.slice_cmp, Ordering.nat_cmp, Ordering.ordering_then, declared.cmp.Ordering.Ordering}
-use Rattle.tl_layout.specs.{Fields.Fields8, declared.type5.Body5.Body5, declared.type7.Body7.Body7}
+use Rattle.std.specs.Cmp.Lexicographic.{slice_cmp}
+use Rattle.std.specs.Ordering.{nat_cmp, ordering_then}
+use Rattle.std.specs.declared.cmp.Ordering.{Ordering}
+use Rattle.tl_layout.specs.Fields.{Fields8}
+use Rattle.tl_layout.specs.declared.type5.Body5.{Body5}
+use Rattle.tl_layout.specs.declared.type7.Body7.{Body7}
 use Rattle.county_chart.specs.BodyOrder.{LinkPart, landmark_body_cmp, link_part, link_part_cmp, name_body_cmp}
 use Rattle.tl_shape.specs.Chain.{Chain}
 

@@ -1,9 +1,13 @@
 -- Arrangements by directed chains that name each chain once, and the counties that they make.
 use Rattle.std.specs.Prelude.{List, Some, filter, length, map, nat_le, slice_get, ℕ, ◌+◌, ◌<◌, ◌^◌, ◌≡◌}
-use Rattle.std.specs.{List.range_with_len, Ordering.nat_cmp}
+use Rattle.std.specs.List.{range_with_len}
+use Rattle.std.specs.Ordering.{nat_cmp}
 use Rattle.tl_layout.specs.Fields.{Fields8}
-use Rattle.county_chart.specs.{County.County, CountyRules.IsCounty, CountyRules.tlids, Limits.IsWithinLimits, Limits.most_records}
-use Rattle.county_chart.specs.{declared.directed_chain.DirectedChain.DirectedChain}
+use Rattle.county_chart.specs.County.{County}
+use Rattle.county_chart.specs.CountyRules.{IsCounty, tlids}
+use Rattle.county_chart.specs.Limits.{IsWithinLimits}
+use Rattle.tl_layout.specs.Limits.{most_records}
+use Rattle.county_chart.specs.declared.directed_chain.DirectedChain.{DirectedChain}
 use Rattle.ordered_lists.specs.Orders.{times}
 use Rattle.canonical_form.specs.Arrangement.{Arrangement, arranged, arranged_tlids}
 use Rattle.canonical_form.specs.DirectedChains.{HasChainsOf, arrangement_of}

@@ -3,17 +3,25 @@
 ghost use Rattle.std.specs.List.{AllByRecursion};
 ghost use Rattle.std.specs.Prelude.{List, ℕ, ◌<◌, ◌≡◌, ◌≤◌, ◌⊎◌};
 ghost use Rattle.county_chart.specs.CountyRules.{AllKeysContained, IsCounty, polygon_keys, polygons_along};
-ghost use Rattle.county_chart.specs.{Choices.choices, County.County, County.county_of, Limits.most_records, MaskedCounty.masked};
-ghost use Rattle.county_chart.specs.{Packing.packed, Renumbering.AreSame, Renumbering.Carries, Renumbering.Renumbering};
-ghost use Rattle.tl_layout.specs.{Limits.IsWithinLimit, Limits.count_of_type, Masked.no_mask, RecordText.FitsRecord, RecordText.text_of};
-ghost use Rattle.tl_layout.specs.{declared.mask.Mask.Mask, declared.record_type.Record.Record};
-ghost use Rattle.canonical_form.specs.Accepted.{IsAccepted, IsCanonicalOf, IsCanonicalInView, IsRefusal, RecordsRefusal};
+ghost use Rattle.county_chart.specs.Choices.{choices};
+ghost use Rattle.county_chart.specs.County.{County, county_of};
+ghost use Rattle.tl_layout.specs.Limits.{IsWithinLimit, count_of_type, most_records};
+ghost use Rattle.county_chart.specs.MaskedCounty.{masked};
+ghost use Rattle.county_chart.specs.Packing.{packed};
+ghost use Rattle.county_chart.specs.Renumbering.{AreSame, Carries, Renumbering};
+ghost use Rattle.tl_layout.specs.Masked.{no_mask};
+ghost use Rattle.tl_layout.specs.RecordText.{FitsRecord, text_of};
+ghost use Rattle.tl_layout.specs.declared.mask.Mask.{Mask};
+ghost use Rattle.tl_layout.specs.declared.record_type.Record.{Record};
+ghost use Rattle.canonical_form.specs.Accepted.{IsAccepted, IsCanonicalInView, IsCanonicalOf, IsRefusal, RecordsRefusal};
 ghost use Rattle.canonical_form.specs.Arrangement.{Arrangement, Arranges, arranged, ascending, renaming_of};
 ghost use Rattle.canonical_form.specs.Canonical.{IsArrangedList, IsCanonical, IsTidyList, KeepsChainNumbers};
-ghost use Rattle.canonical_form.specs.Strict.{IsStrictOf, IsStrictInView, IsStrictlyAccepted};
+ghost use Rattle.canonical_form.specs.Strict.{IsStrictInView, IsStrictOf, IsStrictlyAccepted};
 ghost use Rattle.canonical_form.specs.Tidy.{HasShapesApart, IsChoice, IsLeastChoice, arranged_list, numbered_choice};
-ghost use Rattle.canonical_form.specs.{ArrangedCounty.IsArranged, RecordNumbers.greatest_number, RecordNumbers.numbers_of};
-ghost use Rattle.canonical_form.specs.{ViewRecords.ShowsNoMore, CountyViews.IsView, CountyViews.plain};
+ghost use Rattle.canonical_form.specs.ArrangedCounty.{IsArranged};
+ghost use Rattle.canonical_form.specs.RecordNumbers.{greatest_number, numbers_of};
+ghost use Rattle.canonical_form.specs.ViewRecords.{ShowsNoMore};
+ghost use Rattle.canonical_form.specs.CountyViews.{IsView, plain};
 
 /// A list in the canonical order, packing and numbering is the packing of its county, for any choice of TLIDs and directions.
 pub fn arranged_lists_are_the_packing_of_their_county()

@@ -1,20 +1,26 @@
 -- The names from below that the proofs of this crate cite, passed on from one place. Declares nothing.
-pub use Rattle.tl_layout.proofs.Common.{Bool, Each1-get_or, IsOnMap, List, None, Option, Some, Type1, Type2, Type4, Type5, Type6, Type7}
-pub use Rattle.tl_layout.proofs.Common.{Type8, TypeI, TypeP, [], and_block, and_from, and_parts, and_self, ap, append-nil, append_assoc}
-pub use Rattle.tl_layout.proofs.Common.{arith, bit_and, bitmask_splat, codes, columns, cond, drop, drop-drop, drop_all, drop_blanks, eqb}
-pub use Rattle.tl_layout.proofs.Common.{eqb-true, false, get_or, inl, inr, joined, joined-before, le-leb, leb-true, length, length-map}
-pub use Rattle.tl_layout.proofs.Common.{length-zip2, lit<, lit≤, ltb, map, map-map, mask_l-lt, ne_eqb, number_text, point_place_text, pos}
-pub use Rattle.tl_layout.proofs.Common.{pow-succ', refl, replicate, subst, suc, sym, take, take_all, true, unwrap_or, w8, zero, zip2_splat}
-pub use Rattle.tl_layout.proofs.Common.{ℕ, ℤ, ◌%◌, ◌*◌, ◌++◌, ◌+◌, ◌-◌, ◌/◌, ◌<◌, ◌^◌, ◌∙◌, ◌∷◌, ◌≡◌, ◌≤◌, ◌⊎◌}
-pub use Rattle.tl_layout.proofs.{CoordinateSteps.two_and_eight, PlaceSteps.same_bytes, Words.digit_from, Words.full_mask}
-pub use Rattle.tl_layout.specs.FieldTexts.{rows_spelling, rows_texts, value_texts}
-pub use Rattle.tl_layout.specs.NumberField.{is_blank, is_digit, value_after}
-pub use Rattle.tl_layout.specs.RecordTypes.{FieldsOf, RecordType, byte_of, line_length, make_of, table_of}
-pub use Rattle.tl_layout.specs.{Bytes.IsLine, Bytes.IsText, Coordinates.Coordinates, Numbers.IsNumber, Numbers.IsNumberOrNone}
-pub use Rattle.tl_layout.specs.{Laws.ColumnLaws.columns_of_text, Laws.NumberTextLaws.length-number_text, Laws.NumberTextLaws.number_below}
-pub use Rattle.canonical_lines.specs.Texts.{IsCoordinateText, IsNumberOrNoneText, IsNumberText, IsNumeral, IsNumeralOrNone, IsPlacesText}
-pub use Rattle.canonical_lines.specs.Texts.{IsPointOrNoneText, IsPointText, IsUsedText}
-pub use Rattle.canonical_lines.specs.{SpeltLine.IsSpeltLine, SpeltLine.with_version, declared.point.TheConstants.UNUSED}
-pub use Rattle.std.proofs.{Common.negsuc, Common.slice_range, Common.unsigned_abs, lemmas.Bool.eqb-false, lemmas.List.Folds.list_all-append}
-pub use Rattle.std.proofs.{lemmas.List.length-append, lemmas.List.length-drop, lemmas.List.take-append-drop}
+pub use Rattle.canonical_lines.specs.SpeltLine.{IsSpeltLine, with_version}
+pub use Rattle.canonical_lines.specs.Texts.{IsCoordinateText, IsNumberOrNoneText, IsNumberText, IsNumeral, IsNumeralOrNone, IsPlacesText, IsPointOrNoneText, IsPointText, IsUsedText}
+pub use Rattle.canonical_lines.specs.declared.point.TheConstants.{UNUSED}
+pub use Rattle.std.proofs.Common.{Bool, List, None, Option, Some, [], ap, append_assoc, arith, bit_and, codes, cond, drop, eqb, false, get_or, inl, inr, length, lit<, lit≤, ltb, map, negsuc, pos, refl, replicate, slice_range, subst, suc, sym, take, true, unsigned_abs, unwrap_or, w8, zero, ℕ, ℤ, ◌%◌, ◌*◌, ◌++◌, ◌+◌, ◌-◌, ◌/◌, ◌<◌, ◌^◌, ◌∙◌, ◌∷◌, ◌≡◌, ◌≤◌, ◌⊎◌}
+pub use Rattle.std.proofs.Math.Nat.{pow-succ'}
+pub use Rattle.std.proofs.lemmas.Bool.{and_from, and_parts, eqb-false, eqb-true, le-leb, leb-true, ne_eqb}
+pub use Rattle.std.proofs.lemmas.List.{append-nil, drop-drop, drop_all, length-append, length-drop, length-map, take-append-drop, take_all}
+pub use Rattle.std.proofs.lemmas.List.Folds.{list_all-append}
+pub use Rattle.std.proofs.lemmas.Nat.{and_block}
+pub use Rattle.std.proofs.lemmas.Simd.{Each1-get_or, bitmask_splat, length-zip2, map-map, mask_l-lt, zip2_splat}
+pub use Rattle.std.specs.Int.Bits.{and_self}
 pub use Rattle.std.specs.List.{list_all}
+pub use Rattle.tl_layout.proofs.CoordinateSteps.{two_and_eight}
+pub use Rattle.tl_layout.proofs.PlaceSteps.{same_bytes}
+pub use Rattle.tl_layout.proofs.Words.{digit_from, full_mask}
+pub use Rattle.tl_layout.specs.Bytes.{IsLine, IsText, columns}
+pub use Rattle.tl_layout.specs.Columns.{joined}
+pub use Rattle.tl_layout.specs.Coordinates.{Coordinates, IsOnMap}
+pub use Rattle.tl_layout.specs.FieldTexts.{number_text, point_place_text, rows_spelling, rows_texts, value_texts}
+pub use Rattle.tl_layout.specs.Laws.ColumnLaws.{columns_of_text, joined-before}
+pub use Rattle.tl_layout.specs.Laws.NumberTextLaws.{length-number_text, number_below}
+pub use Rattle.tl_layout.specs.NumberField.{is_blank, is_digit, value_after}
+pub use Rattle.tl_layout.specs.NumberReading.{drop_blanks}
+pub use Rattle.tl_layout.specs.Numbers.{IsNumber, IsNumberOrNone}
+pub use Rattle.tl_layout.specs.RecordTypes.{FieldsOf, RecordType, Type1, Type2, Type4, Type5, Type6, Type7, Type8, TypeI, TypeP, byte_of, line_length, make_of, table_of}

@@ -1,10 +1,7 @@
 -- What the masks of eight bytes say: which bytes are blanks, which are zeros, and which are digits.
-use Rattle.canonical_lines.proofs.Common.{Bool, IsNumeral, IsNumeralOrNone, List, [], and_block, and_parts, and_self, ap, arith, bit_and}
-use Rattle.canonical_lines.proofs.Common.{cond, digit_from, drop_blanks, eqb, eqb-false, eqb-true, false, full_mask, get_or, inl, inr}
-use Rattle.canonical_lines.proofs.Common.{is_blank, is_digit, length, length-map, length-zip2, list_all, lit<, ltb, map, map-map, mask_l-lt}
-use Rattle.canonical_lines.proofs.Common.{pow-succ', refl, replicate, suc, sym, true, zip2_splat, ℕ, ◌%◌, ◌*◌, ◌+◌, ◌-◌, ◌<◌, ◌^◌, ◌∙◌, ◌∷◌}
-use Rattle.canonical_lines.proofs.Common.{◌≡◌, ◌≤◌}
-use Rattle.canonical_lines.proofs.{NumberTexts.digit_bounds, PointTexts.all_at}
+use Rattle.canonical_lines.proofs.Common.{Bool, IsNumeral, IsNumeralOrNone, List, [], and_block, and_parts, and_self, ap, arith, bit_and, cond, digit_from, drop_blanks, eqb, eqb-false, eqb-true, false, full_mask, get_or, inl, inr, is_blank, is_digit, length, length-map, length-zip2, list_all, lit<, ltb, map, map-map, mask_l-lt, pow-succ', refl, replicate, suc, sym, true, zip2_splat, ℕ, ◌%◌, ◌*◌, ◌+◌, ◌-◌, ◌<◌, ◌^◌, ◌∙◌, ◌∷◌, ◌≡◌, ◌≤◌}
+use Rattle.canonical_lines.proofs.NumberTexts.{digit_bounds}
+use Rattle.canonical_lines.proofs.PointTexts.{all_at}
 use lib.Lanes.{mask_l, zip2}
 
 -- the test for digits: how far the byte is above the byte of 0

@@ -1,10 +1,7 @@
 -- Columns with blanks and then digits without a leading zero are the canonical text of the digits' number.
-use Rattle.canonical_lines.proofs.Common.{IsNumberOrNone, IsNumberOrNoneText, IsNumberText, IsNumeral, IsNumeralOrNone, List, None, Option}
-use Rattle.canonical_lines.proofs.Common.{Some, [], and_from, and_parts, ap, append-nil, append_assoc, arith, drop_blanks, eqb-true, get_or}
-use Rattle.canonical_lines.proofs.Common.{inl, inr, is_blank, is_digit, le-leb, leb-true, length, length-append, length-number_text}
-use Rattle.canonical_lines.proofs.Common.{list_all, list_all-append, ne_eqb, number_below, refl, replicate, slice_range, suc, sym, take_all}
-use Rattle.canonical_lines.proofs.Common.{true, unwrap_or, value_after, zero, ℕ, ◌%◌, ◌*◌, ◌++◌, ◌+◌, ◌-◌, ◌/◌, ◌<◌, ◌∙◌, ◌∷◌, ◌≡◌, ◌≤◌}
-use Rattle.tl_layout.specs.{FieldTexts.number_place_text, FieldTexts.number_text, Laws.NumberLaws.splits_blanks}
+use Rattle.canonical_lines.proofs.Common.{IsNumberOrNone, IsNumberOrNoneText, IsNumberText, IsNumeral, IsNumeralOrNone, List, None, Option, Some, [], and_from, and_parts, ap, append-nil, append_assoc, arith, drop_blanks, eqb-true, get_or, inl, inr, is_blank, is_digit, le-leb, leb-true, length, length-append, length-number_text, list_all, list_all-append, ne_eqb, number_below, refl, replicate, slice_range, suc, sym, take_all, true, unwrap_or, value_after, zero, ℕ, ◌%◌, ◌*◌, ◌++◌, ◌+◌, ◌-◌, ◌/◌, ◌<◌, ◌∙◌, ◌∷◌, ◌≡◌, ◌≤◌}
+use Rattle.tl_layout.specs.FieldTexts.{number_place_text, number_text}
+use Rattle.tl_layout.specs.Laws.NumberLaws.{splits_blanks}
 
 -- a digit is between the bytes of 0 and of 9
 pub digit_bounds : (digit : ℕ) → is_digit digit ≡ true → (48 ≤ digit) × (digit ≤ 57)

@@ -1,7 +1,5 @@
 -- Places are tested from the last one to the first.
-use Rattle.canonical_lines.proofs.Common.{Bool, IsPlacesText, IsUsedText, List, None, Option, Some, [], ap, arith, drop, drop-drop, false}
-use Rattle.canonical_lines.proofs.Common.{refl, slice_range, subst, suc, sym, take, take-append-drop, true, ℕ, ◌*◌, ◌++◌, ◌+◌, ◌-◌, ◌<◌}
-use Rattle.canonical_lines.proofs.Common.{◌∙◌, ◌∷◌, ◌≡◌, ◌≤◌}
+use Rattle.canonical_lines.proofs.Common.{Bool, IsPlacesText, IsUsedText, List, None, Option, Some, [], ap, arith, drop, drop-drop, false, refl, slice_range, subst, suc, sym, take, take-append-drop, true, ℕ, ◌*◌, ◌++◌, ◌+◌, ◌-◌, ◌<◌, ◌∙◌, ◌∷◌, ◌≡◌, ◌≤◌}
 use Rattle.tl_layout.specs.FieldTexts.{places_text}
 
 -- the columns hold that many places, and one of them is used only if used is true

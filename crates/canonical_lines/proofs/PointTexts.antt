@@ -1,9 +1,5 @@
 -- A sign and digits are the canonical text of a coordinate.
-use Rattle.canonical_lines.proofs.Common.{IsCoordinateText, IsPointOrNoneText, IsPointText, List, None, Some, [], and_from, and_parts, ap}
-use Rattle.canonical_lines.proofs.Common.{append-nil, append_assoc, arith, drop, get_or, inl, inr, is_blank, is_digit, le-leb, length}
-use Rattle.canonical_lines.proofs.Common.{length-drop, list_all, negsuc, number_below, point_place_text, pos, refl, replicate, slice_range}
-use Rattle.canonical_lines.proofs.Common.{subst, suc, sym, take, take-append-drop, take_all, true, unsigned_abs, value_after, zero, ℕ, ℤ}
-use Rattle.canonical_lines.proofs.Common.{◌%◌, ◌*◌, ◌++◌, ◌+◌, ◌-◌, ◌/◌, ◌<◌, ◌^◌, ◌∙◌, ◌∷◌, ◌≡◌, ◌≤◌, ◌⊎◌}
+use Rattle.canonical_lines.proofs.Common.{IsCoordinateText, IsPointOrNoneText, IsPointText, List, None, Some, [], and_from, and_parts, ap, append-nil, append_assoc, arith, drop, get_or, inl, inr, is_blank, is_digit, le-leb, length, length-drop, list_all, negsuc, number_below, point_place_text, pos, refl, replicate, slice_range, subst, suc, sym, take, take-append-drop, take_all, true, unsigned_abs, value_after, zero, ℕ, ℤ, ◌%◌, ◌*◌, ◌++◌, ◌+◌, ◌-◌, ◌/◌, ◌<◌, ◌^◌, ◌∙◌, ◌∷◌, ◌≡◌, ◌≤◌, ◌⊎◌}
 use Rattle.canonical_lines.proofs.NumberTexts.{digit_bounds, only_blanks}
 use Rattle.tl_layout.specs.FieldTexts.{coordinate_text, digits_text}
 use lib.Lanes.{chunk}

@@ -1,19 +1,13 @@
 -- By a column table: a line whose columns hold canonical texts is read as the record of their values, and is that record's
 -- canonical spelling, except for the version.
-use Rattle.canonical_lines.proofs.Common.{Coordinates, IsOnMap, IsPointText, IsSpeltLine, RecordType, line_length, number_text, value_texts}
-use Rattle.canonical_lines.proofs.Common.{FieldsOf, IsNumber, drop_all, eqb-true, is_blank, list_all, replicate, rows_texts, suc, unwrap_or}
-use Rattle.canonical_lines.proofs.Common.{IsLine, IsText, List, Option, byte_of, codes, columns, joined, length, make_of, subst, table_of}
-use Rattle.canonical_lines.proofs.Common.{IsNumberOrNone, IsNumberText, IsPlacesText, drop-drop, joined-before, rows_spelling, with_version}
-use Rattle.canonical_lines.proofs.Common.{IsNumberOrNoneText, IsPointOrNoneText, arith, columns_of_text, point_place_text, take-append-drop}
-use Rattle.canonical_lines.proofs.Common.{None, Some, [], ap, drop, refl, sym, take, true, zero, ℕ, ◌++◌, ◌+◌, ◌-◌, ◌∙◌, ◌∷◌, ◌≡◌, ◌≤◌}
+use Rattle.canonical_lines.proofs.Common.{Coordinates, FieldsOf, IsLine, IsNumber, IsNumberOrNone, IsNumberOrNoneText, IsNumberText, IsOnMap, IsPlacesText, IsPointOrNoneText, IsPointText, IsSpeltLine, IsText, List, None, Option, RecordType, Some, [], ap, arith, byte_of, codes, columns, columns_of_text, drop, drop-drop, drop_all, eqb-true, is_blank, joined, joined-before, length, line_length, list_all, make_of, number_text, point_place_text, refl, replicate, rows_spelling, rows_texts, subst, suc, sym, table_of, take, take-append-drop, true, unwrap_or, value_texts, with_version, zero, ℕ, ◌++◌, ◌+◌, ◌-◌, ◌∙◌, ◌∷◌, ◌≡◌, ◌≤◌}
 use Rattle.canonical_lines.proofs.NumberTexts.{only_blanks}
-use Rattle.tl_layout.specs.ColumnTable.{Filler, FitsRows, FitsValue, Kind, Number, NumberOrNone, NumberPlaces, Opaque, Pair, PairOrNone}
-use Rattle.tl_layout.specs.ColumnTable.{PointPlaces, Row, SpellsRows, SpellsValue, ValueOf, is_laid_out, width_of}
-use Rattle.tl_layout.specs.FieldMeaning.{SpellsNumber, SpellsNumberOrNone, SpellsNumberPlace, SpellsPlaces, SpellsPoint, SpellsPointOrNone}
-use Rattle.tl_layout.specs.FieldMeaning.{SpellsPointPlace}
-use Rattle.tl_layout.specs.Laws.TableLaws.{Values, first_row, joined-append, laid_out_within, made, ordered, table_reads_spelled}
-use Rattle.tl_layout.specs.Laws.TableLaws.{table_reads_spelling, table_spelled_is_read, table_spelling_is_line, values_of}
-use Rattle.tl_layout.specs.{FieldTexts.number_place_text, Laws.TypeLaws.is_table, RecordTypes.fields_spelling, RecordTypes.reading_of}
+use Rattle.tl_layout.specs.ColumnTable.{Filler, FitsRows, FitsValue, Kind, Number, NumberOrNone, NumberPlaces, Opaque, Pair, PairOrNone, PointPlaces, Row, SpellsRows, SpellsValue, ValueOf, is_laid_out, width_of}
+use Rattle.tl_layout.specs.FieldMeaning.{SpellsNumber, SpellsNumberOrNone, SpellsNumberPlace, SpellsPlaces, SpellsPoint, SpellsPointOrNone, SpellsPointPlace}
+use Rattle.tl_layout.specs.Laws.TableLaws.{Values, first_row, joined-append, laid_out_within, made, ordered, table_reads_spelled, table_reads_spelling, table_spelled_is_read, table_spelling_is_line, values_of}
+use Rattle.tl_layout.specs.FieldTexts.{number_place_text}
+use Rattle.tl_layout.specs.Laws.TypeLaws.{is_table}
+use Rattle.tl_layout.specs.RecordTypes.{fields_spelling, reading_of}
 
 -- ---- what is known of a line
 

@@ -1,5 +1,5 @@
 -- Lines in canonical spelling, except for their version.
-use Rattle.std.specs.Prelude.{◌≡◌, ℕ, List, ◌++◌, Result, Ok, take, drop, codes}
+use Rattle.std.specs.Prelude.{List, Ok, Result, codes, drop, take, ℕ, ◌++◌, ◌≡◌}
 use Rattle.tl_layout.specs.declared.fault.FieldFault.{FieldFault}
 
 -- the line with the version 2006 in its columns 2 to 5

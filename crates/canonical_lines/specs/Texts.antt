@@ -1,9 +1,10 @@
 -- Columns that hold the canonical text of a value that fits them.
-use Rattle.std.specs.Prelude.{IfSome, List, Option, Some, [], length, true, unsigned_abs, unwrap_or, ℕ, ℤ, ◌++◌, ◌<◌, ◌^◌, ◌∷◌, ◌≡◌, ◌≤◌}
-use Rattle.std.specs.Prelude.{◌⊎◌}
+use Rattle.std.specs.Prelude.{IfSome, List, Option, Some, [], length, true, unsigned_abs, unwrap_or, ℕ, ℤ, ◌++◌, ◌<◌, ◌^◌, ◌∷◌, ◌≡◌, ◌≤◌, ◌⊎◌}
 use Rattle.std.specs.List.{AllByRecursion, list_all}
 use Rattle.tl_layout.specs.FieldTexts.{coordinate_text, lat_text, long_text, number_text, places_text, point_place_text}
-use Rattle.tl_layout.specs.{Coordinates.Coordinates, Coordinates.IsOnMap, NumberField.is_digit, Numbers.IsNumber, Numbers.IsNumberOrNone}
+use Rattle.tl_layout.specs.Coordinates.{Coordinates, IsOnMap}
+use Rattle.tl_layout.specs.NumberField.{is_digit}
+use Rattle.tl_layout.specs.Numbers.{IsNumber, IsNumberOrNone}
 
 -- one digit or more, the first of them not a zero
 pub record IsNumeral (bytes : List ℕ) : Type 0 where

@@ -1,7 +1,7 @@
 //! Each record type's test whether a line is canonical. Columns that no test looks at are text, which is kept as it is.
 
 ghost use Rattle.canonical_lines.specs.SpeltLine.{IsSpeltLine};
-ghost use Rattle.std.specs.Prelude.{◌<◌, IsTrue};
+ghost use Rattle.std.specs.Prelude.{IsTrue, ◌<◌};
 ghost use Rattle.tl_layout.specs.Bytes.{IsLine};
 
 use crate::number::{are_numbers_or_none, is_number};

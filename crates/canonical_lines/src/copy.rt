@@ -1,7 +1,7 @@
 //! Appending a line in canonical spelling, with the version 2006.
 
 ghost use Rattle.canonical_lines.specs.SpeltLine.{with_version};
-ghost use Rattle.std.specs.Prelude.{◌≡◌, ◌≤◌, ◌⊎◌, [], ◌∷◌, ◌++◌, length, OnOk, OnErr};
+ghost use Rattle.std.specs.Prelude.{OnErr, OnOk, [], length, ◌++◌, ◌∷◌, ◌≡◌, ◌≤◌, ◌⊎◌};
 ghost use Rattle.tl_layout.specs.Bytes.{longest_line};
 
 use std::alloc::AllocError;

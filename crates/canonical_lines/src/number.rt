@@ -3,7 +3,8 @@
 ghost use Rattle.canonical_lines.specs.Texts.{IsNumberOrNoneText, IsNumberText, IsNumeral, IsNumeralOrNone};
 ghost use Rattle.std.specs.List.{list_all};
 ghost use Rattle.std.specs.Prelude.{IsTrue, ◌≡◌};
-ghost use Rattle.tl_layout.specs.{NumberField.is_digit, NumberReading.drop_blanks};
+ghost use Rattle.tl_layout.specs.NumberField.{is_digit};
+ghost use Rattle.tl_layout.specs.NumberReading.{drop_blanks};
 
 use std::simd::prelude::*;
 use tl_layout::trim_start;

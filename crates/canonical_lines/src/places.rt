@@ -1,7 +1,7 @@
 //! Columns that hold the canonical text of places: used ones first, and after them only unused ones.
 
 ghost use Rattle.canonical_lines.specs.Texts.{IsPlacesText, IsUsedText};
-ghost use Rattle.std.specs.Prelude.{◌≡◌, ◌*◌, ℕ, List, Option, None, length, IsTrue};
+ghost use Rattle.std.specs.Prelude.{IsTrue, List, None, Option, length, ℕ, ◌*◌, ◌≡◌};
 
 use crate::number::is_number;
 use crate::point::{is_point, is_unused};
@@ -44,7 +44,8 @@ pub(crate) trait LinePlaces {
 pub(crate) struct PointPlaces;
 
 impl LinePlaces for PointPlaces {
-    ghost use Rattle.tl_layout.specs.{Coordinates.Coordinates, Coordinates.IsOnMap, FieldTexts.point_place_text};
+    ghost use Rattle.tl_layout.specs.Coordinates.{Coordinates, IsOnMap};
+    ghost use Rattle.tl_layout.specs.FieldTexts.{point_place_text};
 
     ghost Item = { Coordinates };
 
@@ -77,7 +78,8 @@ pub(crate) struct NumberPlaces;
 
 impl LinePlaces for NumberPlaces {
     ghost use Rattle.std.specs.Prelude.{ℕ};
-    ghost use Rattle.tl_layout.specs.{FieldTexts.number_place_text, Numbers.IsNumber};
+    ghost use Rattle.tl_layout.specs.FieldTexts.{number_place_text};
+    ghost use Rattle.tl_layout.specs.Numbers.{IsNumber};
 
     ghost Item = { ℕ };
 

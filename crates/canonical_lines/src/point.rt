@@ -2,7 +2,7 @@
 
 ghost use Rattle.canonical_lines.specs.Texts.{IsCoordinateText, IsPointOrNoneText, IsPointText};
 ghost use Rattle.std.specs.Prelude.{IsTrue, None, length, ◌≡◌, ◌⊎◌};
-ghost use Rattle.tl_layout.specs.{FieldTexts.point_place_text};
+ghost use Rattle.tl_layout.specs.FieldTexts.{point_place_text};
 
 use std::simd::prelude::*;
 use tl_layout::{are_digits, is_blank};

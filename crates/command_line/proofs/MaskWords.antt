@@ -1,8 +1,9 @@
 -- Arguments with a flag that leaves fields out, for a job that has no such flag.
-use Rattle.command_line.proofs.Common.{Bool, Check, None, Respell, TakesNoMask, Text, UnknownArgument, [], codes, false, refl}
-use Rattle.command_line.proofs.Common.{reserved_words, source_words, stem_words, sym, true, ◌++◌, ◌∙◌, ◌∷◌, ◌≡◌}
+use Rattle.command_line.proofs.Common.{Bool, Check, None, Respell, TakesNoMask, Text, UnknownArgument, [], codes, false, refl, reserved_words, source_words, stem_words, sym, true, ◌++◌, ◌∙◌, ◌∷◌, ◌≡◌}
 use Rattle.command_line.proofs.UsualWords.Walking.{before_word, fault_after, fault_from, refused}
-use Rattle.command_line.proofs.UsualWords.{Entering.job_fault, OverOneSet.set_job, OverOneSet.set_stem, Words.flag_rows}
+use Rattle.command_line.proofs.UsualWords.Entering.{job_fault}
+use Rattle.command_line.proofs.UsualWords.OverOneSet.{set_job, set_stem}
+use Rattle.command_line.proofs.UsualWords.Words.{flag_rows}
 use Rattle.clap.proofs.OnLiterals.{clap_on_literals}
 use Rattle.clap.specs.Faults.{turn_fault}
 

@@ -1,10 +1,8 @@
 -- The results of clap's getters, by the values that clap found.
-use Rattle.command_line.proofs.Common.{App, AreUnderstood, Bool, Bor, Box, Err, Error, Found, HasMatchesOf, IsFlagGiven, Job, List, None}
-use Rattle.command_line.proofs.Common.{Ok, OnOk, Option, OutOfMemory, Result, Row, Some, SubCommand, Text, [], ap, box_value, codes, false}
-use Rattle.command_line.proofs.Common.{fault_of, first_of, first_value, first_value-rows, found_of, inl, inr, is_simple, is_simple_and_free}
-use Rattle.command_line.proofs.Common.{kind_of, one_of, one_text, one_text-rows, option_map, out-ArgMatches, out-SubCommand, refl, rows_of}
-use Rattle.command_line.proofs.Common.{subcommand_name_of, subcommand_of, subst, sym, true, understood, ◌∙◌, ◌≡◌}
-use Rattle.clap.specs.{Simple.subcommand_rows, Simple.subcommand_rows_of, Words.HasKind, declared.parser.matches.ArgMatches.ArgMatches}
+use Rattle.command_line.proofs.Common.{App, AreUnderstood, Bool, Bor, Box, Err, Error, Found, HasMatchesOf, IsFlagGiven, Job, List, None, Ok, OnOk, Option, OutOfMemory, Result, Row, Some, SubCommand, Text, [], ap, box_value, codes, false, fault_of, first_of, first_value, first_value-rows, found_of, inl, inr, is_simple, is_simple_and_free, kind_of, one_of, one_text, one_text-rows, option_map, out-ArgMatches, out-SubCommand, refl, rows_of, subcommand_name_of, subcommand_of, subst, sym, true, understood, ◌∙◌, ◌≡◌}
+use Rattle.clap.specs.Simple.{subcommand_rows, subcommand_rows_of}
+use Rattle.clap.specs.Words.{HasKind}
+use Rattle.clap.specs.declared.parser.matches.ArgMatches.{ArgMatches}
 
 -- the value of an argument
 pub value_given : (found : Found) (id : Text) (r : Option (Bor Text)) (value : Bor Text)

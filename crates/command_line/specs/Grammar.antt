@@ -1,5 +1,5 @@
 -- The command-line grammar: the subcommands and their arguments, as clap parses them.
-use Rattle.std.specs.Prelude.{[], true, Some, codes}
+use Rattle.std.specs.Prelude.{Some, [], codes, true}
 use Rattle.clap.specs.Words.{App, Rule, Text, new_app, new_rule, with_rule, with_subcommand}
 use Rattle.clap.specs.declared.builder.action.ArgAction.TheVariants.{Set, SetTrue}
 

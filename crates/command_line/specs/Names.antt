@@ -1,10 +1,13 @@
 -- The file names of a set, and the plan for a command line.
-use Rattle.std.specs.Prelude.{Bool, List, None, Option, Some, [], codes, false, map, slice_index, string_bytes, true, ℕ, ◌++◌, ◌∷◌, ◌≡◌}
-use Rattle.std.specs.Prelude.{◌≢◌}
+use Rattle.std.specs.Prelude.{Bool, List, None, Option, Some, [], codes, false, map, slice_index, string_bytes, true, ℕ, ◌++◌, ◌∷◌, ◌≡◌, ◌≢◌}
 use Rattle.clap.specs.Words.{Row, Text, fault_of, first_of, one_of, subcommand_of}
 use Rattle.command_line.specs.declared.plans.Job.TheVariants.{Check, Compare, Fingerprint, Normalise, Respell}
-use Rattle.command_line.specs.{Grammar.understood, Words.word_of, declared.plans.Job.Job, declared.plans.Plan.Plan}
-use Rattle.tl_layout.specs.{Masked.no_mask, declared.mask.Mask.Mask}
+use Rattle.command_line.specs.Grammar.{understood}
+use Rattle.command_line.specs.Words.{word_of}
+use Rattle.command_line.specs.declared.plans.Job.{Job}
+use Rattle.command_line.specs.declared.plans.Plan.{Plan}
+use Rattle.tl_layout.specs.Masked.{no_mask}
+use Rattle.tl_layout.specs.declared.mask.Mask.{Mask}
 
 -- the suffixes of the file names of a set, in the order of its parts
 abbrev pub suffixes : List (List ℕ)

@@ -1,9 +1,9 @@
 //! The commands of the program, as in its help.
 
-ghost use Rattle.clap.specs.{Words.app_of, Words.rule_of, Words.with_subcommand, declared.builder.command.Command.TheViews.out-Command};
+ghost use Rattle.clap.specs.Words.{app_of, rule_of, with_subcommand};
+ghost use Rattle.clap.specs.declared.builder.command.Command.TheViews.{out-Command};
 ghost use Rattle.std.specs.Prelude.{IfOk, codes, false, ◌≡◌};
-ghost use Rattle.command_line.specs.Grammar.{flag_named, over_one_set, over_two_sets, program_alone, set_argument, stem_flag, understood};
-ghost use Rattle.command_line.specs.Grammar.{with_mask};
+ghost use Rattle.command_line.specs.Grammar.{flag_named, over_one_set, over_two_sets, program_alone, set_argument, stem_flag, understood, with_mask};
 
 use clap::{Arg, ArgAction, Command};
 use std::alloc::{AllocError, Global};

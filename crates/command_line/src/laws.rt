@@ -1,6 +1,7 @@
 //! Laws about which arguments are a valid command line. The functions do nothing; their contracts are the laws.
 
-ghost use Rattle.command_line.specs.{Names.AreUsualWordsPlanned, Names.TakesNoMask, declared.plans.Job.Job};
+ghost use Rattle.command_line.specs.Names.{AreUsualWordsPlanned, TakesNoMask};
+ghost use Rattle.command_line.specs.declared.plans.Job.{Job};
 
 /// The usual command lines, as in the help, are valid, and a plan with the files of the sets that they name is their plan. They
 /// have the name of a job, `--stem` if sets are named by their stems, a flag for each kind of field that is left out if the job

@@ -1,6 +1,6 @@
 //! The file names of a set.
 
-ghost use Rattle.std.specs.Prelude.{◌≡◌, ◌++◌, IfOk, map, string_bytes};
+ghost use Rattle.std.specs.Prelude.{IfOk, map, string_bytes, ◌++◌, ◌≡◌};
 ghost use Rattle.command_line.specs.Names.{files_named};
 
 use std::alloc::{AllocError, Global};

@@ -1,10 +1,13 @@
 //! Parsing the arguments of a command line.
 
 ghost use Rattle.clap.specs.Words.{Text, first_of, found_of, kind_of, rows_of};
-ghost use Rattle.clap.specs.{Simple.subcommand_rows_of, declared.error.kind.ErrorKind.TheVariants.OutOfMemory};
+ghost use Rattle.clap.specs.Simple.{subcommand_rows_of};
+ghost use Rattle.clap.specs.declared.error.kind.ErrorKind.TheVariants.{OutOfMemory};
 ghost use Rattle.std.specs.Prelude.{Bool, IfErr, IfOk, IfSome, List, OnOk, Some, map, string_bytes, ◌≡◌};
 ghost use Rattle.command_line.specs.Names.{AreFilesOf, AreSecondOf, AreUnderstood, IsMaskGiven, IsPlanOf, IsPlanned, NamesItsSets};
-ghost use Rattle.command_line.specs.{Words.word_of, declared.plans.Job.Job, declared.plans.Plan.Plan};
+ghost use Rattle.command_line.specs.Words.{word_of};
+ghost use Rattle.command_line.specs.declared.plans.Job.{Job};
+ghost use Rattle.command_line.specs.declared.plans.Plan.{Plan};
 
 use crate::command::{FIRST, NO_RESERVED, NO_SOURCES, SECOND, STEM, command};
 use crate::names::files_of;

@@ -1,6 +1,5 @@
 -- The lists of a chain that may be turned.
-use Rattle.county_chart.proofs.Common.{Bool, Chain, None, Option, Some, cond, false, feats_of, map, option_map, points_of, ranges_of, refl}
-use Rattle.county_chart.proofs.Common.{reverse, true, turned_if, turned_ranges, ◌≡◌}
+use Rattle.county_chart.proofs.Common.{Bool, Chain, None, Option, Some, cond, false, feats_of, map, option_map, points_of, ranges_of, refl, reverse, true, turned_if, turned_ranges, ◌≡◌}
 
 pub points_turned : (turned : Bool) (o : Option Chain) → points_of (option_map (turned_if turned) o) ≡ cond turned (reverse (points_of o)) (points_of o)
 points_turned true None = refl

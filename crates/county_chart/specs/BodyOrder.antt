@@ -1,8 +1,13 @@
 -- The orders of names, of landmarks and of a landmark's polygons, field by field; bytes are ordered as numbers.
 use Rattle.std.specs.Prelude.{List, Option, option_to_list, ℕ}
-use Rattle.std.specs.{Cmp.Lexicographic.slice_cmp, Ordering.nat_cmp, Ordering.ordering_then, declared.cmp.Ordering.Ordering}
-use Rattle.tl_layout.specs.{Coordinates.Coordinates, Fields.Fields7, Fields.Fields8, declared.name.FeatureName.FeatureName}
-use Rattle.tl_layout.specs.{declared.type5.Body5.Body5, declared.type7.Body7.Body7}
+use Rattle.std.specs.Cmp.Lexicographic.{slice_cmp}
+use Rattle.std.specs.Ordering.{nat_cmp, ordering_then}
+use Rattle.std.specs.declared.cmp.Ordering.{Ordering}
+use Rattle.tl_layout.specs.Coordinates.{Coordinates}
+use Rattle.tl_layout.specs.Fields.{Fields7, Fields8}
+use Rattle.tl_layout.specs.declared.name.FeatureName.{FeatureName}
+use Rattle.tl_layout.specs.declared.type5.Body5.{Body5}
+use Rattle.tl_layout.specs.declared.type7.Body7.{Body7}
 use Rattle.tl_shape.specs.PointOrder.{points_cmp}
 
 -- bytes: the first difference decides, and a list that ends first comes first

@@ -1,11 +1,18 @@
 -- The part of a county at a place of its ascending lists, or under a number.
 use Rattle.std.specs.Prelude.{List, None, Option, Some, [], slice_get, unwrap_or, ℕ}
 use Rattle.std.specs.Ordering.{nat_cmp}
-use Rattle.tl_layout.specs.{ByType.of_number, Coordinates.Coordinates, Fields.Fields8, PolygonSide.PolygonSide}
-use Rattle.tl_layout.specs.{declared.ranges.Ranges.Ranges, declared.type5.Body5.Body5, declared.type7.Body7.Body7}
+use Rattle.tl_layout.specs.ByType.{of_number}
+use Rattle.tl_layout.specs.Coordinates.{Coordinates}
+use Rattle.tl_layout.specs.Fields.{Fields8}
+use Rattle.tl_layout.specs.PolygonSide.{PolygonSide}
+use Rattle.tl_layout.specs.declared.ranges.Ranges.{Ranges}
+use Rattle.tl_layout.specs.declared.type5.Body5.{Body5}
+use Rattle.tl_layout.specs.declared.type7.Body7.{Body7}
 use Rattle.tl_layout.specs.declared.type_p.BodyP.{BodyP}
 use Rattle.tl_shape.specs.Chain.{Chain}
-use Rattle.county_chart.specs.{County.County, County.eight_land, CountyRules.lands, PolygonKeys.PolygonKey, PolygonKeys.key_cmp}
+use Rattle.county_chart.specs.County.{County, eight_land}
+use Rattle.county_chart.specs.CountyRules.{lands}
+use Rattle.county_chart.specs.PolygonKeys.{PolygonKey, key_cmp}
 use Rattle.ordered_lists.specs.Entries.{entry_values, value_under}
 
 -- the chain at a place

@@ -1,10 +1,13 @@
 -- The choices that the shapes of a county leave open: the order of several chains with the same shape, and the direction of a
 -- chain that is the same from both ends.
 use Rattle.std.specs.Prelude.{Bool, List, [], cond, false, filter, length, map, min, not, reverse, suc, zero, ℕ, ◌&&◌, ◌*◌, ◌==◌, ◌^◌, ◌∷◌}
-use Rattle.std.specs.{Ordering.is_eq, declared.cmp.Ordering.Ordering}
+use Rattle.std.specs.Ordering.{is_eq}
+use Rattle.std.specs.declared.cmp.Ordering.{Ordering}
 use Rattle.tl_layout.specs.Coordinates.{Coordinates}
 use Rattle.tl_shape.specs.PointOrder.{points_cmp}
-use Rattle.county_chart.specs.{County.County, Shapes.least_points, declared.open_place.OpenPlace.OpenPlace}
+use Rattle.county_chart.specs.County.{County}
+use Rattle.county_chart.specs.Shapes.{least_points}
+use Rattle.county_chart.specs.declared.open_place.OpenPlace.{OpenPlace}
 use Rattle.ordered_lists.specs.Orders.{distinct, times}
 
 -- 1 times 2 times 3 and so on, up to the number; 1 for 0

@@ -3,8 +3,13 @@ use Rattle.std.specs.Prelude.{List, None, Option, Some, [], filter, flat_map, ma
 use Rattle.std.specs.Ordering.{is_eq, nat_cmp, on}
 use Rattle.tl_layout.specs.Fields.{Fields1, Fields2, Fields4, Fields5, Fields6, Fields7, Fields8, FieldsI, FieldsP}
 use Rattle.tl_layout.specs.RecordTypes.{Type1, Type2, Type4, Type5, Type6, Type7, Type8, TypeI, TypeP, of_type}
-use Rattle.tl_layout.specs.{ByType.of_number, Coordinates.Coordinates, declared.ranges.Ranges.Ranges, declared.record_type.Record.Record}
-use Rattle.tl_layout.specs.{declared.type5.Body5.Body5, declared.type7.Body7.Body7, declared.type_p.BodyP.BodyP}
+use Rattle.tl_layout.specs.ByType.{of_number}
+use Rattle.tl_layout.specs.Coordinates.{Coordinates}
+use Rattle.tl_layout.specs.declared.ranges.Ranges.{Ranges}
+use Rattle.tl_layout.specs.declared.record_type.Record.{Record}
+use Rattle.tl_layout.specs.declared.type5.Body5.{Body5}
+use Rattle.tl_layout.specs.declared.type7.Body7.{Body7}
+use Rattle.tl_layout.specs.declared.type_p.BodyP.{BodyP}
 use Rattle.county_chart.specs.BodyOrder.{landmark_body_cmp, link_cmp}
 use Rattle.county_chart.specs.PolygonKeys.{PolygonKey, key_cmp, key_on}
 use Rattle.tl_shape.specs.Chain.{Chain}

@@ -2,7 +2,10 @@
 use Rattle.std.specs.Prelude.{List, [], ℕ, ◌∷◌}
 use Rattle.std.specs.declared.cmp.Ordering.{Ordering}
 use Rattle.std.proofs.Props.{props}
-use Rattle.county_chart.specs.{County.County, CountyRules.IsCounty, LandmarkParts.LandmarkParts, StoredCounty.LinksUnderLands}
+use Rattle.county_chart.specs.County.{County}
+use Rattle.county_chart.specs.CountyRules.{IsCounty}
+use Rattle.county_chart.specs.LandmarkParts.{LandmarkParts}
+use Rattle.county_chart.specs.StoredCounty.{LinksUnderLands}
 use Rattle.ordered_lists.specs.Orders.{IsInOrder}
 
 pub IsInOrder-prop : {X : Type 0} (cmp : X → X → Ordering) (xs : List X) → IsProp (IsInOrder cmp xs)

@@ -1,10 +1,13 @@
 -- The rules that hold for the county of each linked list of records: its numbers ascend, and each number that it names exists.
 use Rattle.std.specs.Prelude.{Bool, IsTrue, List, flat_map, is_some, length, map, not, option_to_list, ℕ, ◌&&◌, ◌++◌, ◌||◌, ◌≤◌}
-use Rattle.std.specs.{List.AllByRecursion, List.Sorted.IsStrictlySortedBy, List.list_any, Ordering.is_eq, Ordering.nat_cmp}
+use Rattle.std.specs.List.{AllByRecursion, list_any}
+use Rattle.std.specs.List.Sorted.{IsStrictlySortedBy}
+use Rattle.std.specs.Ordering.{is_eq, nat_cmp}
 use Rattle.county_chart.specs.PolygonKeys.{PolygonKey, key_cmp, key_on}
-use Rattle.county_chart.specs.{BodyOrder.landmark_body_cmp, BodyOrder.link_cmp, County.County, County.link_key}
+use Rattle.county_chart.specs.BodyOrder.{landmark_body_cmp, link_cmp}
+use Rattle.county_chart.specs.County.{County, link_key}
 use Rattle.tl_shape.specs.Chain.{Chain}
-use Rattle.ordered_lists.specs.Orders.{IsInOrder, distinct, contains}
+use Rattle.ordered_lists.specs.Orders.{IsInOrder, contains, distinct}
 
 -- the county's TLIDs, FEATs, polygons and LANDs, each in order
 abbrev pub tlids : County → List ℕ

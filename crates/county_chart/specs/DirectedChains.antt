@@ -1,7 +1,10 @@
 -- Chains of a county, read from either end.
 use Rattle.std.specs.Prelude.{Bool, Option, option_map, ℕ}
-use Rattle.tl_shape.specs.{Chain.Chain, Turned.turned_if}
-use Rattle.county_chart.specs.{ChartWords.chain_at, County.County, declared.directed_chain.DirectedChain.DirectedChain}
+use Rattle.tl_shape.specs.Chain.{Chain}
+use Rattle.tl_shape.specs.Turned.{turned_if}
+use Rattle.county_chart.specs.ChartWords.{chain_at}
+use Rattle.county_chart.specs.County.{County}
+use Rattle.county_chart.specs.declared.directed_chain.DirectedChain.{DirectedChain}
 
 -- the chain at a place, which may be turned
 abbrev pub chain_towards : County → ℕ → Bool → Option Chain

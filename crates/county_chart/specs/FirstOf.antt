@@ -1,6 +1,8 @@
 -- The first of the faults of a value, in the order of their places.
 use Rattle.std.specs.Prelude.{Bool, List, false, true, ℕ, ◌≡◌}
-use Rattle.std.specs.{Cmp.Lexicographic.slice_cmp, Ordering.is_gt, Ordering.nat_cmp, declared.cmp.Ordering.Ordering}
+use Rattle.std.specs.Cmp.Lexicographic.{slice_cmp}
+use Rattle.std.specs.Ordering.{is_gt, nat_cmp}
+use Rattle.std.specs.declared.cmp.Ordering.{Ordering}
 
 -- places, compared by their first difference
 abbrev pub place_cmp : List (List ℕ) → List (List ℕ) → Ordering

@@ -1,5 +1,5 @@
 -- Lists that are stored one after the other in one list, and the ranges that cut them out.
-use Rattle.std.specs.Prelude.{ℕ, ◌≤◌, List, map, slice_range}
+use Rattle.std.specs.Prelude.{List, map, slice_range, ℕ, ◌≤◌}
 use Rattle.std.specs.List.{AllByRecursion}
 
 -- the piece of the list for each range, from its first place up to its second

@@ -2,13 +2,24 @@
 use Rattle.std.specs.Prelude.{All, IfSome, List, None, length, ℕ, ◌≤◌}
 use Rattle.std.specs.List.{AllByRecursion}
 use Rattle.tl_layout.specs.RecordTypes.{FitsFields, Type5, Type7, TypeI, TypeP}
-use Rattle.tl_layout.specs.{AddressRanges.FitsRanges, Bytes.IsText, Coordinates.IsOnMap, Fields.Fields8, Limits.IsWithinLimit}
-use Rattle.tl_layout.specs.{Numbers.IsNumber, Numbers.IsNumberOrNone, RecordText.FitsRecord, Tables.HoldsByType, Type1Groups.FitsBody1}
-use Rattle.tl_layout.specs.{declared.record_type.Record.Record, declared.tables.Tables.Tables, declared.type5.Body5.Body5}
-use Rattle.tl_layout.specs.{declared.type7.Body7.Body7, declared.type_i.BodyI.BodyI, declared.type_p.BodyP.BodyP}
+use Rattle.tl_layout.specs.AddressRanges.{FitsRanges}
+use Rattle.tl_layout.specs.Bytes.{IsText}
+use Rattle.tl_layout.specs.Coordinates.{IsOnMap}
+use Rattle.tl_layout.specs.Fields.{Fields8}
+use Rattle.tl_layout.specs.Limits.{IsWithinLimit, most_records}
+use Rattle.tl_layout.specs.Numbers.{IsNumber, IsNumberOrNone}
+use Rattle.tl_layout.specs.RecordText.{FitsRecord}
+use Rattle.tl_layout.specs.Tables.{HoldsByType}
+use Rattle.tl_layout.specs.Type1Groups.{FitsBody1}
+use Rattle.tl_layout.specs.declared.record_type.Record.{Record}
+use Rattle.tl_layout.specs.declared.tables.Tables.{Tables}
+use Rattle.tl_layout.specs.declared.type5.Body5.{Body5}
+use Rattle.tl_layout.specs.declared.type7.Body7.{Body7}
+use Rattle.tl_layout.specs.declared.type_i.BodyI.{BodyI}
+use Rattle.tl_layout.specs.declared.type_p.BodyP.{BodyP}
 use Rattle.tl_shape.specs.Chain.{Chain}
-use Rattle.county_chart.specs.{County.County, Packing.inner_points, Packing.packed}
-pub use Rattle.tl_layout.specs.Limits.{most_records}
+use Rattle.county_chart.specs.County.{County}
+use Rattle.county_chart.specs.Packing.{inner_points, packed}
 
 -- the greatest RTSQ, so also the most records of each of the types 2, 4 and 6 that a chain can have
 abbrev pub greatest_rtsq : ℕ

@@ -1,11 +1,12 @@
 -- The fact that a county is within its limits has at most one proof.
 use Rattle.std.specs.Prelude.{List, ℕ}
 use Rattle.std.proofs.Props.{props}
-use Rattle.tl_layout.specs.ColumnTable.{Filler, FitsValue, Kind, Number, NumberOrNone, NumberPlaces, Opaque, Pair, PairOrNone, PointPlaces}
-use Rattle.tl_layout.specs.ColumnTable.{ValueOf}
+use Rattle.tl_layout.specs.ColumnTable.{Filler, FitsValue, Kind, Number, NumberOrNone, NumberPlaces, Opaque, Pair, PairOrNone, PointPlaces, ValueOf}
 use Rattle.tl_layout.specs.RecordTypes.{FitsFields, Type5, Type7, TypeI, TypeP}
-use Rattle.tl_layout.specs.{Bytes.AreAllowed, Fields.Fields5, Fields.Fields7, Fields.FieldsI, Fields.FieldsP}
-use Rattle.county_chart.specs.{County.County, Limits.IsWithinLimits}
+use Rattle.tl_layout.specs.Bytes.{AreAllowed}
+use Rattle.tl_layout.specs.Fields.{Fields5, Fields7, FieldsI, FieldsP}
+use Rattle.county_chart.specs.County.{County}
+use Rattle.county_chart.specs.Limits.{IsWithinLimits}
 
 AreAllowed-prop : (bytes : List ℕ) → IsProp (AreAllowed bytes)
 unfolding AreAllowed

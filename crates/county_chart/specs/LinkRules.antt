@@ -3,14 +3,18 @@
 use Rattle.std.specs.Prelude.{Bool, List, [], false, flat_map, map, nat_lt, not, ℕ, ◌&&◌, ◌++◌, ◌∷◌, ◌≡◌}
 use Rattle.std.specs.Ordering.{nat_cmp}
 use Rattle.tl_layout.specs.RecordTypes.{Type1, Type2, Type4, Type5, Type6, Type7, Type8, TypeI, TypeP, of_type}
-use Rattle.tl_layout.specs.{ByType.of_number, declared.record_type.Record.Record}
-use Rattle.county_chart.specs.declared.fault.LinkFault.TheVariants.{ChainTwice, LandUnknown, LinkMissing, LinkTwice, Memory, NameTwice}
-use Rattle.county_chart.specs.declared.fault.LinkFault.TheVariants.{NameUnknown, NoChain, PolygonTwice, PolygonUnknown, SequenceBroken}
+use Rattle.tl_layout.specs.ByType.{of_number}
+use Rattle.tl_layout.specs.declared.record_type.Record.{Record}
+use Rattle.county_chart.specs.declared.fault.LinkFault.TheVariants.{ChainTwice, LandUnknown, LinkMissing, LinkTwice, Memory, NameTwice, NameUnknown, NoChain, PolygonTwice, PolygonUnknown, SequenceBroken}
 use Rattle.county_chart.specs.declared.fault.LinkedType.TheVariants.{Four, I, Six, Two}
 use Rattle.county_chart.specs.County.{link_key, p_key, side_keys}
-use Rattle.county_chart.specs.{FirstOf.IsFirst, LinkedTypes.linked_type, PolygonKeys.key_cmp, declared.fault.LinkFault.LinkFault}
-use Rattle.county_chart.specs.{declared.fault.LinkedType.LinkedType, declared.fault.SequencedType.SequencedType}
-use Rattle.ordered_lists.specs.Orders.{has_repeat, contains, times}
+use Rattle.county_chart.specs.FirstOf.{IsFirst}
+use Rattle.county_chart.specs.LinkedTypes.{linked_type}
+use Rattle.county_chart.specs.PolygonKeys.{key_cmp}
+use Rattle.county_chart.specs.declared.fault.LinkFault.{LinkFault}
+use Rattle.county_chart.specs.declared.fault.LinkedType.{LinkedType}
+use Rattle.county_chart.specs.declared.fault.SequencedType.{SequencedType}
+use Rattle.ordered_lists.specs.Orders.{contains, has_repeat, times}
 use Rattle.county_chart.specs.declared.fault.SequencedType.TheVariants as sequenced
 
 -- the TLIDs of the type 1 records

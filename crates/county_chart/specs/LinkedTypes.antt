@@ -1,7 +1,8 @@
 -- The record types that belong to a chain.
 use Rattle.std.specs.Prelude.{ℕ}
 use Rattle.county_chart.specs.declared.fault.LinkedType.TheVariants.{Four, I, Six, Two}
-use Rattle.county_chart.specs.{declared.fault.LinkedType.LinkedType, declared.fault.SequencedType.SequencedType}
+use Rattle.county_chart.specs.declared.fault.LinkedType.{LinkedType}
+use Rattle.county_chart.specs.declared.fault.SequencedType.{SequencedType}
 use Rattle.county_chart.specs.declared.fault.SequencedType.TheVariants as sequenced
 
 -- The byte in column 1 of a record type's lines: the character 2, 4, 6 or I.

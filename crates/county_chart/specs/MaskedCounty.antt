@@ -1,10 +1,13 @@
 -- A county under a mask: the map without the fields that the mask leaves out.
 use Rattle.std.specs.Prelude.{List, cond, map}
 use Rattle.tl_layout.specs.Masked.{masked_body_1, masked_body_7, masked_body_i}
-use Rattle.tl_layout.specs.{declared.mask.Mask.Mask, declared.type7.Body7.Body7}
+use Rattle.tl_layout.specs.declared.mask.Mask.{Mask}
+use Rattle.tl_layout.specs.declared.type7.Body7.{Body7}
 use Rattle.tl_shape.specs.Chain.{Chain}
-use Rattle.county_chart.specs.{BodyOrder.landmark_body_cmp, County.County}
-use Rattle.ordered_lists.specs.{Entries.map_values, Orders.in_order}
+use Rattle.county_chart.specs.BodyOrder.{landmark_body_cmp}
+use Rattle.county_chart.specs.County.{County}
+use Rattle.ordered_lists.specs.Entries.{map_values}
+use Rattle.ordered_lists.specs.Orders.{in_order}
 
 -- the chain with the contents of its records of types 1 and I under the mask
 abbrev pub masked_chain : Mask → Chain → Chain

@@ -4,10 +4,14 @@ use Rattle.std.specs.Ordering.{nat_cmp, on}
 use Rattle.tl_layout.specs.Fields.{Fields1, Fields2, Fields4, Fields5, Fields6, Fields7, Fields8, FieldsI, FieldsP}
 use Rattle.tl_layout.specs.declared.record_type.Record.TheVariants.{Eight, Five, Four, I, One, P, Seven, Six, Two}
 use Rattle.tl_layout.specs.ByType.{of_type_1, of_type_2, of_type_4, of_type_5, of_type_6, of_type_7, of_type_8, of_type_i, of_type_p}
-use Rattle.tl_layout.specs.{Coordinates.Coordinates, declared.record_type.Record.Record, declared.type5.Body5.Body5}
-use Rattle.tl_layout.specs.{declared.type7.Body7.Body7, declared.type_p.BodyP.BodyP}
+use Rattle.tl_layout.specs.Coordinates.{Coordinates}
+use Rattle.tl_layout.specs.declared.record_type.Record.{Record}
+use Rattle.tl_layout.specs.declared.type5.Body5.{Body5}
+use Rattle.tl_layout.specs.declared.type7.Body7.{Body7}
+use Rattle.tl_layout.specs.declared.type_p.BodyP.{BodyP}
 use Rattle.tl_shape.specs.Chain.{Chain}
-use Rattle.county_chart.specs.{County.County, PolygonKeys.PolygonKey}
+use Rattle.county_chart.specs.County.{County}
+use Rattle.county_chart.specs.PolygonKeys.{PolygonKey}
 use Rattle.ordered_lists.specs.Orders.{in_order}
 
 -- the list in pieces of n, the last one with the rest; at most `most` pieces are made

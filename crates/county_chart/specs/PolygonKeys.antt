@@ -1,6 +1,8 @@
 -- The key of a polygon: a CENID with a POLYID.
 use Rattle.std.specs.Prelude.{List, None, Option, Some, [], ℕ, ◌∷◌}
-use Rattle.std.specs.{Cmp.Lexicographic.slice_cmp, Ordering.nat_cmp, Ordering.ordering_then, declared.cmp.Ordering.Ordering}
+use Rattle.std.specs.Cmp.Lexicographic.{slice_cmp}
+use Rattle.std.specs.Ordering.{nat_cmp, ordering_then}
+use Rattle.std.specs.declared.cmp.Ordering.{Ordering}
 use Rattle.tl_layout.specs.PolygonSide.{PolygonSide}
 
 -- a CENID and a POLYID

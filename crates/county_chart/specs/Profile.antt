@@ -1,8 +1,12 @@
 -- The profile of a county, and which clause of it a county breaks.
 use Rattle.std.specs.Prelude.{Bool, List, [], false, nat_lt, ℕ, ◌∷◌, ◌≡◌}
 use Rattle.county_chart.specs.declared.profile_fault.ProfileFault.TheVariants.{Memory, PolygonWithoutChain, TooSymmetric}
-use Rattle.county_chart.specs.{Choices.choices, Choices.most_choices, County.County, CountyRules.is_without_chain, FirstOf.IsFirst}
-use Rattle.county_chart.specs.{PolygonKeys.PolygonKey, declared.profile_fault.ProfileFault.ProfileFault}
+use Rattle.county_chart.specs.Choices.{choices, most_choices}
+use Rattle.county_chart.specs.County.{County}
+use Rattle.county_chart.specs.CountyRules.{is_without_chain}
+use Rattle.county_chart.specs.FirstOf.{IsFirst}
+use Rattle.county_chart.specs.PolygonKeys.{PolygonKey}
+use Rattle.county_chart.specs.declared.profile_fault.ProfileFault.{ProfileFault}
 
 -- whether a clause of the profile is broken at a place
 abbrev pub is_clause_broken : County → ProfileFault → Bool

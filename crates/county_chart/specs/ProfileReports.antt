@@ -1,6 +1,7 @@
 -- How faults of admission are reported.
-use Rattle.fault_report.specs.{Reports.at_two, Reports.bare, declared.report.FaultPlace.TheVariants.Cenid}
-use Rattle.fault_report.specs.{declared.report.FaultPlace.TheVariants.Number, declared.report.FaultReport.FaultReport}
+use Rattle.fault_report.specs.Reports.{at_two, bare}
+use Rattle.fault_report.specs.declared.report.FaultPlace.TheVariants.{Cenid, Number}
+use Rattle.fault_report.specs.declared.report.FaultReport.{FaultReport}
 use Rattle.county_chart.specs.declared.profile_fault.ProfileFault.{ProfileFault}
 use Rattle.county_chart.specs.declared.profile_fault.ProfileFault.TheVariants.{Memory, PolygonWithoutChain, TooSymmetric}
 use Rattle.fault_report.specs.declared.kind.FaultKind.TheVariants as kind

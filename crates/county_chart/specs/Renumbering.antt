@@ -1,12 +1,18 @@
 -- Renamings of a county's numbers, and the county that each carries a county onto.
 use Rattle.std.specs.Prelude.{Bool, IsPermutation, IsTrue, List, None, Option, Some, [], cond, false, filter, map, not, option_map, ℕ, ◌≡◌}
-use Rattle.std.specs.{List.AllByRecursion, Ordering.nat_cmp}
-use Rattle.tl_layout.specs.{Fields.Fields8, PolygonSide.PolygonSide, declared.type5.Body5.Body5, declared.type7.Body7.Body7}
-use Rattle.tl_layout.specs.{declared.type_p.BodyP.BodyP}
-use Rattle.tl_shape.specs.{Chain.Chain, Turned.turned_if}
+use Rattle.std.specs.List.{AllByRecursion}
+use Rattle.std.specs.Ordering.{nat_cmp}
+use Rattle.tl_layout.specs.Fields.{Fields8}
+use Rattle.tl_layout.specs.PolygonSide.{PolygonSide}
+use Rattle.tl_layout.specs.declared.type5.Body5.{Body5}
+use Rattle.tl_layout.specs.declared.type7.Body7.{Body7}
+use Rattle.tl_layout.specs.declared.type_p.BodyP.{BodyP}
+use Rattle.tl_shape.specs.Chain.{Chain}
+use Rattle.tl_shape.specs.Turned.{turned_if}
 use Rattle.county_chart.specs.CountyRules.{feats, lands, nodes, polygon_keys, tlids}
-use Rattle.county_chart.specs.{County.County, County.link_key, PolygonKeys.PolygonKey, PolygonKeys.key_cmp}
-use Rattle.ordered_lists.specs.Orders.{has_repeat, contains}
+use Rattle.county_chart.specs.County.{County, link_key}
+use Rattle.county_chart.specs.PolygonKeys.{PolygonKey, key_cmp}
+use Rattle.ordered_lists.specs.Orders.{contains, has_repeat}
 use Rattle.ordered_lists.specs.Pairs.{ArePaired, composed, image, is_named, swapped, to_itself}
 
 -- Each old number with its new one, kind by kind, and the old TLIDs of the chains that are turned.

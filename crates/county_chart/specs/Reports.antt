@@ -2,11 +2,12 @@
 use Rattle.std.specs.Prelude.{List, ℕ}
 use Rattle.fault_report.specs.Reports.{at, at_two, bare}
 use Rattle.fault_report.specs.declared.report.FaultPlace.TheVariants.{Cenid, Number, RecordType}
-use Rattle.fault_report.specs.{declared.kind.FaultKind.FaultKind, declared.report.FaultReport.FaultReport}
+use Rattle.fault_report.specs.declared.kind.FaultKind.{FaultKind}
+use Rattle.fault_report.specs.declared.report.FaultReport.{FaultReport}
 use Rattle.county_chart.specs.LinkedTypes.{byte_of, linked_type}
-use Rattle.county_chart.specs.declared.fault.LinkFault.TheVariants.{ChainTwice, LandUnknown, LinkMissing, LinkTwice, Memory, NameTwice}
-use Rattle.county_chart.specs.declared.fault.LinkFault.TheVariants.{NameUnknown, NoChain, PolygonTwice, PolygonUnknown, SequenceBroken}
-use Rattle.county_chart.specs.{declared.fault.LinkFault.LinkFault, declared.fault.LinkedType.LinkedType}
+use Rattle.county_chart.specs.declared.fault.LinkFault.TheVariants.{ChainTwice, LandUnknown, LinkMissing, LinkTwice, Memory, NameTwice, NameUnknown, NoChain, PolygonTwice, PolygonUnknown, SequenceBroken}
+use Rattle.county_chart.specs.declared.fault.LinkFault.{LinkFault}
+use Rattle.county_chart.specs.declared.fault.LinkedType.{LinkedType}
 use Rattle.fault_report.specs.declared.kind.FaultKind.TheVariants as kind
 
 -- A fault whose places are a record type and a TLID.

@@ -1,7 +1,7 @@
 -- Two chains compared part by part. There may be no chain: chains that both aren't there have the same parts.
-use Rattle.std.specs.Prelude.{◌≡◌, Option, option_map}
+use Rattle.std.specs.Prelude.{Option, option_map, ◌≡◌}
 use Rattle.tl_shape.specs.Chain.{Chain}
-use Rattle.county_chart.specs.ChartWords.{points_of, feats_of, ranges_of}
+use Rattle.county_chart.specs.ChartWords.{feats_of, points_of, ranges_of}
 
 -- two chains, or none, have the same content in their records of types 1 and I
 pub record HaveSameContent (o p : Option Chain) : Type 0 where

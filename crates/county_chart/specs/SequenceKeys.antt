@@ -1,7 +1,9 @@
 -- The keys that put records of one type in order.
 use Rattle.std.specs.Prelude.{Bool, List, Option, map, not, ℕ, ◌&&◌}
-use Rattle.std.specs.{Ordering.nat_cmp, Ordering.ordering_then, declared.cmp.Ordering.Ordering}
-use Rattle.tl_layout.specs.{Coordinates.Coordinates, Fields.Fields2, Fields.Fields4, Fields.Fields6, Fields.Fields7, Fields.Fields8}
+use Rattle.std.specs.Ordering.{nat_cmp, ordering_then}
+use Rattle.std.specs.declared.cmp.Ordering.{Ordering}
+use Rattle.tl_layout.specs.Coordinates.{Coordinates}
+use Rattle.tl_layout.specs.Fields.{Fields2, Fields4, Fields6, Fields7, Fields8}
 use Rattle.ordered_lists.specs.Orders.{contains}
 
 -- the TLID, then the RTSQ

@@ -1,11 +1,17 @@
 -- The order of a county's chains by their shapes.
 use Rattle.std.specs.Prelude.{IsPermutation, List, length, map, reverse, ℕ, ◌≡◌, ◌≤◌}
-use Rattle.std.specs.{List.range_with_len, Ordering.is_lt, Ordering.nat_cmp, Ordering.ordering_then, declared.cmp.Ordering.Ordering}
+use Rattle.std.specs.List.{range_with_len}
+use Rattle.std.specs.Ordering.{is_lt, nat_cmp, ordering_then}
+use Rattle.std.specs.declared.cmp.Ordering.{Ordering}
 use Rattle.tl_layout.specs.Coordinates.{Coordinates}
 use Rattle.tl_shape.specs.PointOrder.{points_cmp}
 use Rattle.county_chart.specs.Choices.{choices, counted_choices, is_either_way, most_choices, open_places}
-use Rattle.county_chart.specs.{ChartWords.points_of, County.County, DirectedChains.directed_chain, Shapes.points_at}
-use Rattle.county_chart.specs.{declared.directed_chain.DirectedChain.DirectedChain, declared.open_place.OpenPlace.OpenPlace}
+use Rattle.county_chart.specs.ChartWords.{points_of}
+use Rattle.county_chart.specs.County.{County}
+use Rattle.county_chart.specs.DirectedChains.{directed_chain}
+use Rattle.county_chart.specs.Shapes.{points_at}
+use Rattle.county_chart.specs.declared.directed_chain.DirectedChain.{DirectedChain}
+use Rattle.county_chart.specs.declared.open_place.OpenPlace.{OpenPlace}
 use Rattle.ordered_lists.specs.Orders.{IsInOrder}
 
 -- the points of a directed chain

@@ -1,8 +1,10 @@
 -- The shapes of chains: a chain's points or their reverse, whichever is less.
-use Rattle.std.specs.{Ordering.is_lt, Prelude.Bool, Prelude.List, Prelude.cond, Prelude.reverse, Prelude.ℕ}
+use Rattle.std.specs.Ordering.{is_lt}
+use Rattle.std.specs.Prelude.{Bool, List, cond, reverse, ℕ}
 use Rattle.tl_layout.specs.Coordinates.{Coordinates}
 use Rattle.tl_shape.specs.PointOrder.{points_cmp}
-use Rattle.county_chart.specs.{ChartWords.chain_at, ChartWords.points_of, County.County}
+use Rattle.county_chart.specs.ChartWords.{chain_at, points_of}
+use Rattle.county_chart.specs.County.{County}
 
 -- the points in their own direction, or from the other end
 abbrev pub points_from : Bool → List Coordinates → List Coordinates

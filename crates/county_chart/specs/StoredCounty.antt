@@ -1,9 +1,13 @@
 -- The county that stored tables hold.
 use Rattle.std.specs.Prelude.{List, Option, flat_map, map, ℕ, ◌≡◌}
 use Rattle.std.specs.List.{AllByRecursion}
-use Rattle.tl_layout.specs.{declared.type5.Body5.Body5, declared.type7.Body7.Body7, declared.type_p.BodyP.BodyP}
+use Rattle.tl_layout.specs.declared.type5.Body5.{Body5}
+use Rattle.tl_layout.specs.declared.type7.Body7.{Body7}
+use Rattle.tl_layout.specs.declared.type_p.BodyP.{BodyP}
 use Rattle.tl_shape.specs.Chain.{Chain}
-use Rattle.county_chart.specs.{County.County, LandmarkParts.LandmarkParts, PolygonKeys.PolygonKey}
+use Rattle.county_chart.specs.County.{County}
+use Rattle.county_chart.specs.LandmarkParts.{LandmarkParts}
+use Rattle.county_chart.specs.PolygonKeys.{PolygonKey}
 
 -- a landmark's entry in a county
 abbrev pub landmark_entry : ℕ × LandmarkParts → ℕ × List Body7

@@ -1,13 +1,18 @@
 //! Read access to a county, whatever its storage.
 
 ghost use Rattle.std.specs.Prelude.{IfSome, Some, false, is_some, length, option_map, slice_get, take, true, ◌<◌, ◌≡◌, ◌≤◌};
-ghost use Rattle.std.specs.{Option.option_and_then, Ordering.nat_cmp};
-ghost use Rattle.county_chart.specs.ChartWords.{bodies_at, bodies_under, chain_at, chain_under, ends_of, feats_of, links_at, links_under};
-ghost use Rattle.county_chart.specs.ChartWords.{name_at, name_under, points_of, polygon_at, polygon_under, ranges_of, sides_of};
+ghost use Rattle.std.specs.Option.{option_and_then};
+ghost use Rattle.std.specs.Ordering.{nat_cmp};
+ghost use Rattle.county_chart.specs.ChartWords.{bodies_at, bodies_under, chain_at, chain_under, ends_of, feats_of, links_at, links_under, name_at, name_under, points_of, polygon_at, polygon_under, ranges_of, sides_of};
 ghost use Rattle.county_chart.specs.CountyRules.{IsCounty, feats, lands, nodes, polygon_keys, tlids};
-ghost use Rattle.county_chart.specs.{County.County, Limits.IsWithinLimits, Limits.most_records, PolygonKeys.key_cmp};
+ghost use Rattle.county_chart.specs.County.{County};
+ghost use Rattle.county_chart.specs.Limits.{IsWithinLimits};
+ghost use Rattle.tl_layout.specs.Limits.{most_records};
+ghost use Rattle.county_chart.specs.PolygonKeys.{key_cmp};
 ghost use Rattle.ordered_lists.specs.Orders.{contains};
-ghost use Rattle.tl_layout.specs.{Columns.joined, Turned.body_towards, Type1Groups.body_1_texts};
+ghost use Rattle.tl_layout.specs.Columns.{joined};
+ghost use Rattle.tl_layout.specs.Turned.{body_towards};
+ghost use Rattle.tl_layout.specs.Type1Groups.{body_1_texts};
 
 use crate::keys::record_keys::PolygonKey;
 use tl_layout::{Body1, Body5, Body7, BodyI, BodyP, Point, Ranges, Rec8, Side};

@@ -1,8 +1,11 @@
 //! Chains read from either end.
 
 ghost use Rattle.std.specs.Prelude.{Some, length, option_map, take, ◌<◌, ◌≡◌, ◌≤◌};
-ghost use Rattle.county_chart.specs.{ChartWords.feats_of, ChartWords.points_of, ChartWords.ranges_of, DirectedChains.directed_chain};
-ghost use Rattle.tl_layout.specs.{Columns.joined, Turned.body_towards, Type1Groups.body_1_texts};
+ghost use Rattle.county_chart.specs.ChartWords.{feats_of, points_of, ranges_of};
+ghost use Rattle.county_chart.specs.DirectedChains.{directed_chain};
+ghost use Rattle.tl_layout.specs.Columns.{joined};
+ghost use Rattle.tl_layout.specs.Turned.{body_towards};
+ghost use Rattle.tl_layout.specs.Type1Groups.{body_1_texts};
 
 use crate::chart::Chart;
 use crate::listed::{Listed, Same};
@@ -150,7 +153,8 @@ pub struct ChainPoints<'a, C> {
 }
 
 impl<'a, C: Chart> Listed for ChainPoints<'a, C> {
-    ghost use Rattle.county_chart.specs.{ChartWords.points_of, DirectedChains.chain_towards};
+    ghost use Rattle.county_chart.specs.ChartWords.{points_of};
+    ghost use Rattle.county_chart.specs.DirectedChains.{chain_towards};
 
     type Item = Point;
 
@@ -181,7 +185,8 @@ pub struct ChainRanges<'a, C> {
 }
 
 impl<'a, C: Chart> Listed for ChainRanges<'a, C> {
-    ghost use Rattle.county_chart.specs.{ChartWords.ranges_of, DirectedChains.chain_towards};
+    ghost use Rattle.county_chart.specs.ChartWords.{ranges_of};
+    ghost use Rattle.county_chart.specs.DirectedChains.{chain_towards};
 
     type Item = Ranges;
 

@@ -1,8 +1,10 @@
 //! How records can fail to fit together.
 
 ghost use Rattle.std.specs.Prelude.{◌≡◌};
-ghost use Rattle.fault_report.specs.{Reports.at, declared.report.FaultPlace.TheVariants.Number};
-ghost use Rattle.county_chart.specs.{LinkedTypes.byte_of, LinkedTypes.linked_type, Reports.at_polygon, Reports.at_type};
+ghost use Rattle.fault_report.specs.Reports.{at};
+ghost use Rattle.fault_report.specs.declared.report.FaultPlace.TheVariants.{Number};
+ghost use Rattle.county_chart.specs.LinkedTypes.{byte_of, linked_type};
+ghost use Rattle.county_chart.specs.Reports.{at_polygon, at_type};
 
 use fault_report::{FaultKind, FaultPlace, FaultReport};
 use std::alloc::{AllocError, AllocFailed};

@@ -1,6 +1,6 @@
 //! Lists that are stored one after the other in one vector.
 
-ghost use Rattle.std.specs.Prelude.{◌≡◌, ◌++◌, [], ◌∷◌, OnOk, slice_get, unwrap_or};
+ghost use Rattle.std.specs.Prelude.{OnOk, [], slice_get, unwrap_or, ◌++◌, ◌∷◌, ◌≡◌};
 
 use std::alloc::{AllocError, Global};
 use std::marker::Model;

@@ -1,7 +1,9 @@
 //! Lists that are read by place: one loop for each question about all items.
 
 ghost use Rattle.std.specs.Prelude.{OnErr, OnOk, take, ℕ, ◌++◌, ◌≡◌};
-ghost use Rattle.std.specs.{Bool.Decides, Cmp.Lexicographic.slice_cmp, List.AllByRecursion};
+ghost use Rattle.std.specs.Bool.{Decides};
+ghost use Rattle.std.specs.Cmp.Lexicographic.{slice_cmp};
+ghost use Rattle.std.specs.List.{AllByRecursion};
 
 use std::alloc::AllocError;
 use std::cmp::Ordering;
@@ -116,7 +118,7 @@ impl<T: Same> Same for Option<T> {
 
 /// A list that is read by place.
 pub trait Listed {
-    ghost use Rattle.std.specs.Prelude.{◌≡◌, ◌<◌, List, Some, length, slice_get};
+    ghost use Rattle.std.specs.Prelude.{List, Some, length, slice_get, ◌<◌, ◌≡◌};
 
     /// An item.
     type Item;
@@ -220,7 +222,7 @@ where
 /// A list whose entries are tested one by one.
 pub trait Tested {
     ghost use Rattle.std.specs.Bool.{Decides};
-    ghost use Rattle.std.specs.Prelude.{◌≡◌, ◌<◌, IfSome, List, length, slice_get};
+    ghost use Rattle.std.specs.Prelude.{IfSome, List, length, slice_get, ◌<◌, ◌≡◌};
 
     /// An entry.
     ghost Entry: { Type 0 };

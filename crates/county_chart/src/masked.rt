@@ -4,8 +4,12 @@
 //! are copied, and only if SOURCE is left out, because SOURCE is one of the fields that they are sorted by.
 
 ghost use Rattle.std.specs.Prelude.{IfErr, IfOk, true, ◌≡◌};
-ghost use Rattle.county_chart.specs.{Laws.MaskedCounties.masked_is_county, Laws.MaskedLimits.masked_within_limits, Limits.most_records};
-ghost use Rattle.county_chart.specs.{MaskedCounty.masked, MaskedProps.MatchesBodies-prop, MaskedTables.MatchesBodies};
+ghost use Rattle.county_chart.specs.Laws.MaskedCounties.{masked_is_county};
+ghost use Rattle.county_chart.specs.Laws.MaskedLimits.{masked_within_limits};
+ghost use Rattle.tl_layout.specs.Limits.{most_records};
+ghost use Rattle.county_chart.specs.MaskedCounty.{masked};
+ghost use Rattle.county_chart.specs.MaskedProps.{MatchesBodies-prop};
+ghost use Rattle.county_chart.specs.MaskedTables.{MatchesBodies};
 
 use crate::chart::Chart;
 use crate::joined_lists::JoinedLists;

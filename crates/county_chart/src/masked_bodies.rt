@@ -1,8 +1,11 @@
 //! The contents of landmarks under a mask, in order again.
 
 ghost use Rattle.std.specs.Prelude.{IfOk, OnOk, map, true, ◌≡◌};
-ghost use Rattle.county_chart.specs.{BodyOrder.landmark_body_cmp, ChartWords.bodies_at, MaskedCounty.masked, MaskedCounty.masked_bodies};
-ghost use Rattle.ordered_lists.specs.{Entries.entry_values, Orders.in_order};
+ghost use Rattle.county_chart.specs.BodyOrder.{landmark_body_cmp};
+ghost use Rattle.county_chart.specs.ChartWords.{bodies_at};
+ghost use Rattle.county_chart.specs.MaskedCounty.{masked, masked_bodies};
+ghost use Rattle.ordered_lists.specs.Entries.{entry_values};
+ghost use Rattle.ordered_lists.specs.Orders.{in_order};
 ghost use Rattle.tl_layout.specs.Masked.{masked_body_7};
 
 use crate::body_order::cmp_landmark_bodies;

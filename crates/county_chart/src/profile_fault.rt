@@ -1,6 +1,6 @@
 //! How a county can be outside the profile.
 
-ghost use Rattle.std.specs.Prelude.{◌≡◌, Some};
+ghost use Rattle.std.specs.Prelude.{Some, ◌≡◌};
 ghost use Rattle.fault_report.specs.Reports.{report_line};
 ghost use Rattle.county_chart.specs.ProfileReports.{profile_report};
 

@@ -1,11 +1,17 @@
 //! A county: chains, names, polygons and landmarks under their numbers, in each of the ways to store them.
 
-ghost use Rattle.std.specs.Prelude.{[], Some, length, option_map, unwrap_or, ◌<◌, ◌≡◌};
-ghost use Rattle.std.specs.{Option.option_and_then, Option.option_copied, Ordering.nat_cmp};
+ghost use Rattle.std.specs.Prelude.{Some, [], length, option_map, unwrap_or, ◌<◌, ◌≡◌};
+ghost use Rattle.std.specs.Option.{option_and_then, option_copied};
+ghost use Rattle.std.specs.Ordering.{nat_cmp};
 ghost use Rattle.county_chart.specs.CountyRules.{IsCounty, feats, lands, nodes as nodes_in_order, polygon_keys, tlids};
-ghost use Rattle.county_chart.specs.{ChartWords.bodies_at, CountyProps.IsCounty-prop, Limits.IsWithinLimits, StoredCounty.county_with};
-ghost use Rattle.county_chart.specs.{ChartWords.chain_at, ChartWords.links_at, County.eight_land, Limits.most_records, PolygonKeys.key_cmp};
-ghost use Rattle.county_chart.specs.{CountyProps.LinksUnderLands-prop, LimitsProps.IsWithinLimits-prop, StoredCounty.LinksUnderLands};
+ghost use Rattle.county_chart.specs.ChartWords.{bodies_at, chain_at, links_at};
+ghost use Rattle.county_chart.specs.CountyProps.{IsCounty-prop, LinksUnderLands-prop};
+ghost use Rattle.county_chart.specs.Limits.{IsWithinLimits};
+ghost use Rattle.county_chart.specs.StoredCounty.{LinksUnderLands, county_with};
+ghost use Rattle.county_chart.specs.County.{eight_land};
+ghost use Rattle.tl_layout.specs.Limits.{most_records};
+ghost use Rattle.county_chart.specs.PolygonKeys.{key_cmp};
+ghost use Rattle.county_chart.specs.LimitsProps.{IsWithinLimits-prop};
 ghost use Rattle.ordered_lists.specs.Entries.{map_values, value_under};
 ghost use Rattle.tl_layout.specs.ByType.{of_number};
 

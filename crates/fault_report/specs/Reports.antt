@@ -2,12 +2,11 @@
 use Rattle.std.specs.Prelude.{List, [], codes, encode_utf8, flat_map, ℕ, ◌++◌, ◌∷◌}
 use Rattle.std.specs.Fmt.{decimal}
 use Rattle.hex.specs.Hex.{encode_lower}
-use Rattle.fault_report.specs.declared.kind.FaultKind.TheVariants.{BadByte, BadNumber, BadPoint, ChainTwice, Device, GapInRecord}
-use Rattle.fault_report.specs.declared.kind.FaultKind.TheVariants.{LandUnknown, LineTooLong, LinkMissing, LinkTwice, Memory, NameTwice}
-use Rattle.fault_report.specs.declared.kind.FaultKind.TheVariants.{NameUnknown, NoChain, PolygonTwice, PolygonUnknown, PolygonWithoutChain}
-use Rattle.fault_report.specs.declared.kind.FaultKind.TheVariants.{SequenceBroken, TooManyRecords, TooSymmetric, UnknownType, WriteFault}
+use Rattle.fault_report.specs.declared.kind.FaultKind.TheVariants.{BadByte, BadNumber, BadPoint, ChainTwice, Device, GapInRecord, LandUnknown, LineTooLong, LinkMissing, LinkTwice, Memory, NameTwice, NameUnknown, NoChain, PolygonTwice, PolygonUnknown, PolygonWithoutChain, SequenceBroken, TooManyRecords, TooSymmetric, UnknownType, WriteFault}
 use Rattle.fault_report.specs.declared.report.FaultPlace.TheVariants.{Cenid, Nowhere, Number, RecordType}
-use Rattle.fault_report.specs.declared.{kind.FaultKind.FaultKind, report.FaultPlace.FaultPlace, report.FaultReport.FaultReport}
+use Rattle.fault_report.specs.declared.kind.FaultKind.{FaultKind}
+use Rattle.fault_report.specs.declared.report.FaultPlace.{FaultPlace}
+use Rattle.fault_report.specs.declared.report.FaultReport.{FaultReport}
 
 -- The number of each refusal.
 abbrev pub refusal_number : FaultKind → ℕ

@@ -1,6 +1,6 @@
 //! The kinds of fault, with the numbers and names of their refusals.
 
-ghost use Rattle.std.specs.Prelude.{◌≡◌, ◌≤◌, length};
+ghost use Rattle.std.specs.Prelude.{length, ◌≡◌, ◌≤◌};
 ghost use Rattle.fault_report.specs.Reports.{refusal_name, refusal_number};
 
 /// Why a set was refused, or a command not finished.

@@ -1,7 +1,7 @@
 //! Lines that report faults. They are made on the stack, by calls that can't fail, so a line is whole before any of it is written.
 
 ghost use Rattle.std.specs.Fmt.{decimal};
-ghost use Rattle.std.specs.Prelude.{◌≡◌, ◌≤◌, ◌+◌, ◌∷◌, ◌++◌, encode_utf8, length};
+ghost use Rattle.std.specs.Prelude.{encode_utf8, length, ◌++◌, ◌+◌, ◌∷◌, ◌≡◌, ◌≤◌};
 ghost use Rattle.hex.specs.Hex.{encode_lower};
 ghost use Rattle.fault_report.specs.Reports.{place_text};
 

@@ -1,6 +1,6 @@
 //! A fault with its places.
 
-ghost use Rattle.std.specs.Prelude.{◌≡◌, ◌≤◌, Some, length};
+ghost use Rattle.std.specs.Prelude.{Some, length, ◌≡◌, ◌≤◌};
 ghost use Rattle.fault_report.specs.Reports.{at, at_three, at_two, bare, report_line};
 
 use crate::kind::FaultKind;

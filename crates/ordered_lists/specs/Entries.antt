@@ -1,6 +1,7 @@
 -- Entries: values under keys.
 use Rattle.std.specs.Prelude.{List, None, Option, Some, [], cond, map, ◌∷◌}
-use Rattle.std.specs.{Ordering.is_eq, declared.cmp.Ordering.Ordering}
+use Rattle.std.specs.Ordering.{is_eq}
+use Rattle.std.specs.declared.cmp.Ordering.{Ordering}
 
 -- the keys of entries, and their values
 abbrev pub entry_keys : {K V : Type 0} → List (K × V) → List K

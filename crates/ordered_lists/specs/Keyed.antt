@@ -1,6 +1,7 @@
 -- Searches over keys: the least key that passes a test.
 use Rattle.std.specs.Prelude.{Bool, List, None, Option, Some, false, nat_lt, not, true, ◌&&◌, ◌≡◌}
-use Rattle.std.specs.{Ordering.is_gt, declared.cmp.Ordering.Ordering}
+use Rattle.std.specs.Ordering.{is_gt}
+use Rattle.std.specs.declared.cmp.Ordering.{Ordering}
 use Rattle.ordered_lists.specs.Orders.{contains, times}
 
 -- the key passes the test and no lesser key does; without a key, no key passes

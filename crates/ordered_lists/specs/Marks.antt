@@ -1,5 +1,5 @@
 -- Marks by number.
-use Rattle.std.specs.Prelude.{◌≡◌, ◌<◌, ℕ, Bool, List, length, Some, slice_get}
+use Rattle.std.specs.Prelude.{Bool, List, Some, length, slice_get, ℕ, ◌<◌, ◌≡◌}
 use Rattle.std.specs.Ordering.{nat_cmp}
 use Rattle.ordered_lists.specs.Orders.{contains}
 

@@ -1,6 +1,7 @@
 -- Pairs of an old key and its new one: the new key of each old one, pairs reversed, and pairs one after other pairs.
 use Rattle.std.specs.Prelude.{Bool, IsPermutation, List, [], cond, filter, map, ◌∷◌}
-use Rattle.std.specs.{Ordering.is_eq, declared.cmp.Ordering.Ordering}
+use Rattle.std.specs.Ordering.{is_eq}
+use Rattle.std.specs.declared.cmp.Ordering.{Ordering}
 use Rattle.ordered_lists.specs.Orders.{contains}
 
 -- the new key of an old one, or the old one itself if no pair names it

@@ -1,5 +1,5 @@
 -- Lists that are read at places.
-use Rattle.std.specs.Prelude.{ℕ, List, filter_map, slice_get}
+use Rattle.std.specs.Prelude.{List, filter_map, slice_get, ℕ}
 
 -- the items at these places of a list; a place past its end has none
 abbrev pub at_places : {X : Type 0} → List X → List ℕ → List X

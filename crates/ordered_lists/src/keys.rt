@@ -1,7 +1,7 @@
 //! Keys in order: sorted, sorted without repetitions, and the place of a key.
 
-ghost use Rattle.ordered_lists.specs.Orders.{IsInOrder, distinct, contains};
-ghost use Rattle.std.specs.Prelude.{◌≡◌, Some, IfSome, IsPermutation, slice_get, is_some};
+ghost use Rattle.ordered_lists.specs.Orders.{IsInOrder, contains, distinct};
+ghost use Rattle.std.specs.Prelude.{IfSome, IsPermutation, Some, is_some, slice_get, ◌≡◌};
 ghost use Rattle.std.specs.declared.cmp.Ordering.TheVariants.{Equal};
 
 /// A key that orders items. Two keys that compare as equal are the same key.

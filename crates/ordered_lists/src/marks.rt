@@ -2,7 +2,8 @@
 
 ghost use Rattle.std.specs.Ordering.{nat_cmp};
 ghost use Rattle.std.specs.Prelude.{IfOk, length, ◌*◌, ◌≡◌, ◌≤◌};
-ghost use Rattle.ordered_lists.specs.{Marks.AreMarksOf, Orders.IsInOrder, Orders.contains};
+ghost use Rattle.ordered_lists.specs.Marks.{AreMarksOf};
+ghost use Rattle.ordered_lists.specs.Orders.{IsInOrder, contains};
 
 use crate::keys::place_of;
 use std::alloc::{AllocError, Global};

@@ -2,10 +2,13 @@
 use Rattle.std.specs.Prelude.{List, Option, Some, [], map, option_map, option_to_list, slice_get, ℕ, ◌++◌, ◌∷◌, ◌≡◌}
 use Rattle.tl_layout.specs.Fields.{Fields1, Fields2, Fields4, Fields5, Fields6, Fields7, Fields8, FieldsI, FieldsP}
 use Rattle.tl_layout.specs.declared.record_type.Record.TheVariants.{Eight, Five, Four, I, One, P, Seven, Six, Two}
-use Rattle.tl_layout.specs.{Coordinates.Coordinates, declared.record_type.Record.Record, declared.type_p.BodyP.BodyP}
-use Rattle.county_chart.specs.Packing.{first_point, last_point, packed_five, packed_fours, packed_i, packed_one, packed_p, packed_sevens}
-use Rattle.county_chart.specs.Packing.{packed_sixes, packed_twos}
-use Rattle.county_chart.specs.{ChartWords.chain_at, County.County, PolygonKeys.PolygonKey}
+use Rattle.tl_layout.specs.Coordinates.{Coordinates}
+use Rattle.tl_layout.specs.declared.record_type.Record.{Record}
+use Rattle.tl_layout.specs.declared.type_p.BodyP.{BodyP}
+use Rattle.county_chart.specs.Packing.{first_point, last_point, packed_five, packed_fours, packed_i, packed_one, packed_p, packed_sevens, packed_sixes, packed_twos}
+use Rattle.county_chart.specs.ChartWords.{chain_at}
+use Rattle.county_chart.specs.County.{County}
+use Rattle.county_chart.specs.PolygonKeys.{PolygonKey}
 use Rattle.canonical_form.specs.ByNumber.{polygons_by_number}
 use Rattle.record_groups.specs.Groups.{grouped}
 

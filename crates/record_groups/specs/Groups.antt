@@ -1,5 +1,5 @@
 -- Lists in groups.
-use Rattle.std.specs.Prelude.{◌≡◌, ℕ, ◌+◌, suc, List, [], ◌++◌, Some, drop, flat_map, length, slice_get, unwrap_or}
+use Rattle.std.specs.Prelude.{List, Some, [], drop, flat_map, length, slice_get, suc, unwrap_or, ℕ, ◌++◌, ◌+◌, ◌≡◌}
 
 -- the group at a place, or the empty group after the last one
 abbrev pub group_at : {X : Type 0} → List (List X) → ℕ → List X

@@ -1,11 +1,17 @@
 -- The order of choices by their records of type 1.
 use Rattle.std.specs.Prelude.{List, Option, map, option_map, ℕ, ◌+◌}
-use Rattle.std.specs.{declared.cmp.Ordering.Ordering}
-use Rattle.tl_layout.specs.{declared.record_type.Record.Record, declared.record_type.Record.TheVariants.One}
-use Rattle.county_chart.specs.{County.County, DirectedChains.directed_chain, Packing.packed_one}
+use Rattle.std.specs.declared.cmp.Ordering.{Ordering}
+use Rattle.tl_layout.specs.declared.record_type.Record.{Record}
+use Rattle.tl_layout.specs.declared.record_type.Record.TheVariants.{One}
+use Rattle.county_chart.specs.County.{County}
+use Rattle.county_chart.specs.DirectedChains.{directed_chain}
+use Rattle.county_chart.specs.Packing.{packed_one}
 use Rattle.county_chart.specs.declared.directed_chain.DirectedChain.{DirectedChain}
-use Rattle.canonical_form.specs.{Arrangement.arranged, Tidy.numbered_choice}
-use Rattle.record_groups.specs.{CountyGroups.type_1_by_chain, Groups.grouped, RecordOrder.groups_cmp}
+use Rattle.canonical_form.specs.Arrangement.{arranged}
+use Rattle.canonical_form.specs.Tidy.{numbered_choice}
+use Rattle.record_groups.specs.CountyGroups.{type_1_by_chain}
+use Rattle.record_groups.specs.Groups.{grouped}
+use Rattle.record_groups.specs.RecordOrder.{groups_cmp}
 
 -- the record of type 1 of a directed chain, if there is one at a place
 abbrev pub one_at : County → DirectedChain → ℕ → Option Record

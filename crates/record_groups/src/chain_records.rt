@@ -1,6 +1,6 @@
 //! The records of a county's chains.
 
-ghost use Rattle.std.specs.Prelude.{◌≡◌, ◌<◌, ◌+◌, Some, length, slice_get, take, drop};
+ghost use Rattle.std.specs.Prelude.{Some, drop, length, slice_get, take, ◌+◌, ◌<◌, ◌≡◌};
 ghost use Rattle.county_chart.specs.CountyRules.{tlids};
 ghost use Rattle.tl_layout.specs.Numbers.{IsNumber};
 
@@ -59,7 +59,8 @@ struct ShapePoints<'a, C> {
 }
 
 impl<C: Chart> Listed for ShapePoints<'_, C> {
-    ghost use Rattle.county_chart.specs.{ChartWords.chain_at, ChartWords.points_of, Packing.inner_points};
+    ghost use Rattle.county_chart.specs.ChartWords.{chain_at, points_of};
+    ghost use Rattle.county_chart.specs.Packing.{inner_points};
 
     type Item = Point;
 
@@ -137,7 +138,7 @@ impl<C: Chart> RecordGroups for ChainRecords<'_, C> {
 /// A type of record with a sequence number (RTSQ): 2, 4 or 6. A chain has as many of them as it needs for its shape points, further
 /// names or further address ranges.
 pub trait SequencedRecord: Tabled {
-    ghost use Rattle.std.specs.Prelude.{◌≡◌, ◌<◌, List, Some, length, slice_get};
+    ghost use Rattle.std.specs.Prelude.{List, Some, length, slice_get, ◌<◌, ◌≡◌};
     ghost use Rattle.county_chart.specs.County.{County};
     ghost use Rattle.record_groups.specs.Groups.{group_at};
 

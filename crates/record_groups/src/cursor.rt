@@ -1,6 +1,6 @@
 //! Records in groups, read one after another.
 
-ghost use Rattle.std.specs.Prelude.{◌≡◌, ◌<◌, ◌+◌, ◌∷◌, [], MatchOption, nat_lt, if◌then◌else◌};
+ghost use Rattle.std.specs.Prelude.{MatchOption, [], if◌then◌else◌, nat_lt, ◌+◌, ◌<◌, ◌∷◌, ◌≡◌};
 ghost use Rattle.record_groups.specs.Groups.{rest_of};
 
 use crate::groups::RecordGroups;

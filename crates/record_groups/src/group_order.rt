@@ -5,8 +5,11 @@
 //! arrangement. So from the first group that differs on, each side is read with its own cursor.
 
 ghost use Rattle.std.specs.Prelude.{MatchOption, map, ◌≡◌};
-ghost use Rattle.std.specs.{Cmp.Lexicographic.slice_cmp, Ordering.nat_cmp, declared.cmp.Ordering.TheVariants.Greater};
-ghost use Rattle.record_groups.specs.{Groups.rest_of, RecordOrder.groups_cmp, RecordOrder.records_cmp, RecordOrder.spelling_cmp};
+ghost use Rattle.std.specs.Cmp.Lexicographic.{slice_cmp};
+ghost use Rattle.std.specs.Ordering.{nat_cmp};
+ghost use Rattle.std.specs.declared.cmp.Ordering.TheVariants.{Greater};
+ghost use Rattle.record_groups.specs.Groups.{rest_of};
+ghost use Rattle.record_groups.specs.RecordOrder.{groups_cmp, records_cmp, spelling_cmp};
 
 use crate::cursor::{Cursor, next};
 use crate::groups::RecordGroups;

@@ -5,7 +5,7 @@
 //!
 //! Trick: heads are read one after another before any of their records, because each may have to wait for memory.
 
-ghost use Rattle.std.specs.Prelude.{◌≡◌, ◌<◌, ◌≤◌, ◌+◌, ◌++◌, ◌-◌, ℕ, List, Some, length, drop, map, min, take, slice_get, option_map, OnOk};
+ghost use Rattle.std.specs.Prelude.{List, OnOk, Some, drop, length, map, min, option_map, slice_get, take, ℕ, ◌++◌, ◌+◌, ◌-◌, ◌<◌, ◌≡◌, ◌≤◌};
 ghost use Rattle.record_groups.specs.Groups.{AreHeads, group_at, grouped};
 
 use crate::heads::HeadBuffers;
@@ -66,7 +66,7 @@ pub trait RecordGroups {
 
 /// Records in groups whose heads are their numbers of records.
 pub trait CountedGroups {
-    ghost use Rattle.std.specs.Prelude.{◌≡◌, ◌<◌, List, Some, length, slice_get};
+    ghost use Rattle.std.specs.Prelude.{List, Some, length, slice_get, ◌<◌, ◌≡◌};
     ghost use Rattle.record_groups.specs.Groups.{group_at};
 
     /// The type of the records.

@@ -1,9 +1,9 @@
 //! Whether two counties have the same records in groups.
 
 ghost use Rattle.std.specs.Bool.{Decides};
-ghost use Rattle.std.specs.Prelude.{◌≡◌, ◌<◌, ◌≤◌, ◌+◌, length, drop, take, slice_get};
+ghost use Rattle.std.specs.Prelude.{drop, length, slice_get, take, ◌+◌, ◌<◌, ◌≡◌, ◌≤◌};
 ghost use Rattle.record_groups.specs.Groups.{AreHeads, group_at};
-ghost use Rattle.record_groups.specs.SharedGroups.{HaveSameChains, HaveSameCounts, HaveSameSingleRecords, HaveSameLists};
+ghost use Rattle.record_groups.specs.SharedGroups.{HaveSameChains, HaveSameCounts, HaveSameLists, HaveSameSingleRecords};
 
 use crate::chain_records::{ChainRecords, SequencedRecord, SequencedRecords, TopologyRecords};
 use crate::groups::{RecordGroups, read_heads};

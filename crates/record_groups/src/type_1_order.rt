@@ -2,11 +2,14 @@
 //! arranged. All choices have the same records of type 1, except those among which an open place inserts a chain.
 
 ghost use Rattle.std.specs.Prelude.{Some, length, option_map, ◌+◌, ◌<◌, ◌≡◌, ◌≢◌};
-ghost use Rattle.std.specs.{Option.option_cmp, declared.cmp.Ordering.TheVariants.Equal};
-ghost use Rattle.county_chart.specs.{DirectedChains.directed_chain, Packing.packed_one};
+ghost use Rattle.std.specs.Option.{option_cmp};
+ghost use Rattle.std.specs.declared.cmp.Ordering.TheVariants.{Equal};
+ghost use Rattle.county_chart.specs.DirectedChains.{directed_chain};
+ghost use Rattle.county_chart.specs.Packing.{packed_one};
 ghost use Rattle.tl_layout.specs.declared.record_type.Record.TheVariants.{One};
 ghost use Rattle.record_groups.specs.RecordOrder.{AreTiedBelow, groups_cmp, records_cmp, spelling_cmp};
-ghost use Rattle.record_groups.specs.{CountyGroups.type_1_by_chain, TypeOneOrder.one_at, TypeOneOrder.ones_of};
+ghost use Rattle.record_groups.specs.CountyGroups.{type_1_by_chain};
+ghost use Rattle.record_groups.specs.TypeOneOrder.{one_at, ones_of};
 ghost use Rattle.canonical_form.specs.MovedChains.{AgreeButOpen, IsWithin};
 ghost use Rattle.canonical_form.specs.WholeArrangements.{AreWhole, arranged_by};
 

@@ -1,6 +1,6 @@
 //! Visitors of a county's records, one after another.
 
-ghost use Rattle.std.specs.Prelude.{◌≡◌, ◌<◌, ◌∷◌, ◌++◌, [], List, Ok, Err, Result, OnOk, Some, length, slice_get};
+ghost use Rattle.std.specs.Prelude.{Err, List, Ok, OnOk, Result, Some, [], length, slice_get, ◌++◌, ◌<◌, ◌∷◌, ◌≡◌};
 ghost use Rattle.tl_layout.specs.declared.record_type.Record.{Record};
 ghost use Rattle.record_groups.specs.Groups.{group_at};
 

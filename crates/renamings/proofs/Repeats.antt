@@ -1,9 +1,12 @@
 -- Lists of numbers with and without a repetition.
 use Rattle.renamings.proofs.Common.{IsAllAdjacentAnswer, apart-permutation, ltb, order_antisymm, sorted_from_all_adjacent, true≢false}
-use Rattle.county_chart.proofs.Common.{Bool, Decides, IsInOrder, IsPermutation, Less, List, [], apart_from_no_repeat, apart_from_sorted}
-use Rattle.county_chart.proofs.Common.{arith, false, false≢true, get_or, has_repeat, has_repeat-apart, is_gt, length, lt-ltb, ltb-false}
-use Rattle.county_chart.proofs.Common.{ltb-true, nat_cmp, nat_cmp_total, nat_keys, or_left, or_right, refl, contains, subst, suc, sym}
-use Rattle.county_chart.proofs.Common.{times, times-yes, true, zero, ℕ, ◌+◌, ◌<◌, ◌∙◌, ◌∷◌, ◌≡◌}
+use Rattle.std.proofs.Common.{Bool, IsPermutation, Less, List, [], arith, false, get_or, is_gt, length, nat_cmp, refl, subst, suc, sym, true, zero, ℕ, ◌+◌, ◌<◌, ◌∙◌, ◌∷◌, ◌≡◌}
+use Rattle.std.specs.Bool.{Decides}
+use Rattle.ordered_lists.specs.Orders.{IsInOrder, contains, has_repeat, times}
+use Rattle.ordered_lists.proofs.Lists.Distinct.{apart_from_no_repeat, has_repeat-apart}
+use Rattle.ordered_lists.proofs.ByKey.Keys.{apart_from_sorted, nat_keys, times-yes}
+use Rattle.std.proofs.lemmas.Bool.{false≢true, lt-ltb, ltb-false, ltb-true, or_left, or_right}
+use Rattle.std.proofs.lemmas.Cmp.{nat_cmp_total}
 
 -- in a list in order, a number that isn't less than the next one is repeated
 not_ascending : (xs : List ℕ) (k : ℕ) → IsInOrder nat_cmp xs → k + 1 < length xs → ltb (get_or xs k 0) (get_or xs (k + 1) 0) ≡ false

@@ -1,8 +1,12 @@
 -- Pairs of numbers by the values under their old numbers.
 use Rattle.renamings.proofs.Common.{lefts, named_images, pair_on}
-use Rattle.county_chart.proofs.Common.{Bool, Equal, Greater, IsKeyOrder, Less, List, None, Option, Ordering, Some, [], ap, arith, composed}
-use Rattle.county_chart.proofs.Common.{cond, cons_option, false, filter, filter_map, image, is_eq, is_named, is_some, length, lt-ltb, map}
-use Rattle.county_chart.proofs.Common.{nat_lt, option_map, ordering_reverse, refl, suc, true, unwrap_or, value_under, ◌∙◌, ◌∷◌, ◌≡◌}
+use Rattle.std.proofs.Common.{Bool, Equal, Greater, Less, List, None, Option, Ordering, Some, [], ap, arith, cond, false, filter, filter_map, is_eq, is_some, length, map, nat_lt, option_map, refl, suc, true, unwrap_or, ◌∙◌, ◌∷◌, ◌≡◌}
+use Rattle.ordered_lists.proofs.ByKey.Keys.{IsKeyOrder}
+use Rattle.ordered_lists.specs.Pairs.{composed, image, is_named}
+use Rattle.std.specs.List.{cons_option}
+use Rattle.std.proofs.lemmas.Bool.{lt-ltb}
+use Rattle.std.specs.Ordering.{ordering_reverse}
+use Rattle.ordered_lists.specs.Entries.{value_under}
 
 is_eq-reverse : (a : Ordering) → is_eq (ordering_reverse a) ≡ is_eq a
 is_eq-reverse Less = refl

@@ -1,7 +1,10 @@
 -- Pairs of an old and a new number: the new number in the first pair of an old one.
 use Rattle.std.specs.Prelude.{Bool, List, Option, filter_map, option_map, ℕ}
-use Rattle.std.specs.{Ordering.nat_cmp, declared.cmp.Ordering.Ordering}
-use Rattle.ordered_lists.specs.{Entries.value_under, Orders.contains, Pairs.image}
+use Rattle.std.specs.Ordering.{nat_cmp}
+use Rattle.std.specs.declared.cmp.Ordering.{Ordering}
+use Rattle.ordered_lists.specs.Entries.{value_under}
+use Rattle.ordered_lists.specs.Orders.{contains}
+use Rattle.ordered_lists.specs.Pairs.{image}
 use Rattle.county_chart.specs.Renumbering.{exactly_one}
 
 -- the new numbers of the old ones that pairs name

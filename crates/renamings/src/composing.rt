@@ -1,7 +1,9 @@
 //! The renaming back, and one renaming after another.
 
 ghost use Rattle.std.specs.Prelude.{IfOk, ◌≡◌};
-ghost use Rattle.county_chart.specs.{County.County, CountyRules.IsCounty, Renumbering.Carries, Renumbering.inverse, Renumbering.then};
+ghost use Rattle.county_chart.specs.County.{County};
+ghost use Rattle.county_chart.specs.CountyRules.{IsCounty};
+ghost use Rattle.county_chart.specs.Renumbering.{Carries, inverse, then};
 
 use crate::pairs::{join_pairs, swap_pairs};
 use crate::renaming::Renaming;

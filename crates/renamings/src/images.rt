@@ -1,7 +1,8 @@
 //! The new numbers that pairs of an old and a new number give.
 
 ghost use Rattle.std.specs.Prelude.{IfOk, ◌≡◌};
-ghost use Rattle.ordered_lists.specs.{Entries.value_under, Pairs.image};
+ghost use Rattle.ordered_lists.specs.Entries.{value_under};
+ghost use Rattle.ordered_lists.specs.Pairs.{image};
 
 use indexmap::IndexMap;
 use ordered_lists::Key;
@@ -18,7 +19,7 @@ pub struct Images<'a, K: Key + Hash> {
 }
 
 impl<'a, K: Key + Hash> Model for Images<'a, K> {
-    ghost use Rattle.std.specs.Prelude.{◌≡◌, List};
+    ghost use Rattle.std.specs.Prelude.{List, ◌≡◌};
     ghost use Rattle.indexmap.specs.IndexMap.{get};
     ghost use Rattle.ordered_lists.specs.Entries.{value_under};
 

@@ -1,6 +1,6 @@
 //! Lists of pairs of an old and a new number: swapped, and one list after another.
 
-ghost use Rattle.std.specs.Prelude.{◌≡◌, IfOk, filter_map};
+ghost use Rattle.std.specs.Prelude.{IfOk, filter_map, ◌≡◌};
 ghost use Rattle.renamings.specs.Images.{named_images, pair_on};
 ghost use Rattle.ordered_lists.specs.Pairs.{composed, swapped};
 

@@ -1,8 +1,9 @@
 //! Lists of numbers that are asked which numbers are in them.
 
 ghost use Rattle.std.specs.Prelude.{IfOk, false, ◌≡◌};
-ghost use Rattle.std.specs.{Bool.Decides, Ordering.nat_cmp};
-ghost use Rattle.ordered_lists.specs.Orders.{has_repeat, contains};
+ghost use Rattle.std.specs.Bool.{Decides};
+ghost use Rattle.std.specs.Ordering.{nat_cmp};
+ghost use Rattle.ordered_lists.specs.Orders.{contains, has_repeat};
 
 use ordered_lists::place_of;
 use std::alloc::{AllocError, Global};
@@ -16,7 +17,8 @@ pub struct SortedNumbers<'a> {
 }
 
 impl<'a> Model for SortedNumbers<'a> {
-    ghost use Rattle.std.specs.{Ordering.nat_cmp, Prelude.IsPermutation, Prelude.List, Prelude.ℕ};
+    ghost use Rattle.std.specs.Ordering.{nat_cmp};
+    ghost use Rattle.std.specs.Prelude.{IsPermutation, List, ℕ};
     ghost use Rattle.ordered_lists.specs.Orders.{IsInOrder};
 
     ghost Value = { List ℕ };

@@ -1,7 +1,7 @@
 //! Which chains two renamings turn, one after the other.
 
 ghost use Rattle.std.specs.Ordering.{nat_cmp};
-ghost use Rattle.std.specs.Prelude.{◌≡◌, IfOk, filter, map};
+ghost use Rattle.std.specs.Prelude.{IfOk, filter, map, ◌≡◌};
 ghost use Rattle.renamings.specs.Images.{is_turned_once};
 ghost use Rattle.ordered_lists.specs.Pairs.{image, is_named};
 

@@ -3,8 +3,7 @@
 //! A function that returns an `AllocError` does so if an allocation failed.
 
 ghost use Rattle.std.specs.Prelude.{All, IfOk};
-ghost use Rattle.county_chart.specs.Limits.{most_records};
-ghost use Rattle.tl_layout.specs.Limits.{IsWithinLimit};
+ghost use Rattle.tl_layout.specs.Limits.{IsWithinLimit, most_records};
 ghost use Rattle.tl_layout.specs.RecordText.{FitsRecord};
 
 use crate::masks::BOTH;

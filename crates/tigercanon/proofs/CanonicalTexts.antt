@@ -1,9 +1,5 @@
 -- The canonical text of records that were read, and why there may be none.
-use Rattle.tigercanon.proofs.Common.{Carries, CarriesSetInView, County, Err, GoesOut, IfErr, IfOk, IsAcceptedSet, IsCanonSetInView}
-use Rattle.tigercanon.proofs.Common.{IsCanonicalTextInView, IsCounty, IsOneCanonicalTextInView, IsOnlyTextInView, List, Mask, MatchResult}
-use Rattle.tigercanon.proofs.Common.{Ok, Record, Renumbering, Result, StopsShort, WriteFault, [], county_of, if◌then◌else◌, is_ok, length}
-use Rattle.tigercanon.proofs.Common.{masked, masked_view, packed, packed_county, subst, sym, take, text_of, ℕ, ◌++◌, ◌+◌, ◌<◌, ◌∙◌, ◌∷◌}
-use Rattle.tigercanon.proofs.Common.{◌≡◌}
+use Rattle.tigercanon.proofs.Common.{Carries, CarriesSetInView, County, Err, GoesOut, IfErr, IfOk, IsAcceptedSet, IsCanonSetInView, IsCanonicalTextInView, IsCounty, IsOneCanonicalTextInView, IsOnlyTextInView, List, Mask, MatchResult, Ok, Record, Renumbering, Result, StopsShort, WriteFault, [], county_of, if◌then◌else◌, is_ok, length, masked, masked_view, packed, packed_county, subst, sym, take, text_of, ℕ, ◌++◌, ◌+◌, ◌<◌, ◌∙◌, ◌∷◌, ◌≡◌}
 use Rattle.tigercanon.proofs.Sets.{one_text, only_text, text_accepted, text_itself}
 
 -- the outcome of writing a text to a sink

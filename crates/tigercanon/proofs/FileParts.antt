@@ -1,7 +1,5 @@
 -- The bytes of a source that was read to its end, and the fault that is then recorded.
-use Rattle.tigercanon.proofs.Common.{Consumes, Err, IfErr, IfSome, IsAtEnd, IsNotDevice, List, LoadFault, None, Ok, OnOk, Option, Result}
-use Rattle.tigercanon.proofs.Common.{RoseBy, Some, ap, append-nil, false, is_device_fault, mod-add-mod, refl, rules, subst, sym, ℕ, ◌++◌}
-use Rattle.tigercanon.proofs.Common.{◌+◌, ◌∙◌, ◌∷◌, ◌≡◌}
+use Rattle.tigercanon.proofs.Common.{Consumes, Err, IfErr, IfSome, IsAtEnd, IsNotDevice, List, LoadFault, None, Ok, OnOk, Option, Result, RoseBy, Some, ap, append-nil, false, is_device_fault, mod-add-mod, refl, rules, subst, sym, ℕ, ◌++◌, ◌+◌, ◌∙◌, ◌∷◌, ◌≡◌}
 use Rattle.tl_load.specs.declared.fault.LoadFault.TheVariants as faults
 
 -- bytes taken to the end are all bytes

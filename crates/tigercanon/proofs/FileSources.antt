@@ -1,14 +1,10 @@
 -- The bytes read from sources over files are in the files, and what is reported for files that aren't read.
-use Rattle.tigercanon.proofs.Common.{AreCounted, Counted, Device, Does, Err, GivenOutput, IsUnopened, Memory, Stopped, opened_of}
-use Rattle.tigercanon.proofs.Common.{All, All-cons, AreHeld, AreRead, AreReadFirst, AreReadUpTo, AreRefused, AreRefusedParts, AreSourcesOf}
-use Rattle.tigercanon.proofs.Common.{Bool, Check, Compare, Consumes, Fault, Fingerprint, Gave, GivenSet, IfSome, IsFaultHowever}
-use Rattle.tigercanon.proofs.Common.{IsFaultOfRead, IsFirstFault, IsNext, IsOfNoLines, IsRefusalBy, IsReportedBy, Job, LeavesStopped, List}
-use Rattle.tigercanon.proofs.Common.{Load, LoadFault, MAX, Mask, None, Normalise, Opened, Option, ReportsFor, ReportsSet, Respell, Some, []}
-use Rattle.tigercanon.proofs.Common.{ap, arith, bytes_of, false, if◌then◌else◌, inl, inr, map, most_records, refl, set_of_files, set_of_job}
-use Rattle.tigercanon.proofs.Common.{set_of_sources, slice_index_or, subst, sym, to_writer, true, ℕ, ◌++◌, ◌<◌, ◌∷◌, ◌≡◌}
+use Rattle.tigercanon.proofs.Common.{All, All-cons, AreCounted, AreHeld, AreRead, AreReadFirst, AreReadUpTo, AreRefused, AreRefusedParts, AreSourcesOf, Bool, Check, Compare, Consumes, Counted, Device, Does, Err, Fault, Fingerprint, Gave, GivenOutput, GivenSet, IfSome, IsFaultHowever, IsFaultOfRead, IsFirstFault, IsNext, IsOfNoLines, IsRefusalBy, IsReportedBy, IsUnopened, Job, List, Load, LoadFault, MAX, Mask, Memory, None, Normalise, Opened, Option, ReportsFor, ReportsSet, Respell, Some, Stopped, [], ap, arith, bytes_of, false, if◌then◌else◌, inl, inr, map, most_records, opened_of, refl, set_of_files, set_of_job, set_of_sources, slice_index_or, subst, sym, true, ℕ, ◌++◌, ◌<◌, ◌∷◌, ◌≡◌}
 use Rattle.tigercanon.proofs.FileParts.{head_of, tail_of, taken_all}
 use Rattle.tigercanon.proofs.Parts.{fault_of_rest}
-use Rattle.tigercanon.proofs.{GivenSets.IsKnownOf, Leaving.kept, SourceSets.left_untouched}
+use Rattle.tigercanon.proofs.GivenSets.{IsKnownOf}
+use Rattle.tigercanon.proofs.Leaving.{kept}
+use Rattle.tigercanon.proofs.SourceSets.{left_untouched}
 
 -- sources that are the files, none of which has failed
 pub counted_from : {R : Type 0} (sources : List (Counted (Opened R))) (files : List (Opened R))

@@ -1,7 +1,5 @@
 -- A statement about a set and its output holds for another set if every fact about the first is a fact about the second.
-use Rattle.tigercanon.proofs.Common.{Compare, Different, Does, Done, Ending, Err, Fault, GivenOutput, GivenSet, HoldsAccepted, IsOfNoLines}
-use Rattle.tigercanon.proofs.Common.{IsTextOf, Job, LeavesStopped, List, Mask, OfTwoSets, Ok, Option, ReportsFor, ReportsSet, Result}
-use Rattle.tigercanon.proofs.Common.{HasRun, IsReportedWhy, Stopped, Write, fault_line, inl, inr, ℕ, ◌⊎◌}
+use Rattle.tigercanon.proofs.Common.{Compare, Different, Does, Done, Ending, Err, Fault, GivenOutput, GivenSet, HasRun, HoldsAccepted, IsOfNoLines, IsReportedWhy, IsTextOf, Job, LeavesStopped, List, Mask, OfTwoSets, Ok, Option, ReportsFor, ReportsSet, Result, Stopped, Write, fault_line, inl, inr, ℕ, ◌⊎◌}
 use Rattle.tigercanon.proofs.Refusing.{refused_weaker}
 
 -- every fact about one set is a fact about the other

@@ -1,7 +1,5 @@
 -- The final contents of a lent writer.
-use Rattle.tigercanon.proofs.Common.{Appends, Err, HoldsUnderName, Keeps, List, MatchResult, None, Ok, Option, ReportsLine, ReportsLineTo}
-use Rattle.tigercanon.proofs.Common.{Result, Some, Took, WriteFault, ap, if◌then◌else◌, inl, inr, is_ok, length, refl, subst, sym}
-use Rattle.tigercanon.proofs.Common.{take, take-length, to_sink, to_writer, ℕ, ◌++◌, ◌+◌, ◌∙◌, ◌∷◌, ◌≡◌}
+use Rattle.tigercanon.proofs.Common.{Appends, Err, HoldsUnderName, Keeps, List, MatchResult, None, Ok, Option, ReportsLine, ReportsLineTo, Result, Some, Took, WriteFault, ap, if◌then◌else◌, inl, inr, is_ok, length, refl, subst, sym, take, take-length, to_sink, to_writer, ℕ, ◌++◌, ◌+◌, ◌∙◌, ◌∷◌, ◌≡◌}
 use Rattle.tigercanon.proofs.GivenSets.{IsPrintedTo}
 
 pub kept : (known : Option (List ℕ)) → Keeps known known

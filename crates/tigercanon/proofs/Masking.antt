@@ -1,6 +1,5 @@
 -- Sets under a mask: the view of a set's county, and the mask that leaves nothing out.
-use Rattle.tigercanon.proofs.Common.{County, IsViewedSet, List, Mask, county_of, masked, masked_by_none, no_mask, plain, subst, sym, ℕ, ◌∙◌}
-use Rattle.tigercanon.proofs.Common.{◌≡◌}
+use Rattle.tigercanon.proofs.Common.{County, IsViewedSet, List, Mask, county_of, masked, masked_by_none, no_mask, plain, subst, sym, ℕ, ◌∙◌, ◌≡◌}
 
 -- a mask that leaves nothing out shows counties as they are
 pub none_is_plain : masked no_mask ≡ plain

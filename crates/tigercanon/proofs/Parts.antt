@@ -1,7 +1,5 @@
 -- Slices of bytes as the parts of a set.
-use Rattle.tigercanon.proofs.Common.{Bor, IsFaultHowever, IsFirstFault, List, LoadFault, [], ap, append-nil, append_assoc, bytes_of_parts}
-use Rattle.tigercanon.proofs.Common.{drop, drop-cons, empty_fault, get_or, length, map-append, most_records, subst, suc, sym, take}
-use Rattle.tigercanon.proofs.Common.{take-append-drop, take_more, tiger, ℕ, ◌++◌, ◌+◌, ◌<◌, ◌∙◌, ◌∷◌, ◌≡◌}
+use Rattle.tigercanon.proofs.Common.{Bor, IsFaultHowever, IsFirstFault, List, LoadFault, [], ap, append-nil, append_assoc, bytes_of_parts, drop, drop-cons, empty_fault, get_or, length, map-append, most_records, subst, suc, sym, take, take-append-drop, take_more, tiger, ℕ, ◌++◌, ◌+◌, ◌<◌, ◌∙◌, ◌∷◌, ◌≡◌}
 
 -- the parts before one, that part, and those after it
 pub parts_around : (slices : List (Bor (List ℕ))) (i : ℕ) (d : Bor (List ℕ)) → i < length slices

@@ -1,7 +1,5 @@
 -- Sources that were read one after another.
-use Rattle.tigercanon.proofs.Common.{AreRead, AreReadFirst, Gave, IsAtEnd, IsUnread, List, LoadedInto, NoneFailed, OneFailed, Option}
-use Rattle.tigercanon.proofs.Common.{Record, SomeUnread, WasFedInto, [], ap, arith, get_or, inl, inr, length, map-set_same, most_records}
-use Rattle.tigercanon.proofs.Common.{refl, set, subst, suc, sym, zero, ℕ, ◌++◌, ◌+◌, ◌<◌, ◌∙◌, ◌∷◌, ◌≡◌}
+use Rattle.tigercanon.proofs.Common.{AreRead, AreReadFirst, Gave, IsAtEnd, IsUnread, List, LoadedInto, NoneFailed, OneFailed, Option, Record, SomeUnread, WasFedInto, [], ap, arith, get_or, inl, inr, length, map-set_same, most_records, refl, set, subst, suc, sym, zero, ℕ, ◌++◌, ◌+◌, ◌<◌, ◌∙◌, ◌∷◌, ◌≡◌}
 use Rattle.tigercanon.proofs.FileParts.{head_of, tail_of}
 
 module _ {R : Type 0} (remaining : R → Option (List ℕ)) (given : R → ℕ) where

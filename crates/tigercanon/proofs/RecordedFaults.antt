@@ -1,8 +1,5 @@
 -- The faults of a loader that was fed closed parts.
-use Rattle.tigercanon.proofs.Common.{AreKept, HasLoaded, IsFaultHowever, IsFirstFault, IsOfLines, List, LoadFault, LoadedInto, MatchOption}
-use Rattle.tigercanon.proofs.Common.{None, Option, Record, Some, SpellsWithin, WasFedInto, [], accepted_no_fault, ap, empty_fault}
-use Rattle.tigercanon.proofs.Common.{if◌then◌else◌, is_device_fault, most_records, refl, seen, subst, tiger, tiger_is_sound}
-use Rattle.tigercanon.proofs.Common.{with_line_feeds, ℕ, ◌++◌, ◌+◌, ◌∙◌, ◌∷◌, ◌≡◌}
+use Rattle.tigercanon.proofs.Common.{AreKept, HasLoaded, IsFaultHowever, IsFirstFault, IsOfLines, List, LoadFault, LoadedInto, MatchOption, None, Option, Record, Some, SpellsWithin, WasFedInto, [], accepted_no_fault, ap, empty_fault, if◌then◌else◌, is_device_fault, most_records, refl, seen, subst, tiger, tiger_is_sound, with_line_feeds, ℕ, ◌++◌, ◌+◌, ◌∙◌, ◌∷◌, ◌≡◌}
 use Rattle.tigercanon.proofs.FileParts.{no_device_reported}
 use Rattle.tl_load.specs.declared.fault.LoadFault.TheVariants as faults
 

@@ -1,9 +1,5 @@
 -- The exit status, and what it says about a job.
-use Rattle.tigercanon.proofs.Common.{Compare, Contains, Device, DeviceFailed, Different, Does, Done, Ending, Err, Fault, GivenOutput}
-use Rattle.tigercanon.proofs.Common.{GivenSet, HoldsAccepted, IfErr, IsDifferent, IsDone, IsOfNoLines, IsPartOnly, IsReportedWhy, Job}
-use Rattle.tigercanon.proofs.Common.{HasRun, LeavesStopped, Link, List, Load, Mask, Memory, Ok, OnOk, Option, Profile, RefusesOne, ReportsFor}
-use Rattle.tigercanon.proofs.Common.{ReportsNoDevice, ReportsSet, Result, Stopped, Write, [], ap, arith, fault_line, inl, inr, lit<, refl}
-use Rattle.tigercanon.proofs.Common.{status_of, status_of_outcome, sym, ℕ, ◌<◌, ◌∙◌, ◌∷◌, ◌≡◌, ◌≢◌, ◌≤◌, ◌⊎◌}
+use Rattle.tigercanon.proofs.Common.{Compare, Contains, Device, DeviceFailed, Different, Does, Done, Ending, Err, Fault, GivenOutput, GivenSet, HasRun, HoldsAccepted, IfErr, IsDifferent, IsDone, IsOfNoLines, IsPartOnly, IsReportedWhy, Job, LeavesStopped, Link, List, Load, Mask, Memory, Ok, OnOk, Option, Profile, RefusesOne, ReportsFor, ReportsNoDevice, ReportsSet, Result, Stopped, Write, [], ap, arith, fault_line, inl, inr, lit<, refl, status_of, status_of_outcome, sym, ℕ, ◌<◌, ◌∙◌, ◌∷◌, ◌≡◌, ◌≢◌, ◌≤◌, ◌⊎◌}
 use Rattle.county_chart.specs.declared.fault.LinkFault.TheVariants.{Memory as LinkMemory}
 use Rattle.county_chart.specs.declared.profile_fault.ProfileFault.TheVariants.{Memory as ProfileMemory}
 use Rattle.tl_load.specs.declared.fault.LoadFault.TheVariants.{Memory as LoadMemory}

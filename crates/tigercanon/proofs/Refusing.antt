@@ -1,7 +1,5 @@
 -- A set is refused for the fault of its records.
-use Rattle.tigercanon.proofs.Common.{AreRead, AreRefusedParts, Fault, HoldsByType, HoldsWithinLimits, IsSetRefusal, Link, List, Load}
-use Rattle.tigercanon.proofs.Common.{Memory, Option, Profile, Record, RefusesBy, RefusesSpelled, ReportsRead, SpellsWithin, Tables, Write}
-use Rattle.tigercanon.proofs.Common.{accepted_within, false, is_of_sink, most_records, refl, spelled_fit, tiger, ℕ, ◌≡◌}
+use Rattle.tigercanon.proofs.Common.{AreRead, AreRefusedParts, Fault, HoldsByType, HoldsWithinLimits, IsSetRefusal, Link, List, Load, Memory, Option, Profile, Record, RefusesBy, RefusesSpelled, ReportsRead, SpellsWithin, Tables, Write, accepted_within, false, is_of_sink, most_records, refl, spelled_fit, tiger, ℕ, ◌≡◌}
 
 -- what refuses one thing for a fault may refuse another for it
 pub refused_weaker : (p q : Fault → Type 0) → ((f : Fault) → p f → q f) → (f : Fault) → RefusesBy p f → RefusesBy q f

@@ -1,8 +1,5 @@
 -- Faults reported for parts that were read, as faults reported for parts and for two sets.
-use Rattle.tigercanon.proofs.Common.{CompareFault, IsAcceptedSet, IsWantOfMemory, Memory, ReportsRefusal, accepted_no_fault, tiger_is_sound}
-use Rattle.tigercanon.proofs.Common.{Err, Fault, IfErr, Link, List, Load, Record, Result, Write, ap, inl, inr, refl, tiger, ℕ, ◌≢◌}
-use Rattle.tigercanon.proofs.Common.{IfErr-at_err, IfErr-weaker, IsFirstFault, IsNotDevice, LoadFault, Profile, SpellsWithin, most_records}
-use Rattle.tigercanon.proofs.Common.{IsOfLines, ReportsMemoryOfAccepted, ReportsRefusalOfOne, ReportsRefusalOfOneRead, ReportsRefusalOfRead}
+use Rattle.tigercanon.proofs.Common.{CompareFault, Err, Fault, IfErr, IfErr-at_err, IfErr-weaker, IsAcceptedSet, IsFirstFault, IsNotDevice, IsOfLines, IsWantOfMemory, Link, List, Load, LoadFault, Memory, Profile, Record, ReportsMemoryOfAccepted, ReportsRefusal, ReportsRefusalOfOne, ReportsRefusalOfOneRead, ReportsRefusalOfRead, Result, SpellsWithin, Write, accepted_no_fault, ap, inl, inr, most_records, refl, tiger, tiger_is_sound, ℕ, ◌≢◌}
 use Rattle.tigercanon.proofs.Sets.{accepted_set_not_refused}
 use Rattle.tigercanon.specs.declared.library.comparing.CompareFault.TheVariants.{In, Memory as NoMemory}
 use Rattle.county_chart.specs.declared.fault.LinkFault.TheVariants.{Memory as LinkMemory}

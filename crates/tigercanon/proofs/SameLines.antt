@@ -1,7 +1,5 @@
 -- Sets with the same lines are accepted alike, refused alike except for a faulty line's part and line, and have one canonical text.
-use Rattle.tigercanon.proofs.Common.{County, Fault, HaveSameLines, IsAcceptedSet, IsCanonicalTextInView, IsSetRefusal, Link, List, Load}
-use Rattle.tigercanon.proofs.Common.{Memory, Profile, Record, SpellsWithin, Write, ap, fault_elsewhere, most_records, refl}
-use Rattle.tigercanon.proofs.Common.{refusal_without_place, spells_as, tiger, ℕ, ◌≡◌}
+use Rattle.tigercanon.proofs.Common.{County, Fault, HaveSameLines, IsAcceptedSet, IsCanonicalTextInView, IsSetRefusal, Link, List, Load, Memory, Profile, Record, SpellsWithin, Write, ap, fault_elsewhere, most_records, refl, refusal_without_place, spells_as, tiger, ℕ, ◌≡◌}
 
 module _ (parts others : List (List ℕ)) (same : HaveSameLines parts others) where
   spelled_alike : (records : List Record) → SpellsWithin tiger most_records parts records → SpellsWithin tiger most_records others records

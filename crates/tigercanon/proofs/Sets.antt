@@ -1,16 +1,8 @@
 -- Each set is accepted or has one refusal; two sets have one canonical text exactly if their counties are the same.
-use Rattle.tigercanon.proofs.Common.{All, AllByRecursion, AreSame, County, Fault, FaultAt, FitsRecord, IsAccepted, IsAcceptedSet}
-use Rattle.tigercanon.proofs.Common.{IsCanonicalText, IsCanonicalTextInView, IsFaulty, IsOnlyTextInView, IsRecordsRefusal, IsRefusal}
-use Rattle.tigercanon.proofs.Common.{IsSetRefusal, IsSpelled, IsStrictInView, IsView, IsWithinLimit, Link, List, Load, LoadFault, Memory}
-use Rattle.tigercanon.proofs.Common.{OutOfProfile, Profile, Record, RecordsRefusal, Spells, SpellsWithin, Unlinked, Write, []}
-use Rattle.tigercanon.proofs.Common.{accepted_no_fault, accepted_within, ap, canonical_exists, canonical_within, county_of, inl, inr, lit≤}
-use Rattle.tigercanon.proofs.Common.{most_records, one_canonical_same, one_verdict, recursion_from_All, refl, same-reflexive, spelled_fit}
-use Rattle.tigercanon.proofs.Common.{spelled_once, strict_in_view, subst, sym, text_of, text_spells, text_spells_only, tiger_is_sound, ℕ}
-use Rattle.tigercanon.proofs.Common.{◌∙◌, ◌∷◌, ◌≡◌, ◌⊎◌}
+use Rattle.tigercanon.proofs.Common.{All, AllByRecursion, AreSame, County, Fault, FaultAt, FitsRecord, IsAccepted, IsAcceptedSet, IsCanonicalText, IsCanonicalTextInView, IsFaulty, IsOnlyTextInView, IsRecordsRefusal, IsRefusal, IsSetRefusal, IsSpelled, IsStrictInView, IsView, IsWithinLimit, Link, List, Load, LoadFault, Memory, OutOfProfile, Profile, Record, RecordsRefusal, Spells, SpellsWithin, Unlinked, Write, [], accepted_no_fault, accepted_within, ap, canonical_exists, canonical_within, county_of, inl, inr, lit≤, most_records, one_canonical_same, one_verdict, recursion_from_All, refl, same-reflexive, spelled_fit, spelled_once, strict_in_view, subst, sym, text_of, text_spells, text_spells_only, tiger_is_sound, ℕ, ◌∙◌, ◌∷◌, ◌≡◌, ◌⊎◌}
 use Rattle.std.proofs.lemmas.List.Elements.{All-from_recursion}
 use Rattle.tl_load.specs.Choice.{tiger}
-use Rattle.canonical_form.proofs.CanonicalLists.Accepted.{accepted_not_refused, accepted_or_refused, canonical_accepted, canonical_as_it_is}
-use Rattle.canonical_form.proofs.CanonicalLists.Accepted.{canonical_of_itself, one_refusal, same_canonical_text}
+use Rattle.canonical_form.proofs.CanonicalLists.Accepted.{accepted_not_refused, accepted_or_refused, canonical_accepted, canonical_as_it_is, canonical_of_itself, one_refusal, same_canonical_text}
 
 pub set_accepted_or_refused : (parts : List (List ℕ))
     → ((records : List Record) × IsAcceptedSet parts records) ⊎ ((refusal : Fault) × IsSetRefusal parts refusal)

@@ -1,9 +1,5 @@
 -- What a job over sources and a sink did.
-use Rattle.tigercanon.proofs.Common.{Compare, CompareFault, Device, Does, Done, Ending, Err, Fault, GivenOutput, GivenSet, IsCutOffInView}
-use Rattle.tigercanon.proofs.Common.{IsSetRefusal, IsTextOf, Job, LeavesStopped, List, Load, Mask, None, Normalise, Ok, OneFailed, Option}
-use Rattle.tigercanon.proofs.Common.{PrintsTo, ReportsFor, ReportsOne, ReportsRead, ReportsRefusalOfOneRead, ReportsRefusalOfRead}
-use Rattle.tigercanon.proofs.Common.{ReportsSet, Result, Some, SomeUnread, Stopped, Write, WriteFault, ap, false, inl, inr, is_of_sink}
-use Rattle.tigercanon.proofs.Common.{masked, refl, set_of_sources, stopped_by, subst, sym, to_sink, true, ℕ, ◌+◌, ◌∷◌, ◌≡◌}
+use Rattle.tigercanon.proofs.Common.{Compare, CompareFault, Device, Does, Done, Ending, Err, Fault, GivenOutput, GivenSet, IsCutOffInView, IsSetRefusal, IsTextOf, Job, LeavesStopped, List, Load, Mask, None, Normalise, Ok, OneFailed, Option, PrintsTo, ReportsFor, ReportsOne, ReportsRead, ReportsRefusalOfOneRead, ReportsRefusalOfRead, ReportsSet, Result, Some, SomeUnread, Stopped, Write, WriteFault, ap, false, inl, inr, is_of_sink, masked, refl, set_of_sources, stopped_by, subst, sym, to_sink, true, ℕ, ◌+◌, ◌∷◌, ◌≡◌}
 use Rattle.tigercanon.proofs.Refusing.{refused_weaker}
 use Rattle.tigercanon.specs.declared.library.comparing.CompareFault.TheVariants.{In, Memory as NoMemory}
 

@@ -1,8 +1,7 @@
 -- Two sets that were put into canonical form.
-use Rattle.tigercanon.proofs.Common.{AreDifferentInView, AreOneMapInView, AreSame, Carries, CarriesSetInView, County, Finding}
-use Rattle.tigercanon.proofs.Common.{IsCanonSetInView, IsCounty, IsFound, IsFoundOfCounties, List, Mask, Renumbering, ap, county_of, masked}
-use Rattle.tigercanon.proofs.Common.{masked_view, one_canonical_same, packed, packed_county, refl, subst, sym, text_of, ℕ, ◌∙◌, ◌≡◌, ◌≢◌}
-use Rattle.tigercanon.proofs.{CanonicalTexts.text_of_set, Sets.one_text_one_list, Sets.same_one_text}
+use Rattle.tigercanon.proofs.Common.{AreDifferentInView, AreOneMapInView, AreSame, Carries, CarriesSetInView, County, Finding, IsCanonSetInView, IsCounty, IsFound, IsFoundOfCounties, List, Mask, Renumbering, ap, county_of, masked, masked_view, one_canonical_same, packed, packed_county, refl, subst, sym, text_of, ℕ, ◌∙◌, ◌≡◌, ◌≢◌}
+use Rattle.tigercanon.proofs.CanonicalTexts.{text_of_set}
+use Rattle.tigercanon.proofs.Sets.{one_text_one_list, same_one_text}
 use Rattle.tigercanon.specs.Findings.Finding.{Carried, NoMemory, OneMap, TwoMaps}
 
 -- counties with one packing are one county

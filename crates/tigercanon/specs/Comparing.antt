@@ -1,11 +1,13 @@
 -- The outcome of comparing two sets: whether they describe the same map, and why there may be no verdict.
 use Rattle.std.specs.Prelude.{List, ℕ, ◌≡◌, ◌⊎◌}
 use Rattle.tl_layout.specs.declared.record_type.Record.{Record}
-use Rattle.county_chart.specs.{County.County, County.county_of, Renumbering.AreSame, Renumbering.Renumbering}
+use Rattle.county_chart.specs.County.{County, county_of}
+use Rattle.county_chart.specs.Renumbering.{AreSame, Renumbering}
 use Rattle.canonical_form.specs.CountyViews.{plain}
 use Rattle.tigercanon.specs.Faults.{IsWantOfMemory, ReportsRefusal, ReportsRefusalOfRead}
-use Rattle.tigercanon.specs.{Sets.CarriesSetInView, Sets.IsAcceptedSet, declared.library.comparing.CompareFault.TheVariants.Memory}
-use Rattle.tigercanon.specs.{declared.library.comparing.CompareFault.CompareFault, declared.library.comparing.CompareFault.TheVariants.In}
+use Rattle.tigercanon.specs.Sets.{CarriesSetInView, IsAcceptedSet}
+use Rattle.tigercanon.specs.declared.library.comparing.CompareFault.TheVariants.{In, Memory}
+use Rattle.tigercanon.specs.declared.library.comparing.CompareFault.{CompareFault}
 
 -- both sets are accepted, and no renaming carries what the view shows of the first set's county onto what it shows of the second's
 pub record AreDifferentInView (view : County → County) (a b : List (List ℕ)) : Type 0 where

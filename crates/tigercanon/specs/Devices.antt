@@ -1,12 +1,18 @@
 -- What the program's jobs do with sources and a sink that count their failures.
 use Rattle.std.specs.Prelude.{Err, IfErr, List, None, Ok, Option, Result, ℕ, ◌+◌, ◌≡◌, ◌≢◌, ◌⊎◌}
-use Rattle.command_line.specs.{declared.plans.Job.Job, declared.plans.Job.TheVariants.Normalise}
+use Rattle.command_line.specs.declared.plans.Job.{Job}
+use Rattle.command_line.specs.declared.plans.Job.TheVariants.{Normalise}
 use Rattle.tigercanon.specs.declared.fault.Fault.TheVariants.{Load, Memory, Write}
 use Rattle.tigercanon.specs.Normalising.{AreRefusedParts, IsRefusalOfRead, StopsShort, Took}
 use Rattle.tigercanon.specs.Reading.{AreRead, NoneFailed, SomeUnread}
-use Rattle.tigercanon.specs.{Files.bytes_of, Outcomes.GivenOutput, Outcomes.GivenSet, declared.program.files.Opened.Opened}
-use Rattle.tigercanon.specs.{declared.fault.Fault.Fault, declared.program.ending.Ending.Ending, declared.program.ending.Stopped.Stopped}
-use Rattle.tl_load.specs.{declared.fault.LoadFault.TheVariants.Device, declared.source.Counted.Counted}
+use Rattle.tigercanon.specs.Files.{bytes_of}
+use Rattle.tigercanon.specs.Outcomes.{GivenOutput, GivenSet}
+use Rattle.tigercanon.specs.declared.program.files.Opened.{Opened}
+use Rattle.tigercanon.specs.declared.fault.Fault.{Fault}
+use Rattle.tigercanon.specs.declared.program.ending.Ending.{Ending}
+use Rattle.tigercanon.specs.declared.program.ending.Stopped.{Stopped}
+use Rattle.tl_load.specs.declared.fault.LoadFault.TheVariants.{Device}
+use Rattle.tl_load.specs.declared.source.Counted.{Counted}
 use Rattle.tl_write.specs.declared.fault.WriteFault.{WriteFault}
 
 -- what a job refuses sources for: normalising reads no further than the read that brings a fault, and every other job reads all

@@ -1,11 +1,14 @@
 -- Which faults a call may report for parts that it refuses, and for their records.
 use Rattle.std.specs.Prelude.{List, ℕ, ◌≢◌}
-use Rattle.tl_load.specs.{Loaded.IsOfLines, declared.fault.LoadFault.LoadFault}
+use Rattle.tl_load.specs.Loaded.{IsOfLines}
+use Rattle.tl_load.specs.declared.fault.LoadFault.{LoadFault}
 use Rattle.tl_load.specs.declared.fault.LoadFault.TheVariants.{Device, Memory as LoadMemory}
 use Rattle.county_chart.specs.declared.fault.LinkFault.TheVariants.{Memory as LinkMemory}
 use Rattle.county_chart.specs.declared.profile_fault.ProfileFault.TheVariants.{Memory as ProfileMemory}
 use Rattle.tigercanon.specs.declared.fault.Fault.TheVariants.{Link, Load, Memory, Profile, Write}
-use Rattle.tigercanon.specs.{Respelling.IsFirstFault, Sets.IsSetRefusal, declared.fault.Fault.Fault}
+use Rattle.tigercanon.specs.Respelling.{IsFirstFault}
+use Rattle.tigercanon.specs.Sets.{IsSetRefusal}
+use Rattle.tigercanon.specs.declared.fault.Fault.{Fault}
 
 -- a fault in the set's lines is that of the first faulty line; the only other faults are a failed allocation and a device's
 abbrev pub ReportsFirstFault : List (List ℕ) → Fault → Type 0

@@ -1,9 +1,9 @@
 -- What the files of a set hold.
 use Rattle.std.below.core.specs.declared.int.u64.TheConstants.{MAX}
-use Rattle.std.specs.Prelude.{◌≡◌, ◌<◌, ◌||◌, ℕ, Bool, true, false, List, [], ◌∷◌, Option, Some, None, IfSome, slice_get, map, All}
+use Rattle.std.specs.Prelude.{All, Bool, IfSome, List, None, Option, Some, [], false, map, slice_get, true, ℕ, ◌<◌, ◌||◌, ◌∷◌, ◌≡◌}
 use Rattle.std.specs.List.{list_any}
 use Rattle.tigercanon.specs.declared.program.files.Opened.{Opened}
-use Rattle.tigercanon.specs.declared.program.files.Opened.TheVariants.{Found, Absent, Failed}
+use Rattle.tigercanon.specs.declared.program.files.Opened.TheVariants.{Absent, Failed, Found}
 use Rattle.tl_load.specs.declared.source.Counted.{Counted}
 
 -- whether there is a file and it is absent

@@ -1,9 +1,12 @@
 -- What is found for two sets, or for two counties and their canonical counties.
 use Rattle.std.specs.Prelude.{Err, List, Ok, Result, ℕ, ◌≡◌, ◌≢◌}
-use Rattle.county_chart.specs.{County.County, Packing.packed, Renumbering.Carries, Renumbering.Renumbering}
+use Rattle.county_chart.specs.County.{County}
+use Rattle.county_chart.specs.Packing.{packed}
+use Rattle.county_chart.specs.Renumbering.{Carries, Renumbering}
 use Rattle.tigercanon.specs.Comparing.{AreDifferentInView, AreOneMapInView, IsAcceptable}
 use Rattle.tigercanon.specs.declared.library.comparing.Verdict.TheVariants.{Different, Same}
-use Rattle.tigercanon.specs.{Sets.CarriesSetInView, declared.library.comparing.Verdict.Verdict}
+use Rattle.tigercanon.specs.Sets.{CarriesSetInView}
+use Rattle.tigercanon.specs.declared.library.comparing.Verdict.{Verdict}
 
 -- that this renaming carries the first onto the second, that some renaming does, that none does, or nothing, because an allocation
 -- failed

@@ -4,7 +4,8 @@ use Rattle.hex.specs.Hex.{encode_lower}
 use Rattle.sha2.specs.Sha256.{sha256}
 use Rattle.county_chart.specs.County.{County}
 use Rattle.canonical_form.specs.CountyViews.{plain}
-use Rattle.tigercanon.specs.{Normalising.IsOnlyTextInView, Sets.IsCanonicalTextInView}
+use Rattle.tigercanon.specs.Normalising.{IsOnlyTextInView}
+use Rattle.tigercanon.specs.Sets.{IsCanonicalTextInView}
 
 -- these bytes are the hash of the canonical text of the parts in this view, and no other text is canonical for what the view
 -- shows of their map

@@ -1,11 +1,16 @@
 -- The outcome of normalising a set: its canonical text, in memory or on a sink, or why there is none.
 use Rattle.std.specs.Prelude.{Bool, Err, List, MatchResult, Ok, Option, Result, false, length, take, true, ℕ, ◌++◌, ◌+◌, ◌<◌, ◌≡◌}
-use Rattle.tl_layout.specs.{RecordText.text_of, declared.record_type.Record.Record}
-use Rattle.county_chart.specs.{County.County, County.county_of, Renumbering.AreSame}
-use Rattle.canonical_form.specs.{Canonical.IsCanonical, CountyViews.plain}
+use Rattle.tl_layout.specs.RecordText.{text_of}
+use Rattle.tl_layout.specs.declared.record_type.Record.{Record}
+use Rattle.county_chart.specs.County.{County, county_of}
+use Rattle.county_chart.specs.Renumbering.{AreSame}
+use Rattle.canonical_form.specs.Canonical.{IsCanonical}
+use Rattle.canonical_form.specs.CountyViews.{plain}
 use Rattle.tigercanon.specs.Sets.{IsAcceptedSet, IsCanonicalTextInView, IsSetRefusal}
 use Rattle.tigercanon.specs.declared.fault.Fault.TheVariants.{Load, Write}
-use Rattle.tigercanon.specs.{Faults.RefusesBy, Reading.AreRead, Reading.IsFaultOfRead, declared.fault.Fault.Fault}
+use Rattle.tigercanon.specs.Faults.{RefusesBy}
+use Rattle.tigercanon.specs.Reading.{AreRead, IsFaultOfRead}
+use Rattle.tigercanon.specs.declared.fault.Fault.{Fault}
 use Rattle.tl_write.specs.declared.fault.WriteFault.{WriteFault}
 
 -- each canonical list that the view shows whole, and whose county is the same as what the view shows of the county of the accepted

@@ -2,14 +2,19 @@
 -- is known about them.
 use Rattle.std.specs.Prelude.{List, Option, length, take, ℕ, ◌+◌, ◌<◌, ◌≡◌, ◌⊎◌}
 use Rattle.std.specs.Io.KnownBytes.{Appends}
-use Rattle.tl_layout.specs.{declared.mask.Mask.Mask, declared.record_type.Record.Record}
+use Rattle.tl_layout.specs.declared.mask.Mask.{Mask}
+use Rattle.tl_layout.specs.declared.record_type.Record.{Record}
 use Rattle.tl_load.specs.declared.fault.LoadFault.TheVariants.{Device}
 use Rattle.county_chart.specs.MaskedCounty.{masked}
 use Rattle.command_line.specs.declared.plans.Job.{Job}
 use Rattle.command_line.specs.declared.plans.Job.TheVariants.{Check, Compare, Fingerprint, Normalise, Respell}
 use Rattle.tigercanon.specs.declared.fault.Fault.TheVariants.{Link, Load, Profile}
-use Rattle.tigercanon.specs.{Faults.RefusesBy, Sets.IsAcceptedSet, Sets.IsCanonicalTextInView, Sets.SaysAccepted}
-use Rattle.tigercanon.specs.{Fingerprints.SaysFingerprintInView, Normalising.Took, Respelling.IsRespelt, declared.fault.Fault.Fault}
+use Rattle.tigercanon.specs.Faults.{RefusesBy}
+use Rattle.tigercanon.specs.Sets.{IsAcceptedSet, IsCanonicalTextInView, SaysAccepted}
+use Rattle.tigercanon.specs.Fingerprints.{SaysFingerprintInView}
+use Rattle.tigercanon.specs.Normalising.{Took}
+use Rattle.tigercanon.specs.Respelling.{IsRespelt}
+use Rattle.tigercanon.specs.declared.fault.Fault.{Fault}
 
 -- what is known about a set that a job was given: what it means that these are its parts, that it is refused for this fault, and
 -- that it couldn't be read

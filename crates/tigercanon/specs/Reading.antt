@@ -1,8 +1,11 @@
 -- What was read from the sources that give the parts of a set.
 use Rattle.std.specs.Prelude.{List, Option, [], map, ℕ, ◌++◌, ◌+◌, ◌-◌, ◌^◌, ◌∷◌, ◌≡◌, ◌⊎◌}
 use Rattle.std.specs.Io.KnownBytes.{IsAtEnd}
-use Rattle.tl_layout.specs.{Limits.most_records, declared.record_type.Record.Record}
-use Rattle.tl_load.specs.{Keeping.LoadedInto, Keeping.WasFedInto, Loaded.IsFaultHowever, Loaded.IsWellSoFar, Sources.Gave, Sources.RoseBy}
+use Rattle.tl_layout.specs.Limits.{most_records}
+use Rattle.tl_layout.specs.declared.record_type.Record.{Record}
+use Rattle.tl_load.specs.Keeping.{LoadedInto, WasFedInto}
+use Rattle.tl_load.specs.Loaded.{IsFaultHowever, IsWellSoFar}
+use Rattle.tl_load.specs.Sources.{Gave, RoseBy}
 use Rattle.tl_load.specs.declared.fault.LoadFault.{LoadFault}
 
 -- this holds for the next source, and the sources after it are unchanged

@@ -1,9 +1,11 @@
 -- The lines that report the program's faults.
 use Rattle.std.specs.Prelude.{List, None, Option, Some, [], codes, string_bytes, ℕ, ◌++◌, ◌∷◌, ◌≡◌}
 use Rattle.std.specs.Fmt.{decimal}
-use Rattle.fault_report.specs.{Reports.bare, Reports.report_line, declared.report.FaultReport.FaultReport}
+use Rattle.fault_report.specs.Reports.{bare, report_line}
+use Rattle.fault_report.specs.declared.report.FaultReport.{FaultReport}
 use Rattle.tl_load.specs.Reports.{load_report}
-use Rattle.county_chart.specs.{ProfileReports.profile_report, Reports.link_report}
+use Rattle.county_chart.specs.ProfileReports.{profile_report}
+use Rattle.county_chart.specs.Reports.{link_report}
 use Rattle.tl_write.specs.Reports.{write_report}
 use Rattle.command_line.specs.declared.plans.PlanFault.{PlanFault}
 use Rattle.command_line.specs.declared.plans.PlanFault.TheVariants.{Memory as PlanMemory, Usage}

@@ -5,10 +5,15 @@ use Rattle.tl_load.specs.declared.fault.LoadFault.TheVariants.{Device}
 use Rattle.tl_layout.specs.declared.mask.Mask.{Mask}
 use Rattle.command_line.specs.declared.plans.Job.{Job}
 use Rattle.tigercanon.specs.TwoSets.{IsDifferent, IsDone, IsPartOnly, IsReportedWhy, RefusesOne}
-use Rattle.tigercanon.specs.{Files.AreHeld, Files.lacks_file, Outcomes.GivenSet, Sets.IsSetRefusal, Statuses.reads_two}
-use Rattle.tigercanon.specs.{Outcomes.GivenOutput, Refusals.fault_line, Statuses.set_of_job, declared.program.files.Opened.Opened}
+use Rattle.tigercanon.specs.Files.{AreHeld, lacks_file}
+use Rattle.tigercanon.specs.Outcomes.{GivenOutput, GivenSet}
+use Rattle.tigercanon.specs.Sets.{IsSetRefusal}
+use Rattle.tigercanon.specs.Statuses.{reads_two, set_of_job}
+use Rattle.tigercanon.specs.Refusals.{fault_line}
+use Rattle.tigercanon.specs.declared.program.files.Opened.{Opened}
 use Rattle.tigercanon.specs.declared.fault.Fault.TheVariants.{Load, Memory}
-use Rattle.tigercanon.specs.{declared.fault.Fault.Fault, declared.program.ending.Stopped.Stopped}
+use Rattle.tigercanon.specs.declared.fault.Fault.{Fault}
+use Rattle.tigercanon.specs.declared.program.ending.Stopped.{Stopped}
 
 -- what the files hold is refused for this fault
 pub record AreRefused {R : Type 0} (remaining : R → Option (List ℕ)) (files : List (Opened R)) (fault : Fault) : Type 0 where

@@ -1,13 +1,21 @@
 -- Sets of parts, each a list of bytes: which sets are accepted, what the others are refused for, and the canonical text of a set.
 use Rattle.std.specs.Prelude.{List, [], codes, ℕ, ◌++◌, ◌∷◌, ◌≡◌}
-use Rattle.tl_layout.specs.{Limits.most_records, RecordText.text_of, declared.record_type.Record.Record}
-use Rattle.tl_load.specs.{Choice.tiger, Outcome.SpellsWithin, Verdicts.without_place}
-use Rattle.county_chart.specs.{County.County, County.county_of, LinkRules.IsLinked, Packing.Typed, Packing.packed, Packing.type_after_type}
+use Rattle.tl_layout.specs.Limits.{most_records}
+use Rattle.tl_layout.specs.RecordText.{text_of}
+use Rattle.tl_layout.specs.declared.record_type.Record.{Record}
+use Rattle.tl_load.specs.Choice.{tiger}
+use Rattle.tl_load.specs.Outcome.{SpellsWithin}
+use Rattle.tl_load.specs.Verdicts.{without_place}
+use Rattle.county_chart.specs.County.{County, county_of}
+use Rattle.county_chart.specs.LinkRules.{IsLinked}
+use Rattle.county_chart.specs.Packing.{Typed, packed, type_after_type}
 use Rattle.county_chart.specs.Renumbering.{Carries, Renumbering}
-use Rattle.canonical_form.specs.{Accepted.IsAccepted, Accepted.IsCanonicalInView, Accepted.IsRefusal, Accepted.RecordsRefusal}
-use Rattle.canonical_form.specs.{Accepted.RecordsRefusal.OutOfProfile, Accepted.RecordsRefusal.Unlinked, CountyViews.plain}
+use Rattle.canonical_form.specs.Accepted.{IsAccepted, IsCanonicalInView, IsRefusal, RecordsRefusal}
+use Rattle.canonical_form.specs.Accepted.RecordsRefusal.{OutOfProfile, Unlinked}
+use Rattle.canonical_form.specs.CountyViews.{plain}
 use Rattle.tigercanon.specs.declared.fault.Fault.TheVariants.{Link, Load, Memory, Profile, Write}
-use Rattle.tigercanon.specs.{Respelling.IsFirstFault, declared.fault.Fault.Fault}
+use Rattle.tigercanon.specs.Respelling.{IsFirstFault}
+use Rattle.tigercanon.specs.declared.fault.Fault.{Fault}
 
 -- the parts spell these records, which are accepted
 pub record IsAcceptedSet (parts : List (List ℕ)) (records : List Record) : Type 0 where

@@ -1,12 +1,17 @@
 -- What a job did with the sets that it was given; a comparison has two.
 use Rattle.std.specs.Prelude.{Contains, Err, List, None, Ok, Option, Result, Some, [], codes, ℕ, ◌++◌, ◌<◌, ◌∷◌, ◌≡◌, ◌≤◌, ◌⊎◌}
-use Rattle.command_line.specs.{declared.plans.Job.Job, declared.plans.Job.TheVariants.Compare}
+use Rattle.command_line.specs.declared.plans.Job.{Job}
+use Rattle.command_line.specs.declared.plans.Job.TheVariants.{Compare}
 use Rattle.tigercanon.specs.declared.program.ending.Ending.TheVariants.{Different, Done}
 use Rattle.tigercanon.specs.Comparing.{AreDifferentInView, AreOneMapInView}
-use Rattle.tigercanon.specs.Outcomes.{GivenOutput, GivenSet, HoldsAccepted, IsAnswer, IsAnswered, IsRead, Prints, PrintsFront, Refuses}
-use Rattle.tigercanon.specs.Outcomes.{Reports, ReportsSet}
-use Rattle.tigercanon.specs.{Faults.IsOfNoLines, Refusals.fault_line, Statuses.status_of, declared.program.ending.Ending.Ending}
-use Rattle.tigercanon.specs.{declared.fault.Fault.Fault, declared.fault.Fault.TheVariants.Write, declared.program.ending.Stopped.Stopped}
+use Rattle.tigercanon.specs.Outcomes.{GivenOutput, GivenSet, HoldsAccepted, IsAnswer, IsAnswered, IsRead, Prints, PrintsFront, Refuses, Reports, ReportsSet}
+use Rattle.tigercanon.specs.Faults.{IsOfNoLines}
+use Rattle.tigercanon.specs.Refusals.{fault_line}
+use Rattle.tigercanon.specs.Statuses.{status_of}
+use Rattle.tigercanon.specs.declared.program.ending.Ending.{Ending}
+use Rattle.tigercanon.specs.declared.fault.Fault.{Fault}
+use Rattle.tigercanon.specs.declared.fault.Fault.TheVariants.{Write}
+use Rattle.tigercanon.specs.declared.program.ending.Stopped.{Stopped}
 use Rattle.county_chart.specs.MaskedCounty.{masked}
 use Rattle.tl_layout.specs.declared.mask.Mask.{Mask}
 

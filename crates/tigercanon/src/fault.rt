@@ -3,7 +3,8 @@
 ghost use Rattle.std.specs.Prelude.{Some, length, ◌≡◌, ◌≤◌};
 ghost use Rattle.fault_report.specs.Reports.{report_line};
 ghost use Rattle.tigercanon.specs.declared.fault.Fault.TheVariants.{Link, Load, Memory, Profile, Write};
-ghost use Rattle.tigercanon.specs.{Refusals.report_of, Refusals.reported_of, Statuses.status_of};
+ghost use Rattle.tigercanon.specs.Refusals.{report_of, reported_of};
+ghost use Rattle.tigercanon.specs.Statuses.{status_of};
 
 use fault_report::{FaultKind, FaultReport, Line, push, push_digits};
 use std::alloc::{AllocError, AllocFailed};

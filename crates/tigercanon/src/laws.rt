@@ -2,12 +2,21 @@
 
 ghost use Rattle.std.specs.Prelude.{List, [], ℕ, ◌↔◌, ◌∷◌, ◌≡◌, ◌⊎◌};
 ghost use Rattle.tigercanon.specs.Sets.{IsAcceptedSet, IsCanonicalText, IsCanonicalTextInView, IsSetRefusal, refusal_without_place};
-ghost use Rattle.tigercanon.specs.{Normalising.IsOnlyTextInView, declared.fault.Fault.Fault};
-ghost use Rattle.tl_layout.specs.{Limits.most_records, Masked.no_mask, RecordText.text_of, declared.mask.Mask.Mask};
+ghost use Rattle.tigercanon.specs.Normalising.{IsOnlyTextInView};
+ghost use Rattle.tigercanon.specs.declared.fault.Fault.{Fault};
+ghost use Rattle.tl_layout.specs.Limits.{most_records};
+ghost use Rattle.tl_layout.specs.Masked.{no_mask};
+ghost use Rattle.tl_layout.specs.RecordText.{text_of};
+ghost use Rattle.tl_layout.specs.declared.mask.Mask.{Mask};
 ghost use Rattle.tl_layout.specs.declared.record_type.Record.{Record};
-ghost use Rattle.county_chart.specs.{County.County, County.county_of, MaskedCounty.masked, Renumbering.AreSame};
-ghost use Rattle.tl_load.specs.{Choice.tiger, Lines.HaveSameLines, Outcome.SpellsWithin};
-ghost use Rattle.canonical_form.specs.{CountyViews.IsView, Strict.IsStrictInView};
+ghost use Rattle.county_chart.specs.County.{County, county_of};
+ghost use Rattle.county_chart.specs.MaskedCounty.{masked};
+ghost use Rattle.county_chart.specs.Renumbering.{AreSame};
+ghost use Rattle.tl_load.specs.Choice.{tiger};
+ghost use Rattle.tl_load.specs.Lines.{HaveSameLines};
+ghost use Rattle.tl_load.specs.Outcome.{SpellsWithin};
+ghost use Rattle.canonical_form.specs.CountyViews.{IsView};
+ghost use Rattle.canonical_form.specs.Strict.{IsStrictInView};
 
 /// A set of parts is accepted or has a refusal, never both, and never two refusals.
 #[tactic(auto, using(crate::proofs::Sets::accepted_set_not_refused, crate::proofs::Sets::one_set_refusal))]

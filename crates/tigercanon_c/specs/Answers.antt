@@ -1,12 +1,16 @@
 -- The results of a call: its status and its struct.
 use Rattle.std.specs.Prelude.{Bool, List, map, ℕ, ◌≡◌, ◌≢◌}
 use Rattle.tigercanon.specs.declared.library.comparing.CompareFault.TheVariants.{In, Memory as NoVerdict}
-use Rattle.tigercanon.specs.{Faults.ReportsFirstFault, Statuses.status_of, declared.fault.Fault.Fault}
-use Rattle.tigercanon.specs.{declared.fault.Fault.TheVariants.Load, declared.library.comparing.CompareFault.CompareFault}
+use Rattle.tigercanon.specs.Faults.{ReportsFirstFault}
+use Rattle.tigercanon.specs.Statuses.{status_of}
+use Rattle.tigercanon.specs.declared.fault.Fault.{Fault}
+use Rattle.tigercanon.specs.declared.fault.Fault.TheVariants.{Load}
+use Rattle.tigercanon.specs.declared.library.comparing.CompareFault.{CompareFault}
 use Rattle.tl_layout.specs.declared.mask.Mask.{Mask}
 use Rattle.tl_load.specs.declared.fault.LoadFault.TheVariants.{Device}
 use Rattle.tigercanon_c.specs.Reported.{fault_reported, fault_reported_of_two}
-use Rattle.tigercanon_c.specs.{declared.edge.FaultNumbers.FaultNumbers, declared.edge.Part.Part}
+use Rattle.tigercanon_c.specs.declared.edge.FaultNumbers.{FaultNumbers}
+use Rattle.tigercanon_c.specs.declared.edge.Part.{Part}
 
 -- the bytes of each part
 abbrev pub bytes_of_lent : List Part → List (List ℕ)

@@ -1,9 +1,13 @@
 -- A fault as numbers: the number of each fault, and the fields that hold its places.
 use Rattle.std.specs.Prelude.{List, [], ℕ, ◌∷◌}
 use Rattle.fault_report.specs.declared.report.FaultPlace.TheVariants.{Cenid, Nowhere, Number, RecordType}
-use Rattle.fault_report.specs.{Reports.refusal_number, declared.report.FaultPlace.FaultPlace, declared.report.FaultReport.FaultReport}
+use Rattle.fault_report.specs.Reports.{refusal_number}
+use Rattle.fault_report.specs.declared.report.FaultPlace.{FaultPlace}
+use Rattle.fault_report.specs.declared.report.FaultReport.{FaultReport}
 use Rattle.tigercanon.specs.declared.library.comparing.CompareFault.TheVariants.{In, Memory as NoVerdict}
-use Rattle.tigercanon.specs.{Refusals.report_of, declared.fault.Fault.Fault, declared.fault.Fault.TheVariants.Memory}
+use Rattle.tigercanon.specs.Refusals.{report_of}
+use Rattle.tigercanon.specs.declared.fault.Fault.{Fault}
+use Rattle.tigercanon.specs.declared.fault.Fault.TheVariants.{Memory}
 use Rattle.tigercanon.specs.declared.library.comparing.CompareFault.{CompareFault}
 use Rattle.tigercanon_c.specs.declared.edge.FaultNumbers.{FaultNumbers}
 

@@ -3,12 +3,17 @@
 ghost use Rattle.std.specs.Prelude.{Err, IfErr, IfOk, List, Ok, OnOk, [], false, true, ℕ, ◌∷◌, ◌≡◌, ◌≢◌};
 ghost use Rattle.tigercanon.specs.Comparing.{AreDifferentInView, AreOneMapInView, ReportsMemoryOfAccepted, ReportsRefusalOfOne};
 ghost use Rattle.tigercanon.specs.Sets.{IsAcceptedSet, IsCanonicalText, IsCanonicalTextInView, IsOneCanonicalTextInView};
-ghost use Rattle.tigercanon.specs.{Faults.IsWantOfMemory, Faults.ReportsRefusalOfRead, Fingerprints.IsFingerprintInView};
-ghost use Rattle.tigercanon.specs.{LentParts.bytes_of_parts, Normalising.IsOnlyTextInView, Respelling.IsRespelt};
-ghost use Rattle.tl_layout.specs.{Limits.most_records, declared.record_type.Record.Record};
+ghost use Rattle.tigercanon.specs.Faults.{IsWantOfMemory, ReportsRefusalOfRead};
+ghost use Rattle.tigercanon.specs.Fingerprints.{IsFingerprintInView};
+ghost use Rattle.tigercanon.specs.LentParts.{bytes_of_parts};
+ghost use Rattle.tigercanon.specs.Normalising.{IsOnlyTextInView};
+ghost use Rattle.tigercanon.specs.Respelling.{IsRespelt};
+ghost use Rattle.tl_layout.specs.Limits.{most_records};
+ghost use Rattle.tl_layout.specs.declared.record_type.Record.{Record};
 ghost use Rattle.tigercanon_c.specs.Answers.{ReportsFirstFaultOfRead, bytes_of_lent};
 ghost use Rattle.county_chart.specs.MaskedCounty.{masked};
-ghost use Rattle.tl_load.specs.{Choice.tiger, Outcome.SpellsWithin};
+ghost use Rattle.tl_load.specs.Choice.{tiger};
+ghost use Rattle.tl_load.specs.Outcome.{SpellsWithin};
 
 use crate::edge::Part;
 use std::alloc::{AllocError, Global};

@@ -6,13 +6,17 @@
 ghost use Rattle.std.specs.Prelude.{List, [], ℕ, ◌<◌, ◌∷◌, ◌≡◌, ◌≢◌, ◌⊎◌};
 ghost use Rattle.tigercanon.specs.Comparing.{AreDifferentInView, AreOneMapInView, ReportsMemoryOfAccepted, ReportsRefusalOfOne};
 ghost use Rattle.tigercanon.specs.Sets.{IsAcceptedSet, IsCanonicalText, IsCanonicalTextInView, IsOneCanonicalTextInView};
-ghost use Rattle.tigercanon.specs.{Faults.ReportsRefusalOfRead, Fingerprints.IsFingerprintInView, Normalising.IsOnlyTextInView};
+ghost use Rattle.tigercanon.specs.Faults.{ReportsRefusalOfRead};
+ghost use Rattle.tigercanon.specs.Fingerprints.{IsFingerprintInView};
+ghost use Rattle.tigercanon.specs.Normalising.{IsOnlyTextInView};
 ghost use Rattle.tigercanon.specs.Respelling.{IsRespelt};
-ghost use Rattle.tl_layout.specs.{Limits.most_records, declared.record_type.Record.Record};
+ghost use Rattle.tl_layout.specs.Limits.{most_records};
+ghost use Rattle.tl_layout.specs.declared.record_type.Record.{Record};
 ghost use Rattle.tigercanon_c.specs.Answers.{ReportsFirstFaultOfRead, ReportsOne, ReportsOneOfTwo, bytes_of_lent, mask_of};
 ghost use Rattle.tigercanon_c.specs.Reported.{no_fault};
 ghost use Rattle.county_chart.specs.MaskedCounty.{masked};
-ghost use Rattle.tl_load.specs.{Choice.tiger, Outcome.SpellsWithin};
+ghost use Rattle.tl_load.specs.Choice.{tiger};
+ghost use Rattle.tl_load.specs.Outcome.{SpellsWithin};
 
 use crate::calls::{check_parts, compare_parts, fingerprint_parts, normalise_parts, respell_parts};
 use crate::reporting::{report, report_none, report_of_two};

@@ -1,10 +1,11 @@
 //! A fault reported as numbers, and its status.
 
 ghost use Rattle.std.specs.Prelude.{List, ℕ, ◌<◌, ◌≡◌, ◌≢◌, ◌⊎◌};
-ghost use Rattle.tigercanon.specs.{Comparing.ReportsRefusalOfOne, Faults.IsWantOfMemory, Faults.ReportsRefusalOfRead, Statuses.status_of};
+ghost use Rattle.tigercanon.specs.Comparing.{ReportsRefusalOfOne};
+ghost use Rattle.tigercanon.specs.Faults.{IsWantOfMemory, ReportsRefusalOfRead};
+ghost use Rattle.tigercanon.specs.Statuses.{status_of};
 ghost use Rattle.tigercanon_c.specs.Answers.{ReportsFirstFaultOfRead, status_of_two};
-ghost use Rattle.tigercanon_c.specs.Reported.{fault_reported, fault_reported_of_two, in_numbers, no_fault, place_number, with_numbers};
-ghost use Rattle.tigercanon_c.specs.Reported.{with_polygon, with_type};
+ghost use Rattle.tigercanon_c.specs.Reported.{fault_reported, fault_reported_of_two, in_numbers, no_fault, place_number, with_numbers, with_polygon, with_type};
 
 use crate::edge::FaultNumbers;
 use fault_report::{FaultPlace, FaultReport};

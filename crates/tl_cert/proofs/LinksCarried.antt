@@ -1,9 +1,5 @@
 -- The links of landmarks, collected landmark by landmark and compared by their fields.
-use Rattle.tl_cert.proofs.Common.{Bool, County, Decides, Fields8, IsCounty, IsPermutation, IsPermutation-map, IsPermutation-sym}
-use Rattle.tl_cert.proofs.Common.{IsPermutation-trans, IsTrue, Known, List, [], add-one, all_weaker, ap, apart_from_sorted}
-use Rattle.tl_cert.proofs.Common.{append-nil, append_assoc, decides_same, eight_land, flat_map, groups-permutation, lands}
-use Rattle.tl_cert.proofs.Common.{links_with, ltb-true, map, map-map, map_itself, nat_cmp, nat_keys, of_number, refl, slice_get, contains}
-use Rattle.tl_cert.proofs.Common.{subst, suc, sym, take, times, zero, ℕ, ◌++◌, ◌+◌, ◌∙◌, ◌∷◌, ◌≡◌}
+use Rattle.tl_cert.proofs.Common.{Bool, County, Decides, Fields8, IsCounty, IsPermutation, IsPermutation-map, IsPermutation-sym, IsPermutation-trans, IsTrue, Known, List, [], add-one, all_weaker, ap, apart_from_sorted, append-nil, append_assoc, contains, decides_same, eight_land, flat_map, groups-permutation, lands, links_with, ltb-true, map, map-map, map_itself, nat_cmp, nat_keys, of_number, refl, slice_get, subst, suc, sym, take, times, zero, ℕ, ◌++◌, ◌+◌, ◌∙◌, ◌∷◌, ◌≡◌}
 use Rattle.county_chart.specs.SequenceKeys.{link_sequence}
 
 -- the links of the landmarks with these LANDs, landmark by landmark

@@ -1,12 +1,5 @@
 -- A renaming carries the parts of a county exactly if the other county has each of them under its new number.
-use Rattle.tl_cert.proofs.Common.{AllByRecursion, Among, ArePaired, ArePartsThere, Body5, Body7, BodyP, Carries, County, IsApart, IsCounty}
-use Rattle.tl_cert.proofs.Common.{IsKeyOrder, IsLandmarkThere, IsPermutation, IsPermutation-map, IsPermutation-refl, IsPermutation-sym}
-use Rattle.tl_cert.proofs.Common.{IsPermutation-trans, Known, List, None, NumbersArePaired, Option, Ordering, PolygonKey, Renumbering, Some}
-use Rattle.tl_cert.proofs.Common.{[], all_among, all_both, all_map, all_unmap, all_weaker, among-permutation, ap, apart-permutation}
-use Rattle.tl_cert.proofs.Common.{apart_from_sorted, apart_tail, arith, carried_link, cond, entry_keys, false, feats, image, images-lefts}
-use Rattle.tl_cert.proofs.Common.{inl, inr, is_eq, key_keys, keys_known, lands, lefts, length, length_permutation, map, map-map, nat_cmp}
-use Rattle.tl_cert.proofs.Common.{nat_keys, polygon_keys, refl, renumbered, same-itself, same_or_not, subst, sym, times-yes, tlids}
-use Rattle.tl_cert.proofs.Common.{turned_if, turns, unwrap_or, value_under, ℕ, ◌∙◌, ◌∷◌, ◌≡◌, ◌≤◌, ◌⊎◌}
+use Rattle.tl_cert.proofs.Common.{AllByRecursion, Among, ArePaired, ArePartsThere, Body5, Body7, BodyP, Carries, County, IsApart, IsCounty, IsKeyOrder, IsLandmarkThere, IsPermutation, IsPermutation-map, IsPermutation-refl, IsPermutation-sym, IsPermutation-trans, Known, List, None, NumbersArePaired, Option, Ordering, PolygonKey, Renumbering, Some, [], all_among, all_both, all_map, all_unmap, all_weaker, among-permutation, ap, apart-permutation, apart_from_sorted, apart_tail, arith, carried_link, cond, entry_keys, false, feats, image, images-lefts, inl, inr, is_eq, key_keys, keys_known, lands, lefts, length, length_permutation, map, map-map, nat_cmp, nat_keys, polygon_keys, refl, renumbered, same-itself, same_or_not, subst, sym, times-yes, tlids, turned_if, turns, unwrap_or, value_under, ℕ, ◌∙◌, ◌∷◌, ◌≡◌, ◌≤◌, ◌⊎◌}
 
 -- a property of each element that is among others is one of each element
 among_all : {X : Type 0} (P : X → Type 0) (xs : List X) → ((x : X) → Among x xs → P x) → AllByRecursion P xs

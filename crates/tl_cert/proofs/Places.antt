@@ -1,7 +1,5 @@
 -- The numbers and the entries of a county, decided place by place.
-use Rattle.tl_cert.proofs.Common.{Bool, Decides, IfSome, IsInOrder, IsKeyOrder, IsPermutation, IsPermutation-sym, IsPermutation-trans, List}
-use Rattle.tl_cert.proofs.Common.{Option, Ordering, Some, [], ap, decides_over, entry_keys, entry_values, in_order-permutation, is_eq}
-use Rattle.tl_cert.proofs.Common.{lists_keys, same-itself, same-true, slice_cmp, slice_get, subst, suc, sym, true, zero, ℕ, ◌∙◌, ◌∷◌, ◌≡◌}
+use Rattle.tl_cert.proofs.Common.{Bool, Decides, IfSome, IsInOrder, IsKeyOrder, IsPermutation, IsPermutation-sym, IsPermutation-trans, List, Option, Ordering, Some, [], ap, decides_over, entry_keys, entry_values, in_order-permutation, is_eq, lists_keys, same-itself, same-true, slice_cmp, slice_get, subst, suc, sym, true, zero, ℕ, ◌∙◌, ◌∷◌, ◌≡◌}
 
 -- the key and the value of an entry are at the same place
 module _ {K V : Type 0} where

@@ -1,11 +1,18 @@
 -- The conditions under which a county has the parts of another under their new numbers.
 use Rattle.std.specs.Prelude.{List, Option, Some, option_map, ℕ, ◌≡◌}
-use Rattle.std.specs.{List.AllByRecursion, Ordering.nat_cmp}
-use Rattle.tl_layout.specs.{declared.type5.Body5.Body5, declared.type7.Body7.Body7, declared.type_p.BodyP.BodyP}
-use Rattle.tl_shape.specs.{Chain.Chain, Turned.turned_if}
+use Rattle.std.specs.List.{AllByRecursion}
+use Rattle.std.specs.Ordering.{nat_cmp}
+use Rattle.tl_layout.specs.declared.type5.Body5.{Body5}
+use Rattle.tl_layout.specs.declared.type7.Body7.{Body7}
+use Rattle.tl_layout.specs.declared.type_p.BodyP.{BodyP}
+use Rattle.tl_shape.specs.Chain.{Chain}
+use Rattle.tl_shape.specs.Turned.{turned_if}
 use Rattle.county_chart.specs.ChartWords.{bodies_under, chain_under, name_under, polygon_under}
-use Rattle.county_chart.specs.{County.County, PolygonKeys.PolygonKey, PolygonKeys.key_cmp, Renumbering.renumbered, Renumbering.turns}
-use Rattle.county_chart.specs.{DirectedChains.directed_chain, Renumbering.Renumbering, declared.directed_chain.DirectedChain.DirectedChain}
+use Rattle.county_chart.specs.County.{County}
+use Rattle.county_chart.specs.PolygonKeys.{PolygonKey, key_cmp}
+use Rattle.county_chart.specs.Renumbering.{Renumbering, renumbered, turns}
+use Rattle.county_chart.specs.DirectedChains.{directed_chain}
+use Rattle.county_chart.specs.declared.directed_chain.DirectedChain.{DirectedChain}
 use Rattle.ordered_lists.specs.Pairs.{image}
 use Rattle.tl_cert.specs.declared.renaming_tables.RenamingTables.{RenamingTables}
 

@@ -4,8 +4,10 @@
 //! part is looked up under its new number and compared with the part found there, a chain in the direction that the renaming gives it.
 //! Links have no number, so their fields under new numbers are sorted and compared as lists.
 
-ghost use Rattle.std.specs.{Bool.Decides, Prelude.IfOk};
-ghost use Rattle.county_chart.specs.{MaskedCounty.masked, Renumbering.Carries, Renumbering.NumbersArePaired};
+ghost use Rattle.std.specs.Bool.{Decides};
+ghost use Rattle.std.specs.Prelude.{IfOk};
+ghost use Rattle.county_chart.specs.MaskedCounty.{masked};
+ghost use Rattle.county_chart.specs.Renumbering.{Carries, NumbersArePaired};
 ghost use Rattle.tl_cert.specs.PartsThere.{ArePartsThere, tabled};
 
 use crate::chains::Chains;

@@ -1,10 +1,13 @@
 //! Whether a county has the chains of another under their new numbers, turned where the renaming turns them.
 
 ghost use Rattle.std.specs.Prelude.{length, map, option_map, ◌<◌, ◌≡◌};
-ghost use Rattle.std.specs.{Bool.Decides, Ordering.nat_cmp};
+ghost use Rattle.std.specs.Bool.{Decides};
+ghost use Rattle.std.specs.Ordering.{nat_cmp};
 ghost use Rattle.tl_cert.specs.PartsThere.{chain_carried, tabled};
 ghost use Rattle.county_chart.specs.SameParts.{HaveSameContent, HaveSameEnds, HaveSameLists};
-ghost use Rattle.county_chart.specs.{ChartWords.chain_at, ChartWords.feats_of, DirectedChains.directed_chain, Renumbering.renumbered_side};
+ghost use Rattle.county_chart.specs.ChartWords.{chain_at, feats_of};
+ghost use Rattle.county_chart.specs.DirectedChains.{directed_chain};
+ghost use Rattle.county_chart.specs.Renumbering.{renumbered_side};
 ghost use Rattle.county_chart.specs.PolygonKeys.{key_cmp};
 ghost use Rattle.ordered_lists.specs.Pairs.{image};
 
@@ -79,7 +82,8 @@ struct NewFeats<'a, C> {
 }
 
 impl<'a, C: Chart> Listed for NewFeats<'a, C> {
-    ghost use Rattle.std.specs.{Ordering.nat_cmp, Prelude.map};
+    ghost use Rattle.std.specs.Ordering.{nat_cmp};
+    ghost use Rattle.std.specs.Prelude.{map};
     ghost use Rattle.county_chart.specs.ChartWords.{chain_at, feats_of};
     ghost use Rattle.ordered_lists.specs.Pairs.{image};
 

@@ -1,9 +1,10 @@
 //! Whether a county has the links of another's landmarks under their new numbers.
 
 ghost use Rattle.std.specs.Bool.{Decides};
-ghost use Rattle.std.specs.Prelude.{◌≡◌, IfOk, IsPermutation, map};
+ghost use Rattle.std.specs.Prelude.{IfOk, IsPermutation, map, ◌≡◌};
 ghost use Rattle.tl_cert.specs.PartsThere.{tabled};
-ghost use Rattle.county_chart.specs.{Renumbering.carried_link, SequenceKeys.link_sequence};
+ghost use Rattle.county_chart.specs.Renumbering.{carried_link};
+ghost use Rattle.county_chart.specs.SequenceKeys.{link_sequence};
 
 use crate::pairing::are_reordered;
 use crate::renaming_tables::RenamingTables;

@@ -1,10 +1,13 @@
 //! Whether the lists of a renaming pair the numbers of two counties.
 
 ghost use Rattle.std.specs.Prelude.{IfOk, IsTrue, false, ◌≡◌};
-ghost use Rattle.std.specs.{Bool.Decides, List.AllByRecursion, Ordering.nat_cmp};
+ghost use Rattle.std.specs.Bool.{Decides};
+ghost use Rattle.std.specs.List.{AllByRecursion};
+ghost use Rattle.std.specs.Ordering.{nat_cmp};
 ghost use Rattle.county_chart.specs.CountyRules.{feats, lands, nodes, polygon_keys, tlids};
 ghost use Rattle.county_chart.specs.Renumbering.{NumbersArePaired};
-ghost use Rattle.ordered_lists.specs.{Orders.has_repeat, Orders.contains, Pairs.ArePaired};
+ghost use Rattle.ordered_lists.specs.Orders.{contains, has_repeat};
+ghost use Rattle.ordered_lists.specs.Pairs.{ArePaired};
 
 use crate::pairing::are_paired;
 use county_chart::{Chart, Feats, Lands, Nodes, PolygonKey, Polygons, Tested, Tlids, all_hold};

@@ -1,12 +1,16 @@
 -- The parts of a county, made from the groups of records that share a number.
 use Rattle.std.specs.Prelude.{List, Option, [], filter, flat_map, map, option_to_list, ℕ, ◌++◌, ◌∷◌}
-use Rattle.std.specs.{List.zip, Ordering.is_eq, Ordering.nat_cmp}
+use Rattle.std.specs.List.{zip}
+use Rattle.std.specs.Ordering.{is_eq, nat_cmp}
 use Rattle.tl_layout.specs.Fields.{Fields1, Fields2, Fields4, Fields6, Fields7, Fields8, FieldsI, FieldsP}
-use Rattle.tl_layout.specs.{ByType.of_number, declared.type_p.BodyP.BodyP}
+use Rattle.tl_layout.specs.ByType.{of_number}
+use Rattle.tl_layout.specs.declared.type_p.BodyP.{BodyP}
 use Rattle.tl_shape.specs.Chain.{Chain}
 use Rattle.county_chart.specs.County.{County, eight_land, first, four_tlid, one_tlid, p_key, seven_land, side_keys, six_tlid, two_tlid}
 use Rattle.county_chart.specs.PolygonKeys.{PolygonKey, key_cmp}
-use Rattle.county_chart.specs.{LandmarkParts.LandmarkParts, Packing.Typed, StoredCounty.county_with}
+use Rattle.county_chart.specs.LandmarkParts.{LandmarkParts}
+use Rattle.county_chart.specs.Packing.{Typed}
+use Rattle.county_chart.specs.StoredCounty.{county_with}
 use Rattle.ordered_lists.specs.Orders.{distinct}
 
 -- the chain made from its records, with the records of types 2, 4 and 6 in the order of their RTSQs

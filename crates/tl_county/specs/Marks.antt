@@ -1,5 +1,7 @@
 -- Type 4 records whose FEATs all have names.
-use Rattle.std.specs.{List.list_all, Ordering.nat_cmp, Prelude.Bool, Prelude.List, Prelude.ℕ}
+use Rattle.std.specs.List.{list_all}
+use Rattle.std.specs.Ordering.{nat_cmp}
+use Rattle.std.specs.Prelude.{Bool, List, ℕ}
 use Rattle.tl_layout.specs.Fields.{Fields4}
 use Rattle.ordered_lists.specs.Orders.{contains}
 

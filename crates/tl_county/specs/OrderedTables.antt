@@ -1,11 +1,15 @@
 -- Tables of records by type, each in the order of its records' numbers.
-use Rattle.std.specs.{Ordering.nat_cmp, Ordering.on, Prelude.IsPermutation}
+use Rattle.std.specs.Ordering.{nat_cmp, on}
+use Rattle.std.specs.Prelude.{IsPermutation}
 use Rattle.tl_layout.specs.declared.tables.Tables.{Tables}
 use Rattle.tl_county.specs.declared.linking.table_order.OrderedTables.{OrderedTables}
 use Rattle.county_chart.specs.County.{five_feat, i_tlid, one_tlid, p_key}
 use Rattle.county_chart.specs.SequenceKeys.{four_sequence, sequence_cmp, six_sequence, two_sequence}
-use Rattle.county_chart.specs.{BodyOrder.landmark_cmp, BodyOrder.link_cmp, Packing.Typed, PolygonKeys.key_cmp}
-use Rattle.ordered_lists.specs.{Orders.IsInOrder, Places.at_places}
+use Rattle.county_chart.specs.BodyOrder.{landmark_cmp, link_cmp}
+use Rattle.county_chart.specs.Packing.{Typed}
+use Rattle.county_chart.specs.PolygonKeys.{key_cmp}
+use Rattle.ordered_lists.specs.Orders.{IsInOrder}
+use Rattle.ordered_lists.specs.Places.{at_places}
 
 -- the records that the tables hold, type by type
 abbrev pub typed_of : Tables → Typed

@@ -1,11 +1,14 @@
 -- Lists of records that differ only in things that aren't part of the map: the packing of types 2 and 4, and the RTSQs.
 use Rattle.std.specs.Prelude.{IsPermutation, IsTrue, List, [], ℕ, ◌++◌, ◌<◌, ◌∷◌, ◌≡◌, ◌⊎◌}
-use Rattle.std.specs.{List.AllByRecursion, Ordering.nat_cmp}
+use Rattle.std.specs.List.{AllByRecursion}
+use Rattle.std.specs.Ordering.{nat_cmp}
 use Rattle.tl_layout.specs.declared.record_type.Record.TheVariants.{Four, Six, Two}
 use Rattle.tl_layout.specs.ByType.{of_number, of_type_2, of_type_4}
-use Rattle.tl_layout.specs.{Fields.Fields2, Fields.Fields4, declared.record_type.Record.Record}
+use Rattle.tl_layout.specs.Fields.{Fields2, Fields4}
+use Rattle.tl_layout.specs.declared.record_type.Record.{Record}
 use Rattle.county_chart.specs.County.{four_rtsq, four_tlid, two_rtsq, two_tlid}
-use Rattle.county_chart.specs.{LinkRules.rtsqs, declared.fault.SequencedType.SequencedType}
+use Rattle.county_chart.specs.LinkRules.{rtsqs}
+use Rattle.county_chart.specs.declared.fault.SequencedType.{SequencedType}
 use Rattle.ordered_lists.specs.Orders.{contains}
 use Rattle.county_chart.specs.declared.fault.SequencedType.TheVariants as sequenced
 

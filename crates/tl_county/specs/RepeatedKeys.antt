@@ -2,7 +2,9 @@
 use Rattle.std.specs.Prelude.{map}
 use Rattle.tl_county.specs.declared.linking.table_order.Repeated.{Repeated}
 use Rattle.county_chart.specs.SequenceKeys.{four_sequence, sequence_cmp, six_sequence, two_sequence}
-use Rattle.county_chart.specs.{County.p_key, Packing.Typed, PolygonKeys.key_cmp}
+use Rattle.county_chart.specs.County.{p_key}
+use Rattle.county_chart.specs.Packing.{Typed}
+use Rattle.county_chart.specs.PolygonKeys.{key_cmp}
 use Rattle.ordered_lists.specs.Keyed.{IsLeastPassing, is_repeated}
 
 -- for each type of the list, the least key that two records share, or none

@@ -2,10 +2,11 @@
 use Rattle.std.specs.Prelude.{List, false, true, ℕ, ◌<◌, ◌≡◌, ◌≤◌}
 use Rattle.std.specs.Ordering.{is_gt}
 use Rattle.tl_layout.specs.declared.record_type.Record.{Record}
-use Rattle.county_chart.specs.declared.fault.LinkFault.TheVariants.{ChainTwice, LandUnknown, LinkMissing, LinkTwice, Memory, NameTwice}
-use Rattle.county_chart.specs.declared.fault.LinkFault.TheVariants.{NameUnknown, NoChain, PolygonTwice, PolygonUnknown, SequenceBroken}
+use Rattle.county_chart.specs.declared.fault.LinkFault.TheVariants.{ChainTwice, LandUnknown, LinkMissing, LinkTwice, Memory, NameTwice, NameUnknown, NoChain, PolygonTwice, PolygonUnknown, SequenceBroken}
 use Rattle.county_chart.specs.declared.fault.LinkedType.TheVariants.{Four, I, Six, Two}
-use Rattle.county_chart.specs.{FirstOf.place_cmp, LinkRules.is_rule_broken, LinkRules.link_fault_place, declared.fault.LinkFault.LinkFault}
+use Rattle.county_chart.specs.FirstOf.{place_cmp}
+use Rattle.county_chart.specs.LinkRules.{is_rule_broken, link_fault_place}
+use Rattle.county_chart.specs.declared.fault.LinkFault.{LinkFault}
 use Rattle.county_chart.specs.declared.fault.SequencedType.TheVariants as sequenced
 
 -- the place of a fault's rule among the rules as they are checked; rules 12 and 13 count once for each record type

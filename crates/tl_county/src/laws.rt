@@ -3,10 +3,16 @@
 ghost use Rattle.std.specs.List.{AllByRecursion};
 ghost use Rattle.std.specs.Prelude.{IsPermutation, List, map, ℕ, ◌≡◌, ◌⊎◌};
 ghost use Rattle.county_chart.specs.Renumbering.{AreSame, Carries, Renumbering, identity, inverse, then};
-ghost use Rattle.county_chart.specs.{County.County, County.county_of, CountyRules.IsCounty, Limits.IsWithinLimits};
-ghost use Rattle.county_chart.specs.{LinkRules.IsFirstBrokenRule, LinkRules.IsLinked, Packing.packed, declared.fault.LinkFault.LinkFault};
+ghost use Rattle.county_chart.specs.County.{County, county_of};
+ghost use Rattle.county_chart.specs.CountyRules.{IsCounty};
+ghost use Rattle.county_chart.specs.Limits.{IsWithinLimits};
+ghost use Rattle.county_chart.specs.LinkRules.{IsFirstBrokenRule, IsLinked};
+ghost use Rattle.county_chart.specs.Packing.{packed};
+ghost use Rattle.county_chart.specs.declared.fault.LinkFault.{LinkFault};
 ghost use Rattle.tl_county.specs.Repacked.{IsSplit, KeepsSequence, LeavesEmptyOut, Sequence, resequenced};
-ghost use Rattle.tl_layout.specs.{Limits.IsWithinLimit, RecordText.FitsRecord, declared.record_type.Record.Record};
+ghost use Rattle.tl_layout.specs.Limits.{IsWithinLimit};
+ghost use Rattle.tl_layout.specs.RecordText.{FitsRecord};
+ghost use Rattle.tl_layout.specs.declared.record_type.Record.{Record};
 
 /// `AreSame` is an equivalence of counties.
 #[tactic(auto, using(county_chart::proofs::Sameness::Equivalence::laws_of_sameness))]

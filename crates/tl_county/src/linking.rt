@@ -4,16 +4,24 @@
 //! names are looked up, once for each use by a chain; uses are sorted only if some FEAT has no record of type 5. Every kind of
 //! county is built the same way: a builder makes its chains and landmarks.
 
-ghost use Rattle.std.specs.Ordering.{nat_cmp};
 ghost use Rattle.std.specs.Prelude.{IfErr, IfOk, IsPermutation, List, OnOk, flat_map, map, ◌++◌, ◌≡◌, ◌≢◌};
 ghost use Rattle.tl_county.specs.OrderedTables.{AreInOrder, ArePermuted, ordered_of, typed_of};
-ghost use Rattle.tl_county.specs.{Building.county_along, Building.landmarks_along, Building.topology_nodes, RepeatedKeys.AreLeastRepeated};
+ghost use Rattle.tl_county.specs.Building.{county_along, landmarks_along};
+ghost use Rattle.tl_county.specs.RepeatedKeys.{AreLeastRepeated};
 ghost use Rattle.county_chart.specs.County.{county_of, five_feat, i_tlid, link_key, one_tlid, p_key, side_keys};
-ghost use Rattle.county_chart.specs.{Limits.HoldsWithinLimits, Limits.IsWithinLimits, Packing.type_after_type, SequenceKeys.is_unnamed};
-ghost use Rattle.county_chart.specs.{Limits.most_records, LinkRules.IsLinked, Packing.by_type, PolygonKeys.key_cmp, SequenceKeys.uses_of};
-ghost use Rattle.county_chart.specs.{LinkRules.IsFirstBrokenRule, SequenceKeys.sequence_cmp, declared.fault.LinkFault.TheVariants.Memory};
-ghost use Rattle.ordered_lists.specs.{Entries.map_values, Keyed.IsLeastPassing, Keyed.is_unknown, Orders.IsInOrder, Orders.distinct};
-ghost use Rattle.tl_layout.specs.{Fields.Fields5, Limits.IsWithinLimit, Tables.HoldsByType, declared.record_type.Record.Record};
+ghost use Rattle.county_chart.specs.Limits.{IsWithinLimits};
+ghost use Rattle.county_chart.specs.Packing.{by_type, type_after_type};
+ghost use Rattle.county_chart.specs.SequenceKeys.{is_unnamed, sequence_cmp, uses_of};
+ghost use Rattle.tl_layout.specs.Limits.{IsWithinLimit, most_records};
+ghost use Rattle.county_chart.specs.LinkRules.{IsFirstBrokenRule, IsLinked};
+ghost use Rattle.county_chart.specs.PolygonKeys.{key_cmp};
+ghost use Rattle.county_chart.specs.declared.fault.LinkFault.TheVariants.{Memory};
+ghost use Rattle.ordered_lists.specs.Entries.{map_values};
+ghost use Rattle.ordered_lists.specs.Keyed.{IsLeastPassing, is_unknown};
+ghost use Rattle.ordered_lists.specs.Orders.{IsInOrder, distinct};
+ghost use Rattle.tl_layout.specs.Fields.{Fields5};
+ghost use Rattle.tl_layout.specs.Tables.{HoldsByType};
+ghost use Rattle.tl_layout.specs.declared.record_type.Record.{Record};
 
 mod arena;
 mod building;

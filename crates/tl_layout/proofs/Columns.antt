@@ -1,7 +1,5 @@
 -- The texts of numbers in eight columns.
-use Rattle.tl_layout.proofs.Common.{Bool, List, [], ap, append-nil, arith, cases_lt, drop_all, eqb-true, false, if◌then◌else◌, inl, inr}
-use Rattle.tl_layout.proofs.Common.{length, nat_eq, ne_eqb, refl, slice_set, suc, true, zero, ℕ, ◌%◌, ◌*◌, ◌++◌, ◌+◌, ◌-◌, ◌/◌, ◌<◌, ◌==◌}
-use Rattle.tl_layout.proofs.Common.{◌∙◌, ◌∷◌, ◌≡◌, ◌≤◌, ◌⊎◌}
+use Rattle.tl_layout.proofs.Common.{Bool, List, [], ap, append-nil, arith, cases_lt, drop_all, eqb-true, false, if◌then◌else◌, inl, inr, length, nat_eq, ne_eqb, refl, slice_set, suc, true, zero, ℕ, ◌%◌, ◌*◌, ◌++◌, ◌+◌, ◌-◌, ◌/◌, ◌<◌, ◌==◌, ◌∙◌, ◌∷◌, ◌≡◌, ◌≤◌, ◌⊎◌}
 use Rattle.tl_layout.specs.FieldTexts.{digits_text, number_text, text_behind}
 use borrow.Rule.Slice.PartMut.{put_mid}
 

@@ -1,6 +1,5 @@
 -- A coordinate that is only a sign and digits.
-use Rattle.tl_layout.proofs.Common.{IfSome, List, None, Option, Some, Value, [], ap, arith, chunk, get_or, inl, inr, le-leb, length}
-use Rattle.tl_layout.proofs.Common.{minus_of, number_after, plus_of, refl, sym, take_all, true, ℕ, ℤ, ◌∙◌, ◌∷◌, ◌≡◌, ◌≤◌, ◌⊎◌}
+use Rattle.tl_layout.proofs.Common.{IfSome, List, None, Option, Some, Value, [], ap, arith, chunk, get_or, inl, inr, le-leb, length, minus_of, number_after, plus_of, refl, sym, take_all, true, ℕ, ℤ, ◌∙◌, ◌∷◌, ◌≡◌, ◌≤◌, ◌⊎◌}
 use Rattle.tl_layout.specs.NumberField.{is_digit}
 use Rattle.tl_layout.specs.CoordinateReading.{coordinate_of, magnitude_of, signed_of}
 

@@ -1,8 +1,5 @@
 -- Reading places one after another: the items that were read, followed by the items of the remaining places.
-use Rattle.tl_layout.proofs.Common.{Bool, Err, FieldFault, List, None, Ok, Option, Result, Some, ZEROS, [], and_parts, ap, append-nil}
-use Rattle.tl_layout.proofs.Common.{append_assoc, arith, columns, drop, drop-drop, drop-take, eqb, eqb-true, false, gap, most_latitude}
-use Rattle.tl_layout.proofs.Common.{most_longitude, coordinates_of, reads_on, refl, subst, suc, suc-mul, sym, take, take-take, true, ℕ, ◌*◌, ◌++◌}
-use Rattle.tl_layout.proofs.Common.{◌+◌, ◌-◌, ◌∙◌, ◌∷◌, ◌≡◌, ◌≤◌}
+use Rattle.tl_layout.proofs.Common.{Bool, Err, FieldFault, List, None, Ok, Option, Result, Some, ZEROS, [], and_parts, ap, append-nil, append_assoc, arith, columns, coordinates_of, drop, drop-drop, drop-take, eqb, eqb-true, false, gap, most_latitude, most_longitude, reads_on, refl, subst, suc, suc-mul, sym, take, take-take, true, ℕ, ◌*◌, ◌++◌, ◌+◌, ◌-◌, ◌∙◌, ◌∷◌, ◌≡◌, ◌≤◌}
 use Rattle.tl_layout.specs.CoordinateReading.{coordinate_of, magnitude_of, signed_of}
 use Rattle.tl_layout.specs.FieldReading.{and_then, places_reading, point_or_none, point_or_none_at}
 use Rattle.tl_layout.specs.NumberReading.{number_after}

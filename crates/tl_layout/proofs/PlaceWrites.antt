@@ -1,6 +1,5 @@
 -- Writing places one after another.
-use Rattle.tl_layout.proofs.Common.{List, Option, [], ap, append-nil, append_assoc, drop, refl, slice_get, subst, suc, sym, zero, ℕ, ◌++◌}
-use Rattle.tl_layout.proofs.Common.{◌∙◌, ◌∷◌, ◌≡◌}
+use Rattle.tl_layout.proofs.Common.{List, Option, [], ap, append-nil, append_assoc, drop, refl, slice_get, subst, suc, sym, zero, ℕ, ◌++◌, ◌∙◌, ◌∷◌, ◌≡◌}
 use Rattle.tl_layout.specs.FieldTexts.{places_text}
 
 -- the text of the places from one on is that place's text and the text of the places after it

@@ -1,7 +1,5 @@
 -- If tables hold a list, they hold the longer list after a record was added.
-use Rattle.tl_layout.proofs.Common.{AddsRecord, HoldsByType, List, None, Option, Record, Some, Tables, Type1, Type2, Type4, Type5, Type6}
-use Rattle.tl_layout.proofs.Common.{Type7, Type8, TypeI, TypeP, [], and_then_one, ap, append-nil, as_type, cons_option, filter_map}
-use Rattle.tl_layout.proofs.Common.{filter_map-append, refl, sym, ◌++◌, ◌∙◌, ◌∷◌, ◌≡◌}
+use Rattle.tl_layout.proofs.Common.{AddsRecord, HoldsByType, List, None, Option, Record, Some, Tables, Type1, Type2, Type4, Type5, Type6, Type7, Type8, TypeI, TypeP, [], and_then_one, ap, append-nil, as_type, cons_option, filter_map, filter_map-append, refl, sym, ◌++◌, ◌∙◌, ◌∷◌, ◌≡◌}
 
 last_of : {Y : Type 0} (o : Option Y) (ys : List Y) → ys ++ cons_option o [] ≡ and_then_one ys o
 last_of None ys = append-nil ys

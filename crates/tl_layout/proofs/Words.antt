@@ -1,8 +1,7 @@
 -- Eight digits in the bytes of a word, and their number.
-use Rattle.tl_layout.proofs.Common.{Bool, List, Some, bit_and, cond, drop, drop_all, false, get_or, le-leb, leb, leb-true, length, ltb-true}
-use Rattle.tl_layout.proofs.Common.{[], ap, lit<, lt-ltb, ltb, map, refl, suc, true, zero, ℕ, ◌%◌, ◌*◌, ◌+◌, ◌-◌, ◌/◌, ◌<◌, ◌^◌, ◌∙◌, ◌∷◌, ◌≡◌, ◌≤◌}
-use Rattle.tl_layout.proofs.Common.{and_block, and_from, and_mask, and_parts, and_self, arith, drop_blanks, drop_more, pow-succ', replicate}
-use Rattle.tl_layout.specs.{NumberField.is_blank, NumberField.is_digit, NumberReading.number_after}
+use Rattle.tl_layout.proofs.Common.{Bool, List, Some, [], and_block, and_from, and_mask, and_parts, and_self, ap, arith, bit_and, cond, drop, drop_all, drop_blanks, drop_more, false, get_or, le-leb, leb, leb-true, length, lit<, lt-ltb, ltb, ltb-true, map, pow-succ', refl, replicate, suc, true, zero, ℕ, ◌%◌, ◌*◌, ◌+◌, ◌-◌, ◌/◌, ◌<◌, ◌^◌, ◌∙◌, ◌∷◌, ◌≡◌, ◌≤◌}
+use Rattle.tl_layout.specs.NumberField.{is_blank, is_digit}
+use Rattle.tl_layout.specs.NumberReading.{number_after}
 use lib.Lanes.{mask_l, sel_l}
 
 -- masking a word with two bytes before it keeps the first of the two

@@ -1,6 +1,5 @@
 -- The contents of a buffer after a part of it was written.
-use Rattle.tl_layout.proofs.Common.{List, [], ap, append-nil, arith, codes, drop, drop_all, joined, length, slice_set, sym, take}
-use Rattle.tl_layout.proofs.Common.{take-put_mid, take_all, ℕ, ◌++◌, ◌+◌, ◌-◌, ◌∙◌, ◌∷◌, ◌≡◌, ◌≤◌}
+use Rattle.tl_layout.proofs.Common.{List, [], ap, append-nil, arith, codes, drop, drop_all, joined, length, slice_set, sym, take, take-put_mid, take_all, ℕ, ◌++◌, ◌+◌, ◌-◌, ◌∙◌, ◌∷◌, ◌≡◌, ◌≤◌}
 use borrow.Rule.Slice.PartMut.{put_mid}
 
 -- the first position was written, and then all others

@@ -1,6 +1,5 @@
 -- The digits of a number in the bytes of a word.
-use Rattle.tl_layout.proofs.Common.{[], and_block, and_mask, ap, arith, bit_and, get_or, le_bytes_8, lit<, refl, suc, to_le_bytes, w64}
-use Rattle.tl_layout.proofs.Common.{zero, ℕ, ◌%◌, ◌*◌, ◌+◌, ◌-◌, ◌/◌, ◌<◌, ◌^◌, ◌∙◌, ◌∷◌, ◌≡◌, ◌≤◌}
+use Rattle.tl_layout.proofs.Common.{[], and_block, and_mask, ap, arith, bit_and, get_or, le_bytes_8, lit<, refl, suc, to_le_bytes, w64, zero, ℕ, ◌%◌, ◌*◌, ◌+◌, ◌-◌, ◌/◌, ◌<◌, ◌^◌, ◌∙◌, ◌∷◌, ◌≡◌, ◌≤◌}
 
 -- the lowest seven bits of each of two numbers in a word, nineteen bits up
 two_low_bits : (a b : ℕ) → a < 67108864 → b < 67108864 → bit_and ((b * 4294967296 + a) / 524288) 545460846719

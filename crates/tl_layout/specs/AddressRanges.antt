@@ -1,6 +1,7 @@
 -- Address ranges and ZIP codes, 58 bytes.
 use Rattle.std.specs.Prelude.{List, ℕ, ◌+◌, ◌∷◌}
-use Rattle.tl_layout.specs.{Bytes.IsText, Bytes.columns, Pairs.FitsPair, Pairs.pair_at, Pairs.pair_of, Pairs.pair_texts}
+use Rattle.tl_layout.specs.Bytes.{IsText, columns}
+use Rattle.tl_layout.specs.Pairs.{FitsPair, pair_at, pair_of, pair_texts}
 use Rattle.tl_layout.specs.declared.ranges.Ranges.{Ranges}
 
 -- each field of the ranges has its width

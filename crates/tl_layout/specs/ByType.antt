@@ -1,5 +1,5 @@
 -- The records of one type in a list of records, in their order.
-use Rattle.std.specs.Prelude.{ℕ, List, ◌==◌, filter}
+use Rattle.std.specs.Prelude.{List, filter, ℕ, ◌==◌}
 use Rattle.tl_layout.specs.Fields.{Fields1, Fields2, Fields4, Fields5, Fields6, Fields7, Fields8, FieldsI, FieldsP}
 use Rattle.tl_layout.specs.RecordTypes.{Type1, Type2, Type4, Type5, Type6, Type7, Type8, TypeI, TypeP, of_type}
 use Rattle.tl_layout.specs.declared.record_type.Record.{Record}

@@ -1,5 +1,5 @@
 -- The bytes that are allowed in a line, and the bytes in given columns.
-use Rattle.std.specs.Prelude.{◌≡◌, ℕ, ◌-◌, List, [], ◌∷◌, length, replicate, Bool, cond, nat_le, nat_lt, ◌&&◌, ◌||◌, IsTrue, slice_range, All}
+use Rattle.std.specs.Prelude.{All, Bool, IsTrue, List, [], cond, length, nat_le, nat_lt, replicate, slice_range, ℕ, ◌&&◌, ◌-◌, ◌||◌, ◌∷◌, ◌≡◌}
 
 -- a byte that is allowed in a line: printable ASCII, or the upper half of Latin-1 from the no-break space on
 abbrev pub is_allowed : ℕ → Bool

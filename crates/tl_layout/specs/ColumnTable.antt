@@ -3,9 +3,10 @@
 use Rattle.std.specs.Prelude.{Bool, IfSome, List, Option, [], cond, false, length, nat_le, ℕ, ◌&&◌, ◌+◌, ◌-◌, ◌==◌, ◌∷◌, ◌≡◌, ◌≤◌}
 use Rattle.std.specs.List.{AllByRecursion}
 use Rattle.tl_layout.specs.Bytes.{IsText, blanks, columns}
-use Rattle.tl_layout.specs.FieldMeaning.{SpellsNumber, SpellsNumberOrNone, SpellsNumberPlace, SpellsPlaces, SpellsPoint, SpellsPointOrNone}
-use Rattle.tl_layout.specs.FieldMeaning.{SpellsPointPlace}
-use Rattle.tl_layout.specs.{Coordinates.Coordinates, Coordinates.IsOnMap, Numbers.IsNumber, Numbers.IsNumberOrNone, declared.mask.Mask.Mask}
+use Rattle.tl_layout.specs.FieldMeaning.{SpellsNumber, SpellsNumberOrNone, SpellsNumberPlace, SpellsPlaces, SpellsPoint, SpellsPointOrNone, SpellsPointPlace}
+use Rattle.tl_layout.specs.Coordinates.{Coordinates, IsOnMap}
+use Rattle.tl_layout.specs.Numbers.{IsNumber, IsNumberOrNone}
+use Rattle.tl_layout.specs.declared.mask.Mask.{Mask}
 
 -- what a field holds
 pub data Kind : Type 0 where

@@ -1,5 +1,5 @@
 -- Lines as sequences of texts.
-use Rattle.std.specs.Prelude.{ℕ, List, [], ◌∷◌, ◌++◌}
+use Rattle.std.specs.Prelude.{List, [], ℕ, ◌++◌, ◌∷◌}
 
 -- the texts one after another, following what was written
 -- before

@@ -1,5 +1,5 @@
 -- Coordinates: blanks, at most one sign, digits, blanks.
-use Rattle.std.specs.Prelude.{◌≡◌, ℕ, zero, suc, ◌≤◌, true, List, [], ◌∷◌, ◌++◌, ℤ, pos, negsuc}
+use Rattle.std.specs.Prelude.{List, [], negsuc, pos, suc, true, zero, ℕ, ℤ, ◌++◌, ◌∷◌, ◌≡◌, ◌≤◌}
 use Rattle.std.specs.List.{list_all}
 use Rattle.tl_layout.specs.NumberField.{is_blank, is_digit, value_after}
 

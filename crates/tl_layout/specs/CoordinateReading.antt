@@ -2,7 +2,9 @@
 use Rattle.std.specs.Prelude.{List, None, Option, Some, [], if◌then◌else◌, nat_le, pos, ℕ, ℤ, ◌==◌, ◌∷◌}
 use Rattle.tl_layout.specs.NumberReading.{drop_blanks, number_after}
 use Rattle.tl_layout.specs.declared.coordinate.Coordinate.TheVariants.{Blank, Malformed, Value}
-use Rattle.tl_layout.specs.{CoordinateField.negated, NumberField.is_digit, declared.coordinate.Coordinate.Coordinate}
+use Rattle.tl_layout.specs.CoordinateField.{negated}
+use Rattle.tl_layout.specs.NumberField.{is_digit}
+use Rattle.tl_layout.specs.declared.coordinate.Coordinate.{Coordinate}
 
 -- the number, if it is within the limit
 abbrev pub within : ℕ → Option ℕ → Option ℕ

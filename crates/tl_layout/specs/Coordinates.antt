@@ -1,5 +1,5 @@
 -- Points of the map, in millionths of a degree.
-use Rattle.std.specs.Prelude.{ℕ, ◌+◌, ◌≤◌, ◌<◌, ℤ, unsigned_abs}
+use Rattle.std.specs.Prelude.{unsigned_abs, ℕ, ℤ, ◌+◌, ◌<◌, ◌≤◌}
 
 -- the greatest magnitude of a longitude, nine digits of millionths of a degree
 abbrev pub most_longitude : ℕ

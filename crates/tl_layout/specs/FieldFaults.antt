@@ -3,11 +3,12 @@
 use Rattle.std.specs.Prelude.{List, Option, Some, length, ℕ, ℤ, ◌*◌, ◌++◌, ◌+◌, ◌<◌, ◌∷◌, ◌≡◌, ◌⊎◌}
 use Rattle.std.specs.List.{AllByRecursion}
 use Rattle.tl_layout.specs.FieldMeaning.{SpellsNumberPlace, SpellsPlaces, SpellsPointPlace}
-use Rattle.tl_layout.specs.ColumnTable.{Kind, NumberOrNone, NumberPlaces, Pair, PairOrNone, PointPlaces, Row, SpellsField, SpellsValue}
-use Rattle.tl_layout.specs.ColumnTable.{ValueOf}
+use Rattle.tl_layout.specs.ColumnTable.{Kind, NumberOrNone, NumberPlaces, Pair, PairOrNone, PointPlaces, Row, SpellsField, SpellsValue, ValueOf}
 use Rattle.tl_layout.specs.declared.fault.FieldKind.TheVariants.{BadNumber, BadPoint, GapInRecord}
-use Rattle.tl_layout.specs.{Bytes.columns, CoordinateField.IsBlankField, CoordinateField.IsCoordinateField, Coordinates.most_latitude}
-use Rattle.tl_layout.specs.{Coordinates.most_longitude, declared.fault.FieldFault.FieldFault}
+use Rattle.tl_layout.specs.Bytes.{columns}
+use Rattle.tl_layout.specs.CoordinateField.{IsBlankField, IsCoordinateField}
+use Rattle.tl_layout.specs.Coordinates.{most_latitude, most_longitude}
+use Rattle.tl_layout.specs.declared.fault.FieldFault.{FieldFault}
 
 -- a bad number, reported at this column
 abbrev pub bad_number : ℕ → FieldFault

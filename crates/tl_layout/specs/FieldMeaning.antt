@@ -1,7 +1,9 @@
 -- What the fields of a line spell: numbers, points, and places side by side.
 use Rattle.std.specs.Prelude.{List, None, Option, Some, [], pos, suc, unsigned_abs, zero, ℕ, ◌+◌, ◌<◌, ◌∷◌, ◌⊎◌}
 use Rattle.tl_layout.specs.Coordinates.{Coordinates, most_latitude, most_longitude}
-use Rattle.tl_layout.specs.{Bytes.columns, CoordinateField.IsBlankField, CoordinateField.IsCoordinateField, NumberField.IsNumberField}
+use Rattle.tl_layout.specs.Bytes.{columns}
+use Rattle.tl_layout.specs.CoordinateField.{IsBlankField, IsCoordinateField}
+use Rattle.tl_layout.specs.NumberField.{IsNumberField}
 
 -- the field spells a number
 abbrev pub SpellsNumber : List ℕ → ℕ → Type 0

@@ -1,11 +1,13 @@
 -- Number fields and pairs of coordinates in the columns of a line, and how they are read.
-use Rattle.std.specs.Prelude.{Bool, Err, List, None, Ok, Option, Result, Some, [], false, if◌then◌else◌, suc, true, unsigned_abs, zero, ℕ}
-use Rattle.std.specs.Prelude.{ℤ, ◌+◌, ◌==◌, ◌∷◌, ◌≡◌}
+use Rattle.std.specs.Prelude.{Bool, Err, List, None, Ok, Option, Result, Some, [], false, if◌then◌else◌, suc, true, unsigned_abs, zero, ℕ, ℤ, ◌+◌, ◌==◌, ◌∷◌, ◌≡◌}
 use Rattle.tl_layout.specs.Coordinates.{Coordinates, most_latitude, most_longitude}
 use Rattle.tl_layout.specs.declared.coordinate.Coordinate.TheVariants.{Blank, Malformed, Value}
 use Rattle.tl_layout.specs.FieldFaults.{bad_number, bad_point, gap}
-use Rattle.tl_layout.specs.{Bytes.columns, CoordinateReading.coordinate_of, NumberReading.number_of}
-use Rattle.tl_layout.specs.{declared.coordinate.Coordinate.Coordinate, declared.fault.FieldFault.FieldFault}
+use Rattle.tl_layout.specs.Bytes.{columns}
+use Rattle.tl_layout.specs.CoordinateReading.{coordinate_of}
+use Rattle.tl_layout.specs.NumberReading.{number_of}
+use Rattle.tl_layout.specs.declared.coordinate.Coordinate.{Coordinate}
+use Rattle.tl_layout.specs.declared.fault.FieldFault.{FieldFault}
 
 -- reading continues after a value, and stops at the first fault
 unfoldable pub and_then : {A B : Type 0} → Result A FieldFault → (A → Result B FieldFault) → Result B FieldFault

@@ -1,10 +1,9 @@
 -- The canonical texts of values and of the columns of a record.
-use Rattle.std.specs.Prelude.{List, None, Option, Some, [], codes, if◌then◌else◌, negsuc, pos, replicate, suc, unsigned_abs, unwrap_or}
-use Rattle.std.specs.Prelude.{zero, ℕ, ℤ, ◌%◌, ◌++◌, ◌+◌, ◌/◌, ◌==◌, ◌∷◌}
+use Rattle.std.specs.Prelude.{List, None, Option, Some, [], codes, if◌then◌else◌, negsuc, pos, replicate, suc, unsigned_abs, unwrap_or, zero, ℕ, ℤ, ◌%◌, ◌++◌, ◌+◌, ◌/◌, ◌==◌, ◌∷◌}
 use Rattle.std.specs.List.{flat_map}
-use Rattle.tl_layout.specs.ColumnTable.{Filler, Kind, Number, NumberOrNone, NumberPlaces, Opaque, Pair, PairOrNone, PointPlaces, Row}
-use Rattle.tl_layout.specs.ColumnTable.{ValueOf, width_of}
-use Rattle.tl_layout.specs.{Columns.joined, Coordinates.Coordinates}
+use Rattle.tl_layout.specs.ColumnTable.{Filler, Kind, Number, NumberOrNone, NumberPlaces, Opaque, Pair, PairOrNone, PointPlaces, Row, ValueOf, width_of}
+use Rattle.tl_layout.specs.Columns.{joined}
+use Rattle.tl_layout.specs.Coordinates.{Coordinates}
 
 -- a number right justified in that many columns: leading blanks, and digits up to the last column
 unfoldable pub number_text : ℕ → ℕ → List ℕ

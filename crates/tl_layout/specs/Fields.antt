@@ -1,8 +1,13 @@
 -- The records in contracts: the fields that each record type has.
 use Rattle.std.specs.Prelude.{List, Option, ℕ}
-use Rattle.tl_layout.specs.{Coordinates.Coordinates, PolygonSide.PolygonSide, declared.ranges.Ranges.Ranges}
-use Rattle.tl_layout.specs.{declared.type1.fields.Body1Fields.Body1Fields, declared.type5.Body5.Body5, declared.type7.Body7.Body7}
-use Rattle.tl_layout.specs.{declared.type_i.BodyI.BodyI, declared.type_p.BodyP.BodyP}
+use Rattle.tl_layout.specs.Coordinates.{Coordinates}
+use Rattle.tl_layout.specs.PolygonSide.{PolygonSide}
+use Rattle.tl_layout.specs.declared.ranges.Ranges.{Ranges}
+use Rattle.tl_layout.specs.declared.type1.fields.Body1Fields.{Body1Fields}
+use Rattle.tl_layout.specs.declared.type5.Body5.{Body5}
+use Rattle.tl_layout.specs.declared.type7.Body7.{Body7}
+use Rattle.tl_layout.specs.declared.type_i.BodyI.{BodyI}
+use Rattle.tl_layout.specs.declared.type_p.BodyP.{BodyP}
 
 -- record type 1: a chain with its two end points
 pub record Fields1 : Type 0 where

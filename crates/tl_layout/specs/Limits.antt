@@ -1,6 +1,7 @@
 -- How many records of each type a list has, and may have.
 use Rattle.std.specs.Prelude.{List, count_by, ℕ, ◌==◌, ◌≤◌}
-use Rattle.tl_layout.specs.{RecordText.type_of, declared.record_type.Record.Record}
+use Rattle.tl_layout.specs.RecordText.{type_of}
+use Rattle.tl_layout.specs.declared.record_type.Record.{Record}
 
 -- how many of the records are of this type
 abbrev pub count_of_type : ℕ → List Record → ℕ

@@ -1,8 +1,12 @@
 -- What a mask makes of the contents of records: fields that it leaves out are blank, and every other keeps its
 -- value.
 use Rattle.std.specs.Prelude.{false}
-use Rattle.tl_layout.specs.{Bytes.blanks_if, Fields.Fields1, Fields.Fields7, Fields.FieldsI, declared.mask.Mask.Mask}
-use Rattle.tl_layout.specs.{declared.type1.fields.Body1Fields.Body1Fields, declared.type7.Body7.Body7, declared.type_i.BodyI.BodyI}
+use Rattle.tl_layout.specs.Bytes.{blanks_if}
+use Rattle.tl_layout.specs.Fields.{Fields1, Fields7, FieldsI}
+use Rattle.tl_layout.specs.declared.mask.Mask.{Mask}
+use Rattle.tl_layout.specs.declared.type1.fields.Body1Fields.{Body1Fields}
+use Rattle.tl_layout.specs.declared.type7.Body7.{Body7}
+use Rattle.tl_layout.specs.declared.type_i.BodyI.{BodyI}
 
 -- the mask that leaves nothing out
 abbrev pub no_mask : Mask

@@ -1,6 +1,7 @@
 -- The name of a feature, 38 bytes.
 use Rattle.std.specs.Prelude.{List, [], ℕ, ◌+◌, ◌∷◌}
-use Rattle.tl_layout.specs.{Bytes.IsText, Bytes.columns, declared.name.FeatureName.FeatureName}
+use Rattle.tl_layout.specs.Bytes.{IsText, columns}
+use Rattle.tl_layout.specs.declared.name.FeatureName.{FeatureName}
 
 -- each field of the name has its width
 pub record FitsName (name : FeatureName) : Type 0 where

@@ -1,5 +1,5 @@
 -- Number fields: blanks, digits, blanks. Each of the three can be empty.
-use Rattle.std.specs.Prelude.{◌≡◌, ℕ, ◌+◌, ◌-◌, ◌*◌, ◌==◌, true, List, [], ◌∷◌, ◌++◌, Bool, nat_le, ◌&&◌}
+use Rattle.std.specs.Prelude.{Bool, List, [], nat_le, true, ℕ, ◌&&◌, ◌*◌, ◌++◌, ◌+◌, ◌-◌, ◌==◌, ◌∷◌, ◌≡◌}
 use Rattle.std.specs.List.{list_all}
 
 -- a blank, the byte 0x20

@@ -1,5 +1,5 @@
 -- How a number field is read.
-use Rattle.std.specs.Prelude.{ℕ, ◌+◌, ◌-◌, ◌*◌, List, [], ◌∷◌, Option, Some, None, if◌then◌else◌}
+use Rattle.std.specs.Prelude.{List, None, Option, Some, [], if◌then◌else◌, ℕ, ◌*◌, ◌+◌, ◌-◌, ◌∷◌}
 use Rattle.std.specs.List.{list_all}
 use Rattle.tl_layout.specs.NumberField.{is_blank, is_digit}
 

@@ -1,5 +1,5 @@
 -- The numbers of the map: TLID, RTSQ, FEAT, LAND, POLYID and the numbers of nodes.
-use Rattle.std.specs.Prelude.{ℕ, zero, suc, ◌^◌, ◌<◌, Option, Some, None, IfSome}
+use Rattle.std.specs.Prelude.{IfSome, None, Option, Some, suc, zero, ℕ, ◌<◌, ◌^◌}
 
 -- a number with at most width digits, and not 0
 abbrev pub IsNumber : ℕ → ℕ → Type 0

@@ -1,6 +1,7 @@
 -- A field that a record has twice: for the left and for the right side of a chain.
 use Rattle.std.specs.Prelude.{List, [], ℕ, ◌*◌, ◌+◌, ◌-◌, ◌∷◌}
-use Rattle.tl_layout.specs.{Bytes.IsText, Bytes.columns, declared.pair.LeftRight.LeftRight}
+use Rattle.tl_layout.specs.Bytes.{IsText, columns}
+use Rattle.tl_layout.specs.declared.pair.LeftRight.{LeftRight}
 
 -- both fields have the width
 pub record FitsPair (N : ℕ) (pair : LeftRight N) : Type 0 where

@@ -1,5 +1,5 @@
 -- A text cut into consecutive pieces.
-use Rattle.std.specs.Prelude.{ℕ, ◌+◌, List, [], ◌∷◌, take, drop}
+use Rattle.std.specs.Prelude.{List, [], drop, take, ℕ, ◌+◌, ◌∷◌}
 
 -- the pieces of these widths, starting that many bytes into the text
 abbrev pub pieces_from : ℕ → List ℕ → List ℕ → List (List ℕ)

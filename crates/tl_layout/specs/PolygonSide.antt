@@ -1,5 +1,5 @@
 -- The polygon on one side of a chain.
-use Rattle.std.specs.Prelude.{ℕ, List, Option}
+use Rattle.std.specs.Prelude.{List, Option, ℕ}
 
 -- a CENID, and the POLYID of the polygon, if there is one
 pub record PolygonSide : Type 0 where

@@ -3,8 +3,7 @@
 -- the latitude after it are one row. If a turn of the chain exchanges a field with another one, the row has the other field's
 -- value last. Rows for fields that name a source and for reserved fields are marked: a mask can leave them out.
 use Rattle.std.specs.Prelude.{List, [], ◌∷◌}
-use Rattle.tl_layout.specs.ColumnTable.{Number, NumberOrNone, Pair, PairOrNone, NumberPlaces, PointPlaces, Opaque, Filler, Row}
-use Rattle.tl_layout.specs.ColumnTable.{Sources, Reserved, row, row_with_partner, row_of}
+use Rattle.tl_layout.specs.ColumnTable.{Filler, Number, NumberOrNone, NumberPlaces, Opaque, Pair, PairOrNone, PointPlaces, Reserved, Row, Sources, row, row_of, row_with_partner}
 use Rattle.tl_layout.specs.Fields.{Fields1, Fields2, Fields4, Fields5, Fields6, Fields7, Fields8, FieldsI, FieldsP}
 
 -- Record type 1, 228 bytes: a chain with its two end points.

@@ -1,7 +1,7 @@
 -- Records of any type: their types, their canonical spellings, and the text of a list of records.
-use Rattle.std.specs.Prelude.{ℕ, List, [], ◌∷◌, ◌++◌}
+use Rattle.std.specs.Prelude.{List, [], ℕ, ◌++◌, ◌∷◌}
 use Rattle.std.specs.List.{flat_map}
-use Rattle.tl_layout.specs.RecordTypes.{byte_of, line_length, FitsFields, fields_spelling, own_type}
+use Rattle.tl_layout.specs.RecordTypes.{FitsFields, byte_of, fields_spelling, line_length, own_type}
 use Rattle.tl_layout.specs.declared.record_type.Record.{Record}
 
 -- the type of a record, the byte in column 1 of its line

@@ -5,8 +5,12 @@ use Rattle.tl_layout.specs.ColumnTable.{FitsRows, Row, SpellsRows}
 use Rattle.tl_layout.specs.Fields.{Fields1, Fields2, Fields4, Fields5, Fields6, Fields7, Fields8, FieldsI, FieldsP}
 use Rattle.tl_layout.specs.RecordTables.{table_1, table_2, table_4, table_5, table_6, table_7, table_8, table_i, table_p}
 use Rattle.tl_layout.specs.declared.record_type.Record.TheVariants.{Eight, Five, Four, I, One, P, Seven, Six, Two}
-use Rattle.tl_layout.specs.{AddressRanges.ranges_of, FieldTexts.rows_spelling, Pairs.pair_of, TableReading.Makes, TableReading.rows_reading}
-use Rattle.tl_layout.specs.{declared.fault.FieldFault.FieldFault, declared.record_type.Record.Record}
+use Rattle.tl_layout.specs.AddressRanges.{ranges_of}
+use Rattle.tl_layout.specs.FieldTexts.{rows_spelling}
+use Rattle.tl_layout.specs.Pairs.{pair_of}
+use Rattle.tl_layout.specs.TableReading.{Makes, rows_reading}
+use Rattle.tl_layout.specs.declared.fault.FieldFault.{FieldFault}
+use Rattle.tl_layout.specs.declared.record_type.Record.{Record}
 
 -- the record types of this project
 pub data RecordType : Type 0 where

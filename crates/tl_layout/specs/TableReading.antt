@@ -1,9 +1,9 @@
 -- How a line is read by a column table, from the left up to the first fault.
 use Rattle.std.specs.Prelude.{List, Ok, Result, [], false, ℕ, ◌+◌, ◌∷◌}
 use Rattle.tl_layout.specs.FieldReading.{number_at, number_or_none_at, places_reading, point_at, point_or_none_at, ◌>>=◌}
-use Rattle.tl_layout.specs.ColumnTable.{Filler, Kind, Number, NumberOrNone, NumberPlaces, Opaque, Pair, PairOrNone, PointPlaces, Row}
-use Rattle.tl_layout.specs.ColumnTable.{ValueOf}
-use Rattle.tl_layout.specs.{Bytes.columns, declared.fault.FieldFault.FieldFault}
+use Rattle.tl_layout.specs.ColumnTable.{Filler, Kind, Number, NumberOrNone, NumberPlaces, Opaque, Pair, PairOrNone, PointPlaces, Row, ValueOf}
+use Rattle.tl_layout.specs.Bytes.{columns}
+use Rattle.tl_layout.specs.declared.fault.FieldFault.{FieldFault}
 
 -- a function that makes a record from the values of rows, from the left
 abbrev pub Makes : {R : Type 0} → List (Row R) → Type 0 → Type 0

@@ -2,7 +2,8 @@
 use Rattle.std.specs.Prelude.{List, None, Option, Some, [], ◌++◌, ◌∷◌, ◌≡◌}
 use Rattle.tl_layout.specs.RecordTypes.{Type1, Type2, Type4, Type5, Type6, Type7, Type8, TypeI, TypeP, as_type}
 use Rattle.tl_layout.specs.ByType.{of_type_1, of_type_2, of_type_4, of_type_5, of_type_6, of_type_7, of_type_8, of_type_i, of_type_p}
-use Rattle.tl_layout.specs.{declared.record_type.Record.Record, declared.tables.Tables.Tables}
+use Rattle.tl_layout.specs.declared.record_type.Record.{Record}
+use Rattle.tl_layout.specs.declared.tables.Tables.{Tables}
 
 -- the table of each type has the records of that type in the list, in their order
 pub record HoldsByType (tables : Tables) (records : List Record) : Type 0 where

@@ -1,8 +1,11 @@
 -- The fields of a chain seen from its other end: left becomes right, and the start becomes the end.
 use Rattle.std.specs.Prelude.{Bool, cond, ℕ}
 use Rattle.tl_layout.specs.Fields.{Fields1, Fields6, FieldsI}
-use Rattle.tl_layout.specs.{declared.pair.LeftRight.LeftRight, declared.ranges.Ranges.Ranges, declared.type1.fields.Body1Fields.Body1Fields}
-use Rattle.tl_layout.specs.{declared.type1.fields.GeographicEntities.GeographicEntities, declared.type1.fields.NativeAreas.NativeAreas}
+use Rattle.tl_layout.specs.declared.pair.LeftRight.{LeftRight}
+use Rattle.tl_layout.specs.declared.ranges.Ranges.{Ranges}
+use Rattle.tl_layout.specs.declared.type1.fields.Body1Fields.{Body1Fields}
+use Rattle.tl_layout.specs.declared.type1.fields.GeographicEntities.{GeographicEntities}
+use Rattle.tl_layout.specs.declared.type1.fields.NativeAreas.{NativeAreas}
 
 -- the left and the right field exchanged
 abbrev pub exchanged : {N : ℕ} → LeftRight N → LeftRight N

@@ -1,10 +1,15 @@
 -- The groups of columns in the content of record type 1: the widths of their fields, their columns in a line, and the texts
 -- that they are written as.
 use Rattle.std.specs.Prelude.{List, [], ℕ, ◌++◌, ◌∷◌}
-use Rattle.tl_layout.specs.{AddressRanges.FitsRanges, AddressRanges.ranges_at, AddressRanges.ranges_texts, Bytes.IsText, Bytes.columns}
-use Rattle.tl_layout.specs.{Coordinates.Coordinates, FieldTexts.coordinate_text, Names.FitsName, Names.feature_name_at, Names.name_texts}
-use Rattle.tl_layout.specs.{Pairs.FitsPair, Pairs.pair_at, Pairs.pair_texts, declared.type1.fields.Body1Fields.Body1Fields}
-use Rattle.tl_layout.specs.{declared.type1.fields.GeographicEntities.GeographicEntities, declared.type1.fields.NativeAreas.NativeAreas}
+use Rattle.tl_layout.specs.AddressRanges.{FitsRanges, ranges_at, ranges_texts}
+use Rattle.tl_layout.specs.Bytes.{IsText, columns}
+use Rattle.tl_layout.specs.Coordinates.{Coordinates}
+use Rattle.tl_layout.specs.FieldTexts.{coordinate_text}
+use Rattle.tl_layout.specs.Names.{FitsName, feature_name_at, name_texts}
+use Rattle.tl_layout.specs.Pairs.{FitsPair, pair_at, pair_texts}
+use Rattle.tl_layout.specs.declared.type1.fields.Body1Fields.{Body1Fields}
+use Rattle.tl_layout.specs.declared.type1.fields.GeographicEntities.{GeographicEntities}
+use Rattle.tl_layout.specs.declared.type1.fields.NativeAreas.{NativeAreas}
 
 pub record FitsNativeAreas (areas : NativeAreas) : Type 0 where
   pub aianhhfp : FitsPair 5 areas.aianhhfp

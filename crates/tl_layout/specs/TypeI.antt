@@ -1,6 +1,9 @@
 -- Record type I: the canonical spelling, and the content in the columns of a line.
 use Rattle.std.specs.Prelude.{List, ℕ}
-use Rattle.tl_layout.specs.{Bytes.columns, Fields.FieldsI, RecordTypes.TypeI, RecordTypes.fields_spelling, declared.type_i.BodyI.BodyI}
+use Rattle.tl_layout.specs.Bytes.{columns}
+use Rattle.tl_layout.specs.Fields.{FieldsI}
+use Rattle.tl_layout.specs.RecordTypes.{TypeI, fields_spelling}
+use Rattle.tl_layout.specs.declared.type_i.BodyI.{BodyI}
 
 -- the canonical spelling of a record
 abbrev pub type_i_spelling : FieldsI → List ℕ

@@ -1,8 +1,9 @@
 //! Blanking: what a mask makes of the contents of records.
 
 ghost use Rattle.std.specs.Prelude.{refl, ◌≡◌};
-ghost use Rattle.tl_layout.specs.{Laws.MaskLaws.masked_twice_1, Laws.MaskLaws.masked_twice_7, Laws.MaskLaws.masked_twice_i, Masked.no_mask};
-ghost use Rattle.tl_layout.specs.{Masked.masked_body_1, Masked.masked_body_7, Masked.masked_body_i, declared.mask.Mask.Mask};
+ghost use Rattle.tl_layout.specs.Laws.MaskLaws.{masked_twice_1, masked_twice_7, masked_twice_i};
+ghost use Rattle.tl_layout.specs.Masked.{masked_body_1, masked_body_7, masked_body_i, no_mask};
+ghost use Rattle.tl_layout.specs.declared.mask.Mask.{Mask};
 
 use crate::{Body1, Body7, BodyI, Mask};
 

@@ -3,7 +3,8 @@
 ghost use Rattle.std.specs.Prelude.{IfSome, Some, length, ◌-◌, ◌<◌, ◌≡◌, ◌≤◌, ◌⊎◌};
 ghost use Rattle.tl_layout.specs.CoordinateReading.{coordinate_of, magnitude_of, minus_of, plus_of, signed_of};
 ghost use Rattle.tl_layout.specs.FieldTexts.{coordinate_text, digits_text, sign_of};
-ghost use Rattle.tl_layout.specs.{Coordinates.most_latitude, Coordinates.most_longitude, declared.coordinate.Coordinate.TheVariants.Value};
+ghost use Rattle.tl_layout.specs.Coordinates.{most_latitude, most_longitude};
+ghost use Rattle.tl_layout.specs.declared.coordinate.Coordinate.TheVariants.{Value};
 
 use crate::digits::{put_behind, put_eight_digits};
 use crate::number::{digits, eight_digits, nine_digits, trim_start};

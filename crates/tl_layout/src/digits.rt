@@ -1,7 +1,7 @@
 //! Writing the digits of a number.
 
-ghost use Rattle.std.specs.Int.{w64, from_le_bytes};
-ghost use Rattle.std.specs.Prelude.{◌≡◌, ◌+◌, ◌-◌, ◌/◌, ◌%◌, ◌<◌, [], ◌∷◌, length};
+ghost use Rattle.std.specs.Int.{from_le_bytes, w64};
+ghost use Rattle.std.specs.Prelude.{[], length, ◌%◌, ◌+◌, ◌-◌, ◌/◌, ◌<◌, ◌∷◌, ◌≡◌};
 ghost use Rattle.tl_layout.specs.FieldTexts.{digits_text, number_text, text_behind};
 
 /// Puts the eight digits of a number into the bytes of a word, the first digit in the lowest byte. It splits the number into

@@ -3,7 +3,8 @@
 ghost use Rattle.std.specs.Prelude.{IfOk, length, ◌+◌, ◌-◌, ◌<◌, ◌≡◌, ◌≤◌};
 ghost use Rattle.tl_layout.specs.Bytes.{AreAllowed, columns, longest_line};
 ghost use Rattle.tl_layout.specs.FieldReading.{number_at, number_or_none_at, point_at, point_or_none_at};
-ghost use Rattle.tl_layout.specs.{FieldFaults.bad_point, FieldFaults.gap, Numbers.IsNumber, Numbers.IsNumberOrNone};
+ghost use Rattle.tl_layout.specs.FieldFaults.{bad_point, gap};
+ghost use Rattle.tl_layout.specs.Numbers.{IsNumber, IsNumberOrNone};
 
 use crate::coordinate::{Coordinate, read_latitude, read_longitude};
 use crate::number::{number, put_number};

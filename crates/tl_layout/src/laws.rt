@@ -6,7 +6,8 @@ ghost use Rattle.tl_layout.specs.Fields.{Fields1, Fields2, Fields4, Fields5, Fie
 ghost use Rattle.tl_layout.specs.Masked.{masked_body_1, masked_type_1, masked_type_7, masked_type_i};
 ghost use Rattle.tl_layout.specs.RecordTables.{table_1, table_2, table_4, table_5, table_6, table_7, table_8, table_i, table_p};
 ghost use Rattle.tl_layout.specs.Turned.{turned_body, turned_type_1, turned_type_6, turned_type_i};
-ghost use Rattle.tl_layout.specs.{declared.mask.Mask.Mask, declared.type1.fields.Body1Fields.Body1Fields};
+ghost use Rattle.tl_layout.specs.declared.mask.Mask.{Mask};
+ghost use Rattle.tl_layout.specs.declared.type1.fields.Body1Fields.{Body1Fields};
 
 /// A turn gives each field the value of its partner in the column table of its record type, and keeps every other field.
 pub fn a_turn_exchanges_partners()

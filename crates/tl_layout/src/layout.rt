@@ -1,7 +1,8 @@
 //! What every record type provides.
 
-ghost use Rattle.std.specs.Prelude.{Err, IfOk, List, Ok, Result, length, ℕ, ◌<◌, ◌↔◌, ◌≡◌, ◌≤◌};
-ghost use Rattle.tl_layout.specs.{Bytes.IsLine, Bytes.longest_line, declared.fault.FieldFault.FieldFault};
+ghost use Rattle.std.specs.Prelude.{Err, IfOk, List, Ok, Result, length, ℕ, ◌↔◌, ◌≡◌, ◌≤◌};
+ghost use Rattle.tl_layout.specs.Bytes.{IsLine, longest_line};
+ghost use Rattle.tl_layout.specs.declared.fault.FieldFault.{FieldFault};
 
 use crate::fault::FieldFault;
 

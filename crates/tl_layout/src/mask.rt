@@ -1,6 +1,6 @@
 //! Masks: which fields are left out when maps are compared.
 
-ghost use Rattle.std.specs.Prelude.{◌≡◌, true};
+ghost use Rattle.std.specs.Prelude.{true, ◌≡◌};
 ghost use Rattle.tl_layout.specs.Masked.{no_mask};
 
 /// The fields that are left out when a map is viewed under a mask.

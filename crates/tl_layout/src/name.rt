@@ -2,7 +2,8 @@
 
 ghost use Rattle.std.specs.Prelude.{length, take, ◌+◌, ◌-◌, ◌≡◌, ◌≤◌};
 ghost use Rattle.tl_layout.specs.Names.{FitsName, feature_name_at, name_texts};
-ghost use Rattle.tl_layout.specs.{Bytes.AreAllowed, Bytes.longest_line, Columns.joined};
+ghost use Rattle.tl_layout.specs.Bytes.{AreAllowed, longest_line};
+ghost use Rattle.tl_layout.specs.Columns.{joined};
 
 use crate::field::text_at;
 use crate::text::Text;

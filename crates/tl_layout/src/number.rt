@@ -1,10 +1,11 @@
 //! Number fields.
 
-ghost use Rattle.std.specs.{Bool.Decides, List.list_all};
-ghost use Rattle.std.specs.Prelude.{IfSome, IsTrue, Some, if◌then◌else◌, length, slice_index, true, ℕ, ◌%◌, ◌*◌, ◌+◌, ◌<◌, ◌==◌, ◌∷◌, ◌≡◌};
-ghost use Rattle.std.specs.Prelude.{◌≤◌};
+ghost use Rattle.std.specs.Bool.{Decides};
+ghost use Rattle.std.specs.List.{list_all};
+ghost use Rattle.std.specs.Prelude.{IfSome, Some, if◌then◌else◌, length, slice_index, true, ℕ, ◌%◌, ◌*◌, ◌+◌, ◌<◌, ◌==◌, ◌∷◌, ◌≡◌, ◌≤◌};
 ghost use Rattle.tl_layout.specs.NumberReading.{drop_blanks, number_after, number_of};
-ghost use Rattle.tl_layout.specs.{FieldTexts.number_text, NumberField.is_blank, NumberField.is_digit};
+ghost use Rattle.tl_layout.specs.FieldTexts.{number_text};
+ghost use Rattle.tl_layout.specs.NumberField.{is_blank, is_digit};
 
 use crate::digits::{put_behind, put_eight_columns, put_eight_digits};
 use std::simd::prelude::*;

@@ -2,7 +2,7 @@
 
 ghost use Rattle.std.proofs.Common.{rules};
 ghost use Rattle.std.specs.Cmp.Rules.{comparing};
-ghost use Rattle.std.specs.Prelude.{◌≡◌, ◌<◌, IfSome};
+ghost use Rattle.std.specs.Prelude.{IfSome, ◌<◌, ◌≡◌};
 
 use std::fmt;
 use std::marker::Model;
@@ -17,7 +17,8 @@ pub struct NumberOrNone {
 impl Model for NumberOrNone {
     ghost use Rattle.std.proofs.Common.{ap};
     ghost use Rattle.std.specs.Prelude.{Option, unwrap_or, ℕ};
-    ghost use Rattle.tl_layout.specs.{Laws.NumberLaws.none_if_zero_again, Numbers.none_if_zero};
+    ghost use Rattle.tl_layout.specs.Laws.NumberLaws.{none_if_zero_again};
+    ghost use Rattle.tl_layout.specs.Numbers.{none_if_zero};
 
     ghost Value = { Option ℕ };
 

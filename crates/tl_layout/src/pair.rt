@@ -1,7 +1,9 @@
 //! A field that a record has twice: for the left and for the right side of a chain.
 
 ghost use Rattle.std.specs.Prelude.{length, take, ◌*◌, ◌+◌, ◌-◌, ◌≡◌, ◌≤◌};
-ghost use Rattle.tl_layout.specs.{Bytes.AreAllowed, Bytes.longest_line, Columns.joined, Pairs.FitsPair, Pairs.pair_at, Pairs.pair_texts};
+ghost use Rattle.tl_layout.specs.Bytes.{AreAllowed, longest_line};
+ghost use Rattle.tl_layout.specs.Columns.{joined};
+ghost use Rattle.tl_layout.specs.Pairs.{FitsPair, pair_at, pair_texts};
 
 use crate::field::text_at;
 use crate::text::Text;

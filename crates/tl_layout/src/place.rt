@@ -1,10 +1,11 @@
 //! Places of one kind, side by side in a line.
 
 ghost use Rattle.std.specs.List.{AllByRecursion};
-ghost use Rattle.std.specs.Prelude.{IfSome, List, Option, Result, [], false, length, slice_get, take, ℕ, ◌*◌, ◌++◌, ◌+◌, ◌-◌, ◌<◌, ◌∷◌};
-ghost use Rattle.std.specs.Prelude.{◌≡◌, ◌≤◌};
+ghost use Rattle.std.specs.Prelude.{List, Option, Result, [], false, length, slice_get, take, ℕ, ◌*◌, ◌++◌, ◌+◌, ◌-◌, ◌<◌, ◌∷◌, ◌≡◌, ◌≤◌};
 ghost use Rattle.tl_layout.specs.FieldTexts.{number_place_text, places_text, point_place_text};
-ghost use Rattle.tl_layout.specs.{Bytes.longest_line, Coordinates.IsOnMap, FieldReading.Gives, FieldReading.places_reading};
+ghost use Rattle.tl_layout.specs.Bytes.{longest_line};
+ghost use Rattle.tl_layout.specs.Coordinates.{IsOnMap};
+ghost use Rattle.tl_layout.specs.FieldReading.{Gives, places_reading};
 
 use crate::field::{gap, read_number_or_none, read_point_or_none};
 use crate::writing::{ZEROS, write_number, write_point, write_zeros};

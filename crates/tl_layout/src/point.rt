@@ -1,6 +1,6 @@
 //! Points of the map.
 
-ghost use Rattle.std.specs.Prelude.{◌≡◌, IfSome, pos};
+ghost use Rattle.std.specs.Prelude.{IfSome, pos, ◌≡◌};
 ghost use Rattle.tl_layout.specs.Coordinates.{Coordinates, IsOnMap};
 
 use std::marker::Model;

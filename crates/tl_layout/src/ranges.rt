@@ -1,8 +1,9 @@
 //! Address ranges and ZIP codes, as in record types 1 and 6.
 
 ghost use Rattle.std.specs.Prelude.{length, take, ◌+◌, ◌-◌, ◌≡◌, ◌≤◌};
-ghost use Rattle.tl_layout.specs.{AddressRanges.FitsRanges, AddressRanges.ranges_at, AddressRanges.ranges_texts, Bytes.AreAllowed};
-ghost use Rattle.tl_layout.specs.{Bytes.IsText, Bytes.longest_line, Columns.joined};
+ghost use Rattle.tl_layout.specs.AddressRanges.{FitsRanges, ranges_at, ranges_texts};
+ghost use Rattle.tl_layout.specs.Bytes.{AreAllowed, IsText, longest_line};
+ghost use Rattle.tl_layout.specs.Columns.{joined};
 
 use crate::field::text_at;
 use crate::writing::write_text;

@@ -1,7 +1,8 @@
 //! A record of any type.
 
 ghost use Rattle.std.specs.Prelude.{length, ◌<◌, ◌≡◌, ◌≤◌};
-ghost use Rattle.tl_layout.specs.{Bytes.longest_line, RecordText.FitsRecord, RecordText.len_of, RecordText.spelling_of, RecordText.type_of};
+ghost use Rattle.tl_layout.specs.Bytes.{longest_line};
+ghost use Rattle.tl_layout.specs.RecordText.{FitsRecord, len_of, spelling_of, type_of};
 
 use crate::{Layout, Rec1, Rec2, Rec4, Rec5, Rec6, Rec7, Rec8, RecI, RecP};
 

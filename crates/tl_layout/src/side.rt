@@ -1,7 +1,9 @@
 //! The polygon on one side of a chain.
 
 ghost use Rattle.std.specs.Prelude.{◌≡◌};
-ghost use Rattle.tl_layout.specs.{Bytes.AreAllowed, Bytes.IsText, Numbers.IsNumberOrNone, PolygonSide.PolygonSide};
+ghost use Rattle.tl_layout.specs.Bytes.{AreAllowed, IsText};
+ghost use Rattle.tl_layout.specs.Numbers.{IsNumberOrNone};
+ghost use Rattle.tl_layout.specs.PolygonSide.{PolygonSide};
 
 use crate::{NumberOrNone, Text};
 use std::marker::Model;

@@ -2,8 +2,10 @@
 
 ghost use Rattle.std.specs.Prelude.{OnErr, OnOk, ◌≡◌};
 ghost use Rattle.tl_layout.specs.RecordTypes.{Type1, Type2, Type4, Type5, Type6, Type7, Type8, TypeI, TypeP, record_of};
-ghost use Rattle.tl_layout.specs.{Laws.RecordTypeLaws.spelling_of_record, Laws.RecordTypeLaws.type_of_record, RecordText.spelling_of};
-ghost use Rattle.tl_layout.specs.{RecordText.type_of, Tables.AddsRecord, Tables.AreSameTables, declared.record_type.Record.Record};
+ghost use Rattle.tl_layout.specs.Laws.RecordTypeLaws.{spelling_of_record, type_of_record};
+ghost use Rattle.tl_layout.specs.RecordText.{spelling_of, type_of};
+ghost use Rattle.tl_layout.specs.Tables.{AddsRecord, AreSameTables};
+ghost use Rattle.tl_layout.specs.declared.record_type.Record.{Record};
 
 use crate::growing::push_reserving;
 use crate::{Layout, Rec1, Rec2, Rec4, Rec5, Rec6, Rec7, Rec8, RecI, RecP, Record, Tables};

@@ -1,7 +1,8 @@
 //! The records of a set, by type.
 
 ghost use Rattle.std.specs.Prelude.{All, IfOk, OnErr, OnOk, []};
-ghost use Rattle.tl_layout.specs.{RecordText.FitsRecord, Tables.AddsRecord, Tables.AreSameTables, Tables.HoldsByType};
+ghost use Rattle.tl_layout.specs.RecordText.{FitsRecord};
+ghost use Rattle.tl_layout.specs.Tables.{AddsRecord, AreSameTables, HoldsByType};
 
 use crate::{Rec1, Rec2, Rec4, Rec5, Rec6, Rec7, Rec8, RecI, RecP, Record, Tabled};
 use std::alloc::{AllocError, Global};

@@ -1,7 +1,7 @@
 //! Opaque fields: text of a fixed width, in bytes that are allowed in a line.
 
-ghost use Rattle.std.specs.Prelude.{◌≡◌, ℕ, List};
-ghost use Rattle.tl_layout.specs.Bytes.{IsText, AreAllowed, blanks_if};
+ghost use Rattle.std.specs.Prelude.{List, ℕ, ◌≡◌};
+ghost use Rattle.tl_layout.specs.Bytes.{AreAllowed, IsText, blanks_if};
 
 use std::marker::Model;
 

@@ -3,7 +3,10 @@
 ghost use Rattle.std.specs.Prelude.{length, refl, take, ◌*◌, ◌+◌, ◌-◌, ◌≡◌, ◌≤◌};
 ghost use Rattle.tl_layout.specs.Turned.{body_towards, exchanged, turned_body, turned_entities, turned_ranges};
 ghost use Rattle.tl_layout.specs.Type1Groups.{body_1_texts, entities_texts};
-ghost use Rattle.tl_layout.specs.{AddressRanges.ranges_texts, Bytes.longest_line, Columns.joined, Pairs.pair_texts};
+ghost use Rattle.tl_layout.specs.AddressRanges.{ranges_texts};
+ghost use Rattle.tl_layout.specs.Bytes.{longest_line};
+ghost use Rattle.tl_layout.specs.Columns.{joined};
+ghost use Rattle.tl_layout.specs.Pairs.{pair_texts};
 
 use crate::writing::write_text;
 use crate::{Body1, GeographicEntities, LeftRight, Ranges};

@@ -3,8 +3,14 @@
 ghost use Rattle.std.proofs.Common.{lit≤};
 ghost use Rattle.std.specs.Prelude.{codes, length, take, ◌++◌, ◌∷◌, ◌≡◌, ◌≤◌};
 ghost use Rattle.tl_layout.specs.RecordTypes.{FitsFields, SpellsFields, Type1, byte_of, fields_spelling, line_length, reading_of, table_of};
-ghost use Rattle.tl_layout.specs.{Bytes.IsText, Columns.joined, FieldFaults.IsLeftmostFault, FieldTexts.number_text};
-ghost use Rattle.tl_layout.specs.{Laws.TypeLaws.layout_laws, Numbers.IsNumber, Type1.type_1_short_reading, Type1Groups.point_texts};
+ghost use Rattle.tl_layout.specs.Bytes.{IsText};
+ghost use Rattle.tl_layout.specs.Columns.{joined};
+ghost use Rattle.tl_layout.specs.FieldFaults.{IsLeftmostFault};
+ghost use Rattle.tl_layout.specs.FieldTexts.{number_text};
+ghost use Rattle.tl_layout.specs.Laws.TypeLaws.{layout_laws};
+ghost use Rattle.tl_layout.specs.Numbers.{IsNumber};
+ghost use Rattle.tl_layout.specs.Type1.{type_1_short_reading};
+ghost use Rattle.tl_layout.specs.Type1Groups.{point_texts};
 
 pub(crate) mod body;
 pub(crate) mod fields;
@@ -24,7 +30,8 @@ pub struct Rec1 {
 }
 
 impl Model for Rec1 {
-    ghost use Rattle.tl_layout.specs.{Fields.Fields1, Numbers.IsNumber};
+    ghost use Rattle.tl_layout.specs.Fields.{Fields1};
+    ghost use Rattle.tl_layout.specs.Numbers.{IsNumber};
 
     ghost Value = { Fields1 };
 

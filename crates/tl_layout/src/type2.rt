@@ -3,7 +3,9 @@
 ghost use Rattle.std.proofs.Common.{lit≤};
 ghost use Rattle.std.specs.Prelude.{length, ◌≡◌, ◌≤◌};
 ghost use Rattle.tl_layout.specs.RecordTypes.{FitsFields, SpellsFields, Type2, byte_of, fields_spelling, line_length, reading_of, table_of};
-ghost use Rattle.tl_layout.specs.{FieldFaults.IsLeftmostFault, Laws.TypeLaws.layout_laws, Numbers.IsNumber};
+ghost use Rattle.tl_layout.specs.FieldFaults.{IsLeftmostFault};
+ghost use Rattle.tl_layout.specs.Laws.TypeLaws.{layout_laws};
+ghost use Rattle.tl_layout.specs.Numbers.{IsNumber};
 
 use crate::field::read_number;
 use crate::place::{read_places, show_points_fit, write_places};
@@ -21,7 +23,8 @@ pub struct Rec2 {
 }
 
 impl Model for Rec2 {
-    ghost use Rattle.tl_layout.specs.{Fields.Fields2, Numbers.IsNumber};
+    ghost use Rattle.tl_layout.specs.Fields.{Fields2};
+    ghost use Rattle.tl_layout.specs.Numbers.{IsNumber};
 
     ghost Value = { Fields2 };
 

@@ -4,7 +4,9 @@ ghost use Rattle.std.proofs.Common.{lit≤};
 ghost use Rattle.std.specs.List.{AllByRecursion};
 ghost use Rattle.std.specs.Prelude.{length, ◌≡◌, ◌≤◌};
 ghost use Rattle.tl_layout.specs.RecordTypes.{FitsFields, SpellsFields, Type4, byte_of, fields_spelling, line_length, reading_of, table_of};
-ghost use Rattle.tl_layout.specs.{FieldFaults.IsLeftmostFault, Laws.TypeLaws.layout_laws, Numbers.IsNumber};
+ghost use Rattle.tl_layout.specs.FieldFaults.{IsLeftmostFault};
+ghost use Rattle.tl_layout.specs.Laws.TypeLaws.{layout_laws};
+ghost use Rattle.tl_layout.specs.Numbers.{IsNumber};
 
 use crate::field::read_number;
 use crate::place::{read_places, write_places};
@@ -23,7 +25,8 @@ pub struct Rec4 {
 
 impl Model for Rec4 {
     ghost use Rattle.std.specs.List.{AllByRecursion};
-    ghost use Rattle.tl_layout.specs.{Fields.Fields4, Numbers.IsNumber};
+    ghost use Rattle.tl_layout.specs.Fields.{Fields4};
+    ghost use Rattle.tl_layout.specs.Numbers.{IsNumber};
 
     ghost Value = { Fields4 };
 

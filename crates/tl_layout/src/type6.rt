@@ -3,7 +3,9 @@
 ghost use Rattle.std.proofs.Common.{lit≤};
 ghost use Rattle.std.specs.Prelude.{◌≡◌};
 ghost use Rattle.tl_layout.specs.RecordTypes.{FitsFields, SpellsFields, Type6, byte_of, fields_spelling, line_length, reading_of, table_of};
-ghost use Rattle.tl_layout.specs.{FieldFaults.IsLeftmostFault, Laws.TypeLaws.layout_laws, Numbers.IsNumber};
+ghost use Rattle.tl_layout.specs.FieldFaults.{IsLeftmostFault};
+ghost use Rattle.tl_layout.specs.Laws.TypeLaws.{layout_laws};
+ghost use Rattle.tl_layout.specs.Numbers.{IsNumber};
 
 use crate::field::read_number;
 use crate::writing::{write_head, write_number};
@@ -19,7 +21,8 @@ pub struct Rec6 {
 }
 
 impl Model for Rec6 {
-    ghost use Rattle.tl_layout.specs.{Fields.Fields6, Numbers.IsNumber};
+    ghost use Rattle.tl_layout.specs.Fields.{Fields6};
+    ghost use Rattle.tl_layout.specs.Numbers.{IsNumber};
 
     ghost Value = { Fields6 };
 

@@ -3,7 +3,10 @@
 ghost use Rattle.std.proofs.Common.{lit≤};
 ghost use Rattle.std.specs.Prelude.{◌≡◌};
 ghost use Rattle.tl_layout.specs.RecordTypes.{FitsFields, SpellsFields, Type7, byte_of, fields_spelling, line_length, reading_of, table_of};
-ghost use Rattle.tl_layout.specs.{Bytes.AreAllowed, Bytes.IsText, FieldFaults.IsLeftmostFault, Laws.TypeLaws.layout_laws, Numbers.IsNumber};
+ghost use Rattle.tl_layout.specs.Bytes.{AreAllowed, IsText};
+ghost use Rattle.tl_layout.specs.FieldFaults.{IsLeftmostFault};
+ghost use Rattle.tl_layout.specs.Laws.TypeLaws.{layout_laws};
+ghost use Rattle.tl_layout.specs.Numbers.{IsNumber};
 
 use crate::field::{read_number, read_point_or_none, text_at};
 use crate::point::{Point, show_point_fits};
@@ -100,7 +103,8 @@ impl Body7 {
 }
 
 impl Model for Rec7 {
-    ghost use Rattle.tl_layout.specs.{Fields.Fields7, Numbers.IsNumber};
+    ghost use Rattle.tl_layout.specs.Fields.{Fields7};
+    ghost use Rattle.tl_layout.specs.Numbers.{IsNumber};
 
     ghost Value = { Fields7 };
 

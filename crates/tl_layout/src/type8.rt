@@ -3,7 +3,10 @@
 ghost use Rattle.std.proofs.Common.{lit≤};
 ghost use Rattle.std.specs.Prelude.{◌≡◌};
 ghost use Rattle.tl_layout.specs.RecordTypes.{FitsFields, SpellsFields, Type8, byte_of, fields_spelling, line_length, reading_of, table_of};
-ghost use Rattle.tl_layout.specs.{Bytes.AreAllowed, Bytes.IsText, FieldFaults.IsLeftmostFault, Laws.TypeLaws.layout_laws, Numbers.IsNumber};
+ghost use Rattle.tl_layout.specs.Bytes.{AreAllowed, IsText};
+ghost use Rattle.tl_layout.specs.FieldFaults.{IsLeftmostFault};
+ghost use Rattle.tl_layout.specs.Laws.TypeLaws.{layout_laws};
+ghost use Rattle.tl_layout.specs.Numbers.{IsNumber};
 
 use crate::field::{read_number, text_at};
 use crate::writing::{write_blanks, write_head, write_number, write_text};
@@ -20,7 +23,8 @@ pub struct Rec8 {
 }
 
 impl Model for Rec8 {
-    ghost use Rattle.tl_layout.specs.{Fields.Fields8, Numbers.IsNumber};
+    ghost use Rattle.tl_layout.specs.Fields.{Fields8};
+    ghost use Rattle.tl_layout.specs.Numbers.{IsNumber};
 
     ghost Value = { Fields8 };
 

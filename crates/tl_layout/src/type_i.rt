@@ -1,10 +1,13 @@
 //! Record type I: the nodes of a chain and the polygons on its sides.
 
 ghost use Rattle.std.proofs.Common.{lit≤};
-ghost use Rattle.std.specs.Prelude.{Ok, Option, Result, length, ◌<◌, ◌≡◌, ◌≤◌};
+ghost use Rattle.std.specs.Prelude.{Ok, Option, Result, length, ◌≡◌};
 ghost use Rattle.tl_layout.specs.RecordTypes.{FitsFields, SpellsFields, TypeI, byte_of, fields_spelling, line_length, reading_of, table_of};
-ghost use Rattle.tl_layout.specs.{Bytes.AreAllowed, Bytes.IsText, FieldFaults.IsLeftmostFault, Laws.TypeLaws.layout_laws, Numbers.IsNumber};
-ghost use Rattle.tl_layout.specs.{Numbers.IsNumberOrNone, TypeI.body_i_at, TypeI.type_i_spelling};
+ghost use Rattle.tl_layout.specs.Bytes.{AreAllowed, IsText};
+ghost use Rattle.tl_layout.specs.FieldFaults.{IsLeftmostFault};
+ghost use Rattle.tl_layout.specs.Laws.TypeLaws.{layout_laws};
+ghost use Rattle.tl_layout.specs.Numbers.{IsNumber, IsNumberOrNone};
+ghost use Rattle.tl_layout.specs.TypeI.{body_i_at, type_i_spelling};
 
 use crate::field::{read_number, read_number_or_none, text_at};
 use crate::writing::{write_head, write_number, write_text};
@@ -40,7 +43,8 @@ pub struct RecI {
 }
 
 impl Model for RecI {
-    ghost use Rattle.tl_layout.specs.{Fields.FieldsI, Numbers.IsNumber, Numbers.IsNumberOrNone};
+    ghost use Rattle.tl_layout.specs.Fields.{FieldsI};
+    ghost use Rattle.tl_layout.specs.Numbers.{IsNumber, IsNumberOrNone};
 
     ghost Value = { FieldsI };
 

@@ -1,8 +1,9 @@
 //! Writing fields into the columns of a line, from left to right. Columns are counted from 1, as in the column tables.
 
-ghost use Rattle.std.specs.Prelude.{[], codes, length, pos, replicate, take, ◌++◌, ◌+◌, ◌-◌, ◌<◌, ◌∷◌, ◌≡◌, ◌≤◌};
+ghost use Rattle.std.specs.Prelude.{[], codes, length, pos, replicate, take, ◌++◌, ◌+◌, ◌-◌, ◌∷◌, ◌≡◌, ◌≤◌};
 ghost use Rattle.tl_layout.specs.FieldTexts.{coordinate_text, lat_text, long_text, number_text};
-ghost use Rattle.tl_layout.specs.{Columns.joined, Coordinates.IsOnMap};
+ghost use Rattle.tl_layout.specs.Columns.{joined};
+ghost use Rattle.tl_layout.specs.Coordinates.{IsOnMap};
 
 use crate::coordinate::put_coordinate;
 use crate::number::put_number;

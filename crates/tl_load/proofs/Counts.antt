@@ -1,11 +1,9 @@
 -- The counts of records of each type.
-use Rattle.tl_load.proofs.Common.{All-nil, AreCounted, I, IsLoader, cases_eq, count_of, eq-eqb, get_or, length-set, most_records, replicate}
-use Rattle.tl_load.proofs.Common.{Bool, Eight, Five, Four, List, P, Seven, arith, cond, false, le-leb, length, lt-leb, ne_eqb, rules, total}
-use Rattle.tl_load.proofs.Common.{Err, Ok, One, Six, Two, [], ap, eqb, lit<, refl, set, sym, ℕ, ◌++◌, ◌+◌, ◌<◌, ◌∙◌, ◌∷◌, ◌≡◌, ◌≤◌}
-use Rattle.tl_load.proofs.Common.{Record, common_steps, get_or-replicate, get_or-set_other, get_or-set_same, is_line_feed, length-replicate}
+use Rattle.tl_load.proofs.Common.{All-nil, AreCounted, Bool, Eight, Err, Five, Four, I, IsLoader, List, Ok, One, P, Record, Seven, Six, Two, [], ap, arith, cases_eq, common_steps, cond, count_of, eq-eqb, eqb, false, get_or, get_or-replicate, get_or-set_other, get_or-set_same, is_line_feed, le-leb, length, length-replicate, length-set, lit<, lt-leb, most_records, ne_eqb, refl, replicate, rules, set, sym, total, ℕ, ◌++◌, ◌+◌, ◌<◌, ◌∙◌, ◌∷◌, ◌≡◌, ◌≤◌}
 use Rattle.tl_load.proofs.Reading.{count_push}
 use Rattle.tl_layout.specs.RecordText.{type_of}
-use Rattle.tl_load.specs.{Choice.tiger, Outcome.with_record}
+use Rattle.tl_load.specs.Choice.{tiger}
+use Rattle.tl_load.specs.Outcome.{with_record}
 use Rattle.tl_load.specs.declared.fault.LoadFault.TheVariants as faults
 
 tiger_rtype : (r : Record) → tiger.rtype r ≡ type_of r

@@ -1,10 +1,8 @@
 -- Cutting a set into parts: an empty part has no lines, and the bytes after the end of a line keep their lines.
-use Rattle.tl_load.proofs.Common.{All-nil, AreLinesSpelled, Bool, FaultAt, FieldKind, HaveSameLines, IsFaultOf, IsWithoutLineFeed}
-use Rattle.tl_load.proofs.Common.{LineFault, List, LoadFault, PlacedLine, Spells, [], ap, append_assoc, arith, common_steps, eqb, eqb-true}
-use Rattle.tl_load.proofs.Common.{false, flat_map, flat_map-append, is_line_feed, lines, map, map-append, of_limit, of_line, placed_lines}
-use Rattle.tl_load.proofs.Common.{refl, rules, subst, sym, true, without_place, ℕ, ◌++◌, ◌+◌, ◌↔◌, ◌∙◌, ◌∷◌, ◌≡◌}
+use Rattle.tl_load.proofs.Common.{All-nil, AreLinesSpelled, Bool, FaultAt, FieldKind, HaveSameLines, IsFaultOf, IsWithoutLineFeed, LineFault, List, LoadFault, PlacedLine, Spells, [], ap, append_assoc, arith, common_steps, eqb, eqb-true, false, flat_map, flat_map-append, is_line_feed, lines, map, map-append, of_limit, of_line, placed_lines, refl, rules, subst, sym, true, without_place, ℕ, ◌++◌, ◌+◌, ◌↔◌, ◌∙◌, ◌∷◌, ◌≡◌}
 use Rattle.tl_load.proofs.LineLemmas.{lines_line, lines_none}
-use Rattle.tl_load.specs.{Places.lines_from_part, Places.numbered_lines, Verdicts.Judge, Verdicts.fault_at, Verdicts.field_fault_at}
+use Rattle.tl_load.specs.Places.{lines_from_part, numbered_lines}
+use Rattle.tl_load.specs.Verdicts.{Judge, fault_at, field_fault_at}
 use Rattle.tl_layout.specs.declared.fault.FieldKind.TheVariants as kinds
 use Rattle.tl_load.specs.declared.fault.LineFault.TheVariants as line_faults
 

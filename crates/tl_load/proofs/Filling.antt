@@ -1,7 +1,5 @@
 -- A line padded with blanks.
-use Rattle.tl_load.proofs.Common.{IsLine, List, None, Option, Some, [], append-nil, cond, fails_before_first, false, filled, is_allowed}
-use Rattle.tl_load.proofs.Common.{length, length-append, length-replicate, ltb, ltb-false, not, not-false, position, rules, take, ℕ, ◌∷◌}
-use Rattle.tl_load.proofs.Common.{◌≡◌, ◌≤◌}
+use Rattle.tl_load.proofs.Common.{IsLine, List, None, Option, Some, [], append-nil, cond, fails_before_first, false, filled, is_allowed, length, length-append, length-replicate, ltb, ltb-false, not, not-false, position, rules, take, ℕ, ◌∷◌, ◌≡◌, ◌≤◌}
 use Rattle.tl_layout.specs.Bytes.{AreAllowed}
 
 pub filled_full : (len : ℕ) (line : List ℕ) → length line ≡ len → filled len line ≡ line

@@ -1,15 +1,15 @@
 -- What a loader was fed after each call.
-use Rattle.tl_load.proofs.Common.{All, AreCounted, AreKept, Closes, Ends, Err, FaultAt, HasLoaded, IfErr, IsFaultHowever, IsOfLines}
-use Rattle.tl_load.proofs.Common.{IsPartClosed, IsSamePart, IsWellAfter, IsWellSoFar, IsWithoutLineFeed, Lifts, List, LoadFault, Loaded}
-use Rattle.tl_load.proofs.Common.{LoadedInto, MatchOption, MatchResult, None, Ok, OnOk, Option, PlacedLine, ReadsPart, Record, Result, Some}
-use Rattle.tl_load.proofs.Common.{SpellsWithin, Takes, TakesLines, WasFedInto, [], all_parts, ap, append-nil, append_assoc, arith}
-use Rattle.tl_load.proofs.Common.{common_steps, flat_map-append, inl, inr, length, length-append, length-map, lines, map, most_unfinished}
-use Rattle.tl_load.proofs.Common.{outcome, placed_lines, refl, replicate, rules, seen, subst, sym, tiger, to_end, with_fault}
-use Rattle.tl_load.proofs.Common.{without_return, ℕ, ◌++◌, ◌+◌, ◌then_with◌, ◌∙◌, ◌∷◌, ◌≡◌, ◌≤◌, ◌⊎◌}
+use Rattle.tl_load.proofs.Common.{All, AreCounted, AreKept, Closes, Ends, Err, FaultAt, HasLoaded, IfErr, IsFaultHowever, IsOfLines, IsPartClosed, IsSamePart, IsWellAfter, IsWellSoFar, IsWithoutLineFeed, Lifts, List, LoadFault, Loaded, LoadedInto, MatchOption, MatchResult, None, Ok, OnOk, Option, PlacedLine, ReadsPart, Record, Result, Some, SpellsWithin, Takes, TakesLines, WasFedInto, [], all_parts, ap, append-nil, append_assoc, arith, common_steps, flat_map-append, inl, inr, length, length-append, length-map, lines, map, most_unfinished, outcome, placed_lines, refl, replicate, rules, seen, subst, sym, tiger, to_end, with_fault, without_return, ℕ, ◌++◌, ◌+◌, ◌then_with◌, ◌∙◌, ◌∷◌, ◌≡◌, ◌≤◌, ◌⊎◌}
 use Rattle.tl_load.proofs.Reading.{accepts_from_outcome, fault_from_outcome, outcome_after-append, outcome_from_accepts}
 use Rattle.tl_load.proofs.Runs.{lines_after, numbered_lines-append, parts-append}
-use Rattle.tl_load.proofs.{Counts.none_counted, LineLemmas.lines_none, RecordLines.tiger_is_sound, Steps.comes_at_end}
-use Rattle.tl_load.specs.{Loaded.with_line_feeds, Outcome.outcome_after, Places.lines_from_part, Places.numbered_lines, Steps.to_come}
+use Rattle.tl_load.proofs.Counts.{none_counted}
+use Rattle.tl_load.proofs.LineLemmas.{lines_none}
+use Rattle.tl_load.proofs.RecordLines.{tiger_is_sound}
+use Rattle.tl_load.proofs.Steps.{comes_at_end}
+use Rattle.tl_load.specs.Loaded.{with_line_feeds}
+use Rattle.tl_load.specs.Outcome.{outcome_after}
+use Rattle.tl_load.specs.Places.{lines_from_part, numbered_lines}
+use Rattle.tl_load.specs.Steps.{to_come}
 use Rattle.tl_load.specs.declared.fault.LoadFault.TheVariants as faults
 
 pub at_none : {A : Type 0} (P : Type 0) (Q : A → Type 0) (o : Option A) → o ≡ None → MatchOption o P Q → P

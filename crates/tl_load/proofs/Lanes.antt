@@ -1,8 +1,5 @@
 -- Bytes that are tested in vector lanes.
-use Rattle.tl_load.proofs.Common.{Bool, Each1, Each1-get_or, List, [], arith, cases_lt, chunk, cond, cond_both, false, get_or, get_or-chunk}
-use Rattle.tl_load.proofs.Common.{get_or-map, get_or_default, is_allowed, le-leb, length, length-chunk, length-map, lt-ltb, ltb, ltb-false}
-use Rattle.tl_load.proofs.Common.{ltb-true, map, mask_l, refl, rules, subst, tops_compared, true, w8, zip2, ℕ, ◌%◌, ◌*◌, ◌+◌, ◌-◌, ◌<◌, ◌^◌}
-use Rattle.tl_load.proofs.Common.{◌||◌, ◌∙◌, ◌∷◌, ◌≡◌, ◌≤◌}
+use Rattle.tl_load.proofs.Common.{Bool, Each1, Each1-get_or, List, [], arith, cases_lt, chunk, cond, cond_both, false, get_or, get_or-chunk, get_or-map, get_or_default, is_allowed, le-leb, length, length-chunk, length-map, lt-ltb, ltb, ltb-false, ltb-true, map, mask_l, refl, rules, subst, tops_compared, true, w8, zip2, ℕ, ◌%◌, ◌*◌, ◌+◌, ◌-◌, ◌<◌, ◌^◌, ◌||◌, ◌∙◌, ◌∷◌, ◌≡◌, ◌≤◌}
 use Rattle.tl_layout.specs.Bytes.{AreAllowed}
 use lib.Lanes.{sel_l, top}
 

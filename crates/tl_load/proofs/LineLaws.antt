@@ -1,8 +1,5 @@
 -- A line is judged as the record that it spells.
-use Rattle.tl_load.proofs.Common.{Bool, Err, FieldFault, IsFaultIn, IsLine, IsLineOf, LineFault, List, Ok, Result, [], ap, arith, cond}
-use Rattle.tl_load.proofs.Common.{fails_before_first, false, filled, get_or, is_allowed, le-ltb, length, lt-ltb, ltb, ltb-false, ltb-true}
-use Rattle.tl_load.proofs.Common.{not, not-false, not-true, not_from_true, passes_at_first, position_or_len_is, refl, rules, take, true, ℕ}
-use Rattle.tl_load.proofs.Common.{◌+◌, ◌<◌, ◌↔◌, ◌∙◌, ◌∷◌, ◌≡◌, ◌≤◌}
+use Rattle.tl_load.proofs.Common.{Bool, Err, FieldFault, IsFaultIn, IsLine, IsLineOf, LineFault, List, Ok, Result, [], ap, arith, cond, fails_before_first, false, filled, get_or, is_allowed, le-ltb, length, lt-ltb, ltb, ltb-false, ltb-true, not, not-false, not-true, not_from_true, passes_at_first, position_or_len_is, refl, rules, take, true, ℕ, ◌+◌, ◌<◌, ◌↔◌, ◌∙◌, ◌∷◌, ◌≡◌, ◌≤◌}
 use Rattle.tl_load.proofs.Filling.{begins_filled, length_filled}
 use Rattle.tl_layout.specs.Bytes.{AreAllowed}
 use Rattle.tl_load.specs.LineOf.{IsLeftmostBadByte, first_bad, judged_as, judged_full, of_reading}

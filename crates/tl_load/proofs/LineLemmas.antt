@@ -1,7 +1,5 @@
 -- The lines of consecutive bytes.
-use Rattle.tl_load.proofs.Common.{Bool, IsWithoutLineFeed, List, [], ap, append-nil, append_assoc, arith, common_steps, cond, eqb, eqb-true}
-use Rattle.tl_load.proofs.Common.{false, get_or, get_or-append_seam, is_line_feed, length, length-append, length-take, refl, rules}
-use Rattle.tl_load.proofs.Common.{slice_split, suc, sym, take, take-append_seam, true, ℕ, ◌++◌, ◌+◌, ◌-◌, ◌<◌, ◌∙◌, ◌∷◌, ◌≡◌, ◌≤◌}
+use Rattle.tl_load.proofs.Common.{Bool, IsWithoutLineFeed, List, [], ap, append-nil, append_assoc, arith, common_steps, cond, eqb, eqb-true, false, get_or, get_or-append_seam, is_line_feed, length, length-append, length-take, refl, rules, slice_split, suc, sym, take, take-append_seam, true, ℕ, ◌++◌, ◌+◌, ◌-◌, ◌<◌, ◌∙◌, ◌∷◌, ◌≡◌, ◌≤◌}
 use Rattle.std.proofs.lemmas.List.Splits.{length-slice_split, slice_split_at, slice_split_none}
 use Rattle.tl_layout.specs.Bytes.{AreAllowed}
 use Rattle.tl_load.specs.Lines.{last_line, lines, lines_of_pieces, without_return}

@@ -1,6 +1,5 @@
 -- A loader of a list of records is a loader over a collector that holds that list.
-use Rattle.tl_load.proofs.Common.{AreCounted, Err, Global, IfOk, IfSome, List, LoadFault, Loaded, LoadedInto, None, Ok, Option, Record}
-use Rattle.tl_load.proofs.Common.{Result, Some, Vec, WasFed, WasFedInto, rules, seen, subst, sym, ℕ, ◌≡◌}
+use Rattle.tl_load.proofs.Common.{AreCounted, Err, Global, IfOk, IfSome, List, LoadFault, Loaded, LoadedInto, None, Ok, Option, Record, Result, Some, Vec, WasFed, WasFedInto, rules, seen, subst, sym, ℕ, ◌≡◌}
 
 abbrev pub Records : Type 0
 Records = Vec Record Global

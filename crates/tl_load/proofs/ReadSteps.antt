@@ -1,7 +1,5 @@
 -- The bytes that a source returns, and its counts.
-use Rattle.tl_load.proofs.Common.{Consumes, Gave, Lifts, List, LoadedInto, None, Ok, Option, Record, RoseBy, Some, StopsThere, Takes}
-use Rattle.tl_load.proofs.Common.{TakesWell, [], ap, append-nil, append_assoc, arith, length, length-append, mod-add-mod, most_unfinished}
-use Rattle.tl_load.proofs.Common.{refl, rules, subst, sym, ℕ, ◌%◌, ◌++◌, ◌+◌, ◌^◌, ◌∙◌, ◌≤◌}
+use Rattle.tl_load.proofs.Common.{Consumes, Gave, Lifts, List, LoadedInto, None, Ok, Option, Record, RoseBy, Some, StopsThere, Takes, TakesWell, [], ap, append-nil, append_assoc, arith, length, length-append, mod-add-mod, most_unfinished, refl, rules, subst, sym, ℕ, ◌%◌, ◌++◌, ◌+◌, ◌^◌, ◌∙◌, ◌≤◌}
 
 consumes_nil : (a : Option (List ℕ)) → Consumes a a []
 consumes_nil None = tt

@@ -1,10 +1,7 @@
 -- Processing the lines one after another yields the records that they spell, or the first fault.
-use Rattle.tl_load.proofs.Common.{AreLinesSpelled, Bool, Err, FaultAt, IsFaultOf, LineFault, List, LoadFault, MatchResult, Ok, PlacedLine}
-use Rattle.tl_load.proofs.Common.{Result, Spells, SpellsWithin, [], after_verdict, ap, append-nil, append_assoc, arith, cases_eq, cond}
-use Rattle.tl_load.proofs.Common.{count_of, eq-eqb, eqb, false, fault_at, inl, inr, le-leb, leb, leb-false, leb-true, lt-leb, map, ne_eqb}
-use Rattle.tl_load.proofs.Common.{of_limit, of_line, outcome, placed_lines, refl, rules, subst, sum_by-append, sym, true, ℕ, ◌++◌, ◌+◌, ◌<◌}
-use Rattle.tl_load.proofs.Common.{◌then_with◌, ◌∙◌, ◌∷◌, ◌≡◌, ◌≤◌, ◌⊎◌}
-use Rattle.tl_load.specs.{Outcome.IsFaulty, Outcome.IsSpelled, Outcome.IsWithinLimitBy, Outcome.next, Outcome.outcome_after, Verdicts.Judge}
+use Rattle.tl_load.proofs.Common.{AreLinesSpelled, Bool, Err, FaultAt, IsFaultOf, LineFault, List, LoadFault, MatchResult, Ok, PlacedLine, Result, Spells, SpellsWithin, [], after_verdict, ap, append-nil, append_assoc, arith, cases_eq, cond, count_of, eq-eqb, eqb, false, fault_at, inl, inr, le-leb, leb, leb-false, leb-true, lt-leb, map, ne_eqb, of_limit, of_line, outcome, placed_lines, refl, rules, subst, sum_by-append, sym, true, ℕ, ◌++◌, ◌+◌, ◌<◌, ◌then_with◌, ◌∙◌, ◌∷◌, ◌≡◌, ◌≤◌, ◌⊎◌}
+use Rattle.tl_load.specs.Outcome.{IsFaulty, IsSpelled, IsWithinLimitBy, next, outcome_after}
+use Rattle.tl_load.specs.Verdicts.{Judge}
 use Rattle.tl_load.specs.declared.fault.LoadFault.TheVariants as faults
 
 -- ---- verdicts

@@ -1,14 +1,11 @@
 -- A line is judged as the record that it has, and that record fits.
-use Rattle.tl_load.proofs.Common.{All, All-cons, All-nil, AllByRecursion, AreLinesSpelled, BeginsWith, Bool, Err, FitsRecord, IsFaultIn}
-use Rattle.tl_load.proofs.Common.{IsFaultOfLine, IsLeftmostFault, IsLineOf, IsWithinLimit, LineFault, List, Ok, PlacedLine, Record}
-use Rattle.tl_load.proofs.Common.{RecordType, Result, Spells, SpellsWithin, Type1, Type2, Type4, Type5, Type6, Type7, Type8, TypeI, TypeP}
-use Rattle.tl_load.proofs.Common.{[], ap, as_record, byte_of, cond, eqb, eqb-false, eqb-true, every_record, false, fitting_record, inl, inr}
-use Rattle.tl_load.proofs.Common.{layout_laws, line_length, ne_eqb, of_its_type, of_no_type, placed_lines, reading_of, record_exact, refl}
-use Rattle.tl_load.proofs.Common.{rules, subst, sym, table_of, take, true, type_of, type_of_record, ℕ, ◌∙◌, ◌∷◌, ◌≡◌, ◌⊎◌}
+use Rattle.tl_load.proofs.Common.{All, All-cons, All-nil, AllByRecursion, AreLinesSpelled, BeginsWith, Bool, Err, FitsRecord, IsFaultIn, IsFaultOfLine, IsLeftmostFault, IsLineOf, IsWithinLimit, LineFault, List, Ok, PlacedLine, Record, RecordType, Result, Spells, SpellsWithin, Type1, Type2, Type4, Type5, Type6, Type7, Type8, TypeI, TypeP, [], ap, as_record, byte_of, cond, eqb, eqb-false, eqb-true, every_record, false, fitting_record, inl, inr, layout_laws, line_length, ne_eqb, of_its_type, of_no_type, placed_lines, reading_of, record_exact, refl, rules, subst, sym, table_of, take, true, type_of, type_of_record, ℕ, ◌∙◌, ◌∷◌, ◌≡◌, ◌⊎◌}
 use Rattle.tl_load.proofs.Reading.{IsSound}
 use Rattle.tl_load.proofs.LineLaws.{Reading, judged_fault_found, judged_fault_only, judged_is_line, line_fits, line_is_judged}
 use Rattle.tl_layout.specs.RecordTypes.{FieldsOf, FitsFields, SpellsFields, record_of, types}
-use Rattle.tl_load.specs.{Choice.judged, Choice.judged_by, Choice.tiger, LineOf.judged_as, RecordLine.HasRecord}
+use Rattle.tl_load.specs.Choice.{judged, judged_by, tiger}
+use Rattle.tl_load.specs.LineOf.{judged_as}
+use Rattle.tl_load.specs.RecordLine.{HasRecord}
 use Rattle.tl_load.specs.declared.fault.LineFault.TheVariants as line_faults
 
 -- ---- the layouts

@@ -1,8 +1,8 @@
 -- Lines that have ended, and the consecutive numbers of lines and parts.
-use Rattle.tl_load.proofs.Common.{All, IsWithoutLineFeed, List, [], ap, append_assoc, arith, length, lines, map, refl, rules, suc}
-use Rattle.tl_load.proofs.Common.{without_return, ℕ, ◌++◌, ◌+◌, ◌∙◌, ◌∷◌, ◌≡◌}
+use Rattle.tl_load.proofs.Common.{All, IsWithoutLineFeed, List, [], ap, append_assoc, arith, length, lines, map, refl, rules, suc, without_return, ℕ, ◌++◌, ◌+◌, ◌∙◌, ◌∷◌, ◌≡◌}
 use Rattle.tl_load.proofs.LineLemmas.{lines_line}
-use Rattle.tl_load.specs.{Loaded.with_line_feeds, Places.lines_from_part, Places.numbered_lines}
+use Rattle.tl_load.specs.Loaded.{with_line_feeds}
+use Rattle.tl_load.specs.Places.{lines_from_part, numbered_lines}
 
 pub first_of : {A : Type 0} (P : A → Type 0) (x : A) (xs : List A) → All P (x ∷ xs) → P x
 first_of P x xs h = h 0 x (omega arith)

@@ -1,7 +1,7 @@
 -- A line of more than 228 bytes is rejected, whatever follows these bytes.
-use Rattle.tl_load.proofs.Common.{Bool, Err, FieldFault, IsErr, LineFault, List, Record, Result, [], arith, as_record, cond, eqb, false}
-use Rattle.tl_load.proofs.Common.{length, length-append, longest_line, lt-ltb, refl, rules, true, ℕ, ◌++◌, ◌<◌, ◌∷◌, ◌≡◌, ◌≤◌}
-use Rattle.tl_load.specs.{Choice.judged, Choice.judged_by, LineOf.judged_as}
+use Rattle.tl_load.proofs.Common.{Bool, Err, FieldFault, IsErr, LineFault, List, Record, Result, [], arith, as_record, cond, eqb, false, length, length-append, longest_line, lt-ltb, refl, rules, true, ℕ, ◌++◌, ◌<◌, ◌∷◌, ◌≡◌, ◌≤◌}
+use Rattle.tl_load.specs.Choice.{judged, judged_by}
+use Rattle.tl_load.specs.LineOf.{judged_as}
 use Rattle.tl_load.specs.declared.fault.LineFault.TheVariants as line_faults
 
 too_long : {R : Type 0} (len : ℕ) (reading : List ℕ → Result R FieldFault) (wrap : R → Record) (line : List ℕ) → len ≤ longest_line

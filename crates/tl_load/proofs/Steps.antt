@@ -1,14 +1,16 @@
 -- The loader's steps, for a loader of a list of records.
-use Rattle.tl_load.proofs.Common.{Closes, Ends, Err, FieldKind, IsErr, IsNotDevice, IsWithoutLineFeed, JudgesAs, LeavesRest, LineFault, List}
-use Rattle.tl_load.proofs.Common.{LoadFault, Loaded, Ok, OnOk, PlacedLine, ReadsPart, Record, Result, Takes, TakesLines, [], after_verdict}
-use Rattle.tl_load.proofs.Common.{ap, append-nil, append_assoc, arith, common_steps, flat_map-append, inl, inr, judged, length}
-use Rattle.tl_load.proofs.Common.{length-append, length-map, lines, lines_from_part, longest_line, map, map-append, next_place, refl, rules}
-use Rattle.tl_load.proofs.Common.{subst, sym, to_end, without_return, ℕ, ◌++◌, ◌+◌, ◌<◌, ◌then_with◌, ◌∙◌, ◌∷◌, ◌≡◌, ◌≤◌}
+use Rattle.tl_load.proofs.Common.{Closes, Ends, Err, FieldKind, IsErr, IsNotDevice, IsWithoutLineFeed, JudgesAs, LeavesRest, LineFault, List, LoadFault, Loaded, Ok, OnOk, PlacedLine, ReadsPart, Record, Result, Takes, TakesLines, [], after_verdict, ap, append-nil, append_assoc, arith, common_steps, flat_map-append, inl, inr, judged, length, length-append, length-map, lines, lines_from_part, longest_line, map, map-append, next_place, refl, rules, subst, sym, to_end, without_return, ℕ, ◌++◌, ◌+◌, ◌<◌, ◌then_with◌, ◌∙◌, ◌∷◌, ◌≡◌, ◌≤◌}
 use Rattle.tl_load.proofs.LineLemmas.{first_line_of, lines_line, lines_none, lines_rest, without_return_front}
-use Rattle.tl_load.proofs.{Reading.outcome_after-append, Runs.lines_after, Runs.numbered_lines-append, Settled.judged_long}
-use Rattle.tl_load.proofs.{Settled.judged_settles}
-use Rattle.tl_load.specs.{Choice.tiger, Lines.last_line, Loaded.with_line_feeds, Outcome.next, Outcome.outcome_after, Places.numbered_lines}
-use Rattle.tl_load.specs.{Steps.to_come, Verdicts.fault_at, Verdicts.field_fault_at}
+use Rattle.tl_load.proofs.Reading.{outcome_after-append}
+use Rattle.tl_load.proofs.Runs.{lines_after, numbered_lines-append}
+use Rattle.tl_load.proofs.Settled.{judged_long, judged_settles}
+use Rattle.tl_load.specs.Choice.{tiger}
+use Rattle.tl_load.specs.Lines.{last_line}
+use Rattle.tl_load.specs.Loaded.{with_line_feeds}
+use Rattle.tl_load.specs.Outcome.{next, outcome_after}
+use Rattle.tl_load.specs.Places.{numbered_lines}
+use Rattle.tl_load.specs.Steps.{to_come}
+use Rattle.tl_load.specs.Verdicts.{fault_at, field_fault_at}
 use Rattle.tl_layout.specs.declared.fault.FieldKind.TheVariants as kinds
 use Rattle.tl_load.specs.declared.fault.LineFault.TheVariants as line_faults
 

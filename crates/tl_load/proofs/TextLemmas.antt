@@ -1,14 +1,16 @@
 -- The canonical text of records is loaded as these records.
-use Rattle.tl_load.proofs.Common.{All, IsWithoutLineFeed, append_assoc, false_from_ne_true, flat_map-append, placed_lines, spelling_is_line}
-use Rattle.tl_load.proofs.Common.{Eight, Ok, Record, Result, Seven, Spells, Type1, Type2, eqb-true, get_or, judged, le-ltb, length, text_of}
-use Rattle.tl_load.proofs.Common.{Err, I, One, P, Six, Two, [], ap, eqb, map, suc, true, ℕ, ◌++◌, ◌+◌, ◌<◌, ◌∙◌, ◌∷◌, ◌≡◌, ◌≤◌}
-use Rattle.tl_load.proofs.Common.{FieldFault, IsLine, append-nil, as_record, is_allowed, layout_laws, length-drop, reading_of, with_version}
-use Rattle.tl_load.proofs.Common.{Five, Four, List, Type4, Type5, Type6, Type7, Type8, TypeI, TypeP, arith, false, lines, refl, rules, take}
-use Rattle.tl_load.proofs.{Filling.filled_full, LineLaws.bad_none, LineLemmas.lines_line, LineLemmas.lines_none, Reading.AreJudged}
-use Rattle.tl_load.proofs.{Reading.judged_spelled, Reading.spelled_once, RecordLines.by_first, RecordLines.tiger_is_sound}
-use Rattle.tl_layout.specs.{Bytes.AreAllowed, RecordText.FitsRecord, RecordText.len_of, RecordText.spelling_of, RecordText.type_of}
-use Rattle.tl_load.specs.{Choice.judged_by, Choice.tiger, LineOf.judged_as, LineOf.judged_full, Lines.without_return}
-use Rattle.tl_load.specs.{Places.lines_from_part, Places.numbered_lines}
+use Rattle.tl_load.proofs.Common.{All, Eight, Err, FieldFault, Five, Four, I, IsLine, IsWithoutLineFeed, List, Ok, One, P, Record, Result, Seven, Six, Spells, Two, Type1, Type2, Type4, Type5, Type6, Type7, Type8, TypeI, TypeP, [], ap, append-nil, append_assoc, arith, as_record, eqb, eqb-true, false, false_from_ne_true, flat_map-append, get_or, is_allowed, judged, layout_laws, le-ltb, length, length-drop, lines, map, placed_lines, reading_of, refl, rules, spelling_is_line, suc, take, text_of, true, with_version, ℕ, ◌++◌, ◌+◌, ◌<◌, ◌∙◌, ◌∷◌, ◌≡◌, ◌≤◌}
+use Rattle.tl_load.proofs.Filling.{filled_full}
+use Rattle.tl_load.proofs.LineLaws.{bad_none}
+use Rattle.tl_load.proofs.LineLemmas.{lines_line, lines_none}
+use Rattle.tl_load.proofs.Reading.{AreJudged, judged_spelled, spelled_once}
+use Rattle.tl_load.proofs.RecordLines.{by_first, tiger_is_sound}
+use Rattle.tl_layout.specs.Bytes.{AreAllowed}
+use Rattle.tl_layout.specs.RecordText.{FitsRecord, len_of, spelling_of, type_of}
+use Rattle.tl_load.specs.Choice.{judged_by, tiger}
+use Rattle.tl_load.specs.LineOf.{judged_as, judged_full}
+use Rattle.tl_load.specs.Lines.{without_return}
+use Rattle.tl_load.specs.Places.{lines_from_part, numbered_lines}
 use Rattle.tl_load.specs.declared.fault.LineFault.TheVariants as line_faults
 
 -- ---- a canonical line

@@ -1,8 +1,5 @@
 -- Small facts for proofs about the loader.
-use Rattle.tl_load.proofs.Common.{Err, OnOk, [], ap, drop, eqb, inl, inr, refl, sym, take, true, ℕ, ◌++◌, ◌+◌, ◌-◌, ◌<◌, ◌∙◌, ◌∷◌, ◌≡◌, ◌≤◌}
-use Rattle.tl_load.proofs.Common.{Inside, IsOk, IsTrue, List, Loaded, Record, Result, arith, false, get_or, length, rules, subst, take_all}
-use Rattle.tl_load.proofs.Common.{IsFeedAfter, IsLineEnd, drop_more, eqb-true, get_or-take, is_allowed, length-take, take_more, take_rest}
-use Rattle.tl_load.proofs.Common.{IsWithoutLineFeed, Ok, false_from_ne_true, get_or_default, is_line_feed, take-append-drop, without_return}
+use Rattle.tl_load.proofs.Common.{Err, Inside, IsFeedAfter, IsLineEnd, IsOk, IsTrue, IsWithoutLineFeed, List, Loaded, Ok, OnOk, Record, Result, [], ap, arith, drop, drop_more, eqb, eqb-true, false, false_from_ne_true, get_or, get_or-take, get_or_default, inl, inr, is_allowed, is_line_feed, length, length-take, refl, rules, subst, sym, take, take-append-drop, take_all, take_more, take_rest, true, without_return, ℕ, ◌++◌, ◌+◌, ◌-◌, ◌<◌, ◌∙◌, ◌∷◌, ◌≡◌, ◌≤◌}
 use Rattle.tl_load.proofs.LineLemmas.{clean_without_return, without_feed_cons, without_return_drops}
 use Rattle.memchr.specs.Find.{Nowhere, Passes, is_byte}
 use Rattle.tl_layout.specs.Bytes.{AreAllowed}

@@ -2,9 +2,12 @@
 use Rattle.std.specs.Prelude.{Err, List, Ok, Result, [], if◌then◌else◌, ℕ, ◌==◌, ◌∷◌}
 use Rattle.tl_layout.specs.RecordTypes.{Type1, Type2, Type4, Type5, Type6, Type7, Type8, TypeI, TypeP, byte_of, line_length, reading_of}
 use Rattle.tl_layout.specs.declared.record_type.Record.TheVariants.{Eight, Five, Four, I, One, P, Seven, Six, Two}
-use Rattle.tl_layout.specs.{RecordText.type_of, declared.record_type.Record.Record}
+use Rattle.tl_layout.specs.RecordText.{type_of}
+use Rattle.tl_layout.specs.declared.record_type.Record.{Record}
 use Rattle.tl_load.specs.RecordLine.{HasRecord, IsFaultOfLine}
-use Rattle.tl_load.specs.{LineOf.judged_as, Verdicts.Judge, declared.fault.LineFault.LineFault}
+use Rattle.tl_load.specs.LineOf.{judged_as}
+use Rattle.tl_load.specs.Verdicts.{Judge}
+use Rattle.tl_load.specs.declared.fault.LineFault.{LineFault}
 use Rattle.tl_load.specs.declared.fault.LineFault.TheVariants as line_faults
 
 -- the record of one layout, as a record of any type

@@ -1,10 +1,14 @@
 -- A loader over a collector: its fields, viewed together with the list of records that the collector holds.
-use Rattle.std.specs.Prelude.{List, MatchOption, Ok, OnOk, Option, Result, [], length, slice_index, ℕ, ◌*◌, ◌++◌, ◌+◌, ◌-◌, ◌<◌, ◌^◌, ◌∷◌}
-use Rattle.std.specs.Prelude.{◌≡◌, ◌≤◌}
+use Rattle.std.specs.Prelude.{List, MatchOption, Ok, OnOk, Option, Result, [], length, slice_index, ℕ, ◌*◌, ◌++◌, ◌+◌, ◌-◌, ◌<◌, ◌^◌, ◌∷◌, ◌≡◌, ◌≤◌}
 use Rattle.tl_layout.specs.RecordTypes.{Type1, Type2, Type4, Type5, Type6, Type7, Type8, TypeI, TypeP, byte_of}
-use Rattle.tl_layout.specs.{Limits.most_records, declared.fault.FieldFault.FieldFault, declared.record_type.Record.Record}
-use Rattle.tl_load.specs.{Choice.tiger, Lines.IsWithoutLineFeed, Lines.most_unfinished, Loaded.HasLoaded, Loaded.IsFaultHowever}
-use Rattle.tl_load.specs.{Loaded.IsOfLines, Loaded.Loaded, Outcome.count_of, declared.fault.LoadFault.LoadFault}
+use Rattle.tl_layout.specs.Limits.{most_records}
+use Rattle.tl_layout.specs.declared.fault.FieldFault.{FieldFault}
+use Rattle.tl_layout.specs.declared.record_type.Record.{Record}
+use Rattle.tl_load.specs.Choice.{tiger}
+use Rattle.tl_load.specs.Lines.{IsWithoutLineFeed, most_unfinished}
+use Rattle.tl_load.specs.Loaded.{HasLoaded, IsFaultHowever, IsOfLines, Loaded}
+use Rattle.tl_load.specs.Outcome.{count_of}
+use Rattle.tl_load.specs.declared.fault.LoadFault.{LoadFault}
 
 -- what was kept so far, how many records of each type (by the byte in column 1), the number of closed parts, the number of
 -- judged lines in the open part, the bytes of its unfinished line, the limit of records of one type, and the recorded fault, if

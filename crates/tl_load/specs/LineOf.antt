@@ -1,8 +1,8 @@
 -- A line of one layout: its record and its fault.
-use Rattle.std.specs.Prelude.{Err, List, Ok, Result, [], false, if◌then◌else◌, length, nat_lt, not, replicate, slice_index, take, true, ℕ}
-use Rattle.std.specs.Prelude.{◌++◌, ◌+◌, ◌-◌, ◌<◌, ◌∷◌, ◌≡◌, ◌≤◌}
+use Rattle.std.specs.Prelude.{Err, List, Ok, Result, [], false, if◌then◌else◌, length, nat_lt, not, replicate, slice_index, take, true, ℕ, ◌++◌, ◌+◌, ◌-◌, ◌<◌, ◌∷◌, ◌≡◌, ◌≤◌}
 use Rattle.std.specs.List.{position_or_len}
-use Rattle.tl_layout.specs.{Bytes.AreAllowed, Bytes.is_allowed, declared.fault.FieldFault.FieldFault}
+use Rattle.tl_layout.specs.Bytes.{AreAllowed, is_allowed}
+use Rattle.tl_layout.specs.declared.fault.FieldFault.{FieldFault}
 use Rattle.tl_load.specs.declared.fault.LineFault.{LineFault}
 use Rattle.tl_load.specs.declared.fault.LineFault.TheVariants as line_faults
 

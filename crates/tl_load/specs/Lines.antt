@@ -1,5 +1,5 @@
 -- The lines of a part: the pieces that end with LF, and the bytes after the last LF.
-use Rattle.std.specs.Prelude.{◌≡◌, ◌<◌, ℕ, ◌+◌, ◌-◌, ◌⊎◌, List, [], ◌∷◌, ◌++◌, length, take, drop, slice_index, Bool, false, IsTrue, ◌==◌, if◌then◌else◌, All}
+use Rattle.std.specs.Prelude.{All, Bool, IsTrue, List, [], drop, false, if◌then◌else◌, length, slice_index, take, ℕ, ◌++◌, ◌+◌, ◌-◌, ◌<◌, ◌==◌, ◌∷◌, ◌≡◌, ◌⊎◌}
 use Rattle.std.specs.List.{flat_map, slice_split}
 use Rattle.tl_layout.specs.Bytes.{AreAllowed}
 

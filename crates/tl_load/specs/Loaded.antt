@@ -1,10 +1,11 @@
 -- A loader in contracts, and what it was fed.
-use Rattle.std.specs.Prelude.{All, Bool, Err, List, MatchOption, MatchResult, Ok, Option, Result, [], false, length, true, ℕ, ◌++◌, ◌∷◌}
-use Rattle.std.specs.Prelude.{◌≡◌, ◌≤◌, ◌⊎◌}
+use Rattle.std.specs.Prelude.{All, Bool, Err, List, MatchOption, MatchResult, Ok, Option, Result, [], false, length, true, ℕ, ◌++◌, ◌∷◌, ◌≡◌, ◌≤◌, ◌⊎◌}
 use Rattle.std.specs.List.{flat_map}
 use Rattle.tl_layout.specs.declared.record_type.Record.{Record}
-use Rattle.tl_load.specs.{Choice.tiger, Lines.IsWithoutLineFeed, Lines.most_unfinished, Outcome.FaultAt, Outcome.SpellsWithin}
-use Rattle.tl_load.specs.{declared.fault.LoadFault.LoadFault}
+use Rattle.tl_load.specs.Choice.{tiger}
+use Rattle.tl_load.specs.Lines.{IsWithoutLineFeed, most_unfinished}
+use Rattle.tl_load.specs.Outcome.{FaultAt, SpellsWithin}
+use Rattle.tl_load.specs.declared.fault.LoadFault.{LoadFault}
 use Rattle.tl_load.specs.declared.fault.LoadFault.TheVariants as faults
 
 -- the records so far, the number of closed parts, the number of judged lines in the open part, the bytes of its unfinished

@@ -1,9 +1,10 @@
 -- Which records a set of parts spells, and which fault it has.
 use Rattle.std.specs.Prelude.{Err, List, Ok, Result, [], count_by, if◌then◌else◌, nat_le, ℕ, ◌++◌, ◌==◌, ◌∷◌, ◌≡◌, ◌≤◌}
 use Rattle.std.specs.List.{AllZip}
-use Rattle.tl_load.specs.{Places.PlacedLine, Places.placed_lines, Verdicts.Judge, Verdicts.fault_at, declared.fault.LineFault.LineFault}
-use Rattle.tl_load.specs.{declared.fault.LoadFault.LoadFault}
-pub use Rattle.tl_layout.specs.Limits.{most_records}
+use Rattle.tl_load.specs.Places.{PlacedLine, placed_lines}
+use Rattle.tl_load.specs.Verdicts.{Judge, fault_at}
+use Rattle.tl_load.specs.declared.fault.LineFault.{LineFault}
+use Rattle.tl_load.specs.declared.fault.LoadFault.{LoadFault}
 use Rattle.tl_load.specs.declared.fault.LoadFault.TheVariants as faults
 
 -- how many of the records have this type

@@ -1,5 +1,5 @@
 -- The place of a line: the number of its part and its own number in the part, both counted from 1.
-use Rattle.std.specs.Prelude.{ℕ, ◌+◌, List, [], ◌∷◌, ◌++◌}
+use Rattle.std.specs.Prelude.{List, [], ℕ, ◌++◌, ◌+◌, ◌∷◌}
 use Rattle.tl_load.specs.Lines.{lines}
 
 pub record PlacedLine : Type 0 where

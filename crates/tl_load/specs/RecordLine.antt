@@ -1,8 +1,10 @@
 -- What a line spells, and which fault a faulty line has, defined by the column tables without reading the line.
 use Rattle.std.specs.Prelude.{List, [], take, ℕ, ◌∷◌, ◌≡◌}
 use Rattle.tl_layout.specs.RecordTypes.{RecordType, SpellsFields, byte_of, line_length, own_type, table_of}
-use Rattle.tl_layout.specs.{FieldFaults.IsLeftmostFault, declared.record_type.Record.Record}
-use Rattle.tl_load.specs.{LineOf.IsFaultIn, LineOf.IsLineOf, declared.fault.LineFault.LineFault}
+use Rattle.tl_layout.specs.FieldFaults.{IsLeftmostFault}
+use Rattle.tl_layout.specs.declared.record_type.Record.{Record}
+use Rattle.tl_load.specs.LineOf.{IsFaultIn, IsLineOf}
+use Rattle.tl_load.specs.declared.fault.LineFault.{LineFault}
 use Rattle.tl_load.specs.declared.fault.LineFault.TheVariants as line_faults
 
 -- the line has this record: its first byte is the record's type, and it isn't longer than the layout; padded with blanks to

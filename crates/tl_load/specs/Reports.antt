@@ -2,10 +2,10 @@
 use Rattle.std.specs.Prelude.{ℕ}
 use Rattle.fault_report.specs.Reports.{at, at_three, at_two, bare}
 use Rattle.fault_report.specs.declared.report.FaultPlace.TheVariants.{Number, RecordType}
-use Rattle.fault_report.specs.{declared.kind.FaultKind.FaultKind, declared.report.FaultReport.FaultReport}
+use Rattle.fault_report.specs.declared.kind.FaultKind.{FaultKind}
+use Rattle.fault_report.specs.declared.report.FaultReport.{FaultReport}
 use Rattle.tl_load.specs.declared.fault.LoadFault.{LoadFault}
-use Rattle.tl_load.specs.declared.fault.LoadFault.TheVariants.{BadByte, BadNumber, BadPoint, Device, GapInRecord, LineTooLong, Memory}
-use Rattle.tl_load.specs.declared.fault.LoadFault.TheVariants.{TooManyRecords, UnknownType}
+use Rattle.tl_load.specs.declared.fault.LoadFault.TheVariants.{BadByte, BadNumber, BadPoint, Device, GapInRecord, LineTooLong, Memory, TooManyRecords, UnknownType}
 use Rattle.fault_report.specs.declared.kind.FaultKind.TheVariants as kind
 
 -- A fault at a line: its places are the part and the line.

@@ -1,5 +1,5 @@
 -- The counts of a source, and a source over borrowed bytes in contracts.
-use Rattle.std.specs.Prelude.{◌≡◌, ℕ, ◌+◌, ◌-◌, ◌%◌, ◌^◌, nat_lt, List, length, Option, Some, None, if◌then◌else◌}
+use Rattle.std.specs.Prelude.{List, None, Option, Some, if◌then◌else◌, length, nat_lt, ℕ, ◌%◌, ◌+◌, ◌-◌, ◌^◌, ◌≡◌}
 use Rattle.std.specs.Io.KnownBytes.{Consumes}
 
 -- the most bytes of one read

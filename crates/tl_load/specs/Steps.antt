@@ -1,10 +1,15 @@
 -- What the loader's internal steps do to its value.
 use Rattle.std.specs.Prelude.{Err, IfErr, List, MatchResult, Ok, OnOk, Result, Some, [], length, map, ℕ, ◌++◌, ◌+◌, ◌≡◌, ◌≤◌, ◌⊎◌}
-use Rattle.tl_layout.specs.{Bytes.longest_line, declared.record_type.Record.Record}
-use Rattle.tl_load.specs.{Choice.tiger, Keeping.IsSamePart, Keeping.Lifts, Keeping.LoadedInto, Keeping.total, Lines.lines, Lines.most_unfinished}
-use Rattle.tl_load.specs.{Lines.without_return, Loaded.AreLines, Loaded.IsNotDevice, Loaded.IsOfLines, Loaded.Loaded, Outcome.after_verdict}
-use Rattle.tl_load.specs.{Outcome.outcome_after, Outcome.with_record, Places.PlacedLine, Places.lines_from_part, Places.numbered_lines}
-use Rattle.tl_load.specs.{declared.fault.LineFault.LineFault, declared.fault.LoadFault.LoadFault}
+use Rattle.tl_layout.specs.Bytes.{longest_line}
+use Rattle.tl_layout.specs.declared.record_type.Record.{Record}
+use Rattle.tl_load.specs.Choice.{tiger}
+use Rattle.tl_load.specs.Keeping.{IsSamePart, Lifts, LoadedInto, total}
+use Rattle.tl_load.specs.Lines.{lines, most_unfinished, without_return}
+use Rattle.tl_load.specs.Loaded.{AreLines, IsNotDevice, IsOfLines, Loaded}
+use Rattle.tl_load.specs.Outcome.{after_verdict, outcome_after, with_record}
+use Rattle.tl_load.specs.Places.{PlacedLine, lines_from_part, numbered_lines}
+use Rattle.tl_load.specs.declared.fault.LineFault.{LineFault}
+use Rattle.tl_load.specs.declared.fault.LoadFault.{LoadFault}
 
 -- the final result for the loader's value if these bytes follow in its open part, and then these parts
 unfoldable pub to_come : Loaded → List ℕ → List (List ℕ) → Result (List Record) LoadFault

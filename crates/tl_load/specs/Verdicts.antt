@@ -1,7 +1,8 @@
 -- Judges of lines, and how a line's fault is reported.
 use Rattle.std.specs.Prelude.{List, Result, ℕ}
 use Rattle.tl_layout.specs.declared.fault.FieldKind.{FieldKind}
-use Rattle.tl_load.specs.{declared.fault.LineFault.LineFault, declared.fault.LoadFault.LoadFault}
+use Rattle.tl_load.specs.declared.fault.LineFault.{LineFault}
+use Rattle.tl_load.specs.declared.fault.LoadFault.{LoadFault}
 use Rattle.tl_layout.specs.declared.fault.FieldKind.TheVariants as kinds
 use Rattle.tl_load.specs.declared.fault.LineFault.TheVariants as line_faults
 use Rattle.tl_load.specs.declared.fault.LoadFault.TheVariants as faults

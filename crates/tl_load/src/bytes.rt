@@ -1,8 +1,8 @@
 //! The bytes that are allowed in a line.
 
-ghost use Rattle.std.specs.Prelude.{◌≡◌, ◌≤◌, ◌<◌, ◌+◌, ℕ, length, slice_index, position, not, true, IsTrue};
+ghost use Rattle.std.specs.Prelude.{IsTrue, length, not, position, slice_index, true, ℕ, ◌+◌, ◌<◌, ◌≡◌, ◌≤◌};
 ghost use Rattle.std.specs.Simd.Lanes.{Each1};
-ghost use Rattle.tl_layout.specs.Bytes.{is_allowed, AreAllowed};
+ghost use Rattle.tl_layout.specs.Bytes.{AreAllowed, is_allowed};
 
 use std::simd::prelude::*;
 

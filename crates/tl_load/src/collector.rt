@@ -1,7 +1,10 @@
 //! What a loader does with the records that it reads.
 
 ghost use Rattle.std.specs.Prelude.{IfOk, IsTrue, List, OnOk, [], false, ◌++◌, ◌∷◌, ◌≡◌};
-ghost use Rattle.tl_layout.specs.{Bytes.IsLine, RecordText.text_of, Tables.HoldsByType, declared.record_type.Record.Record};
+ghost use Rattle.tl_layout.specs.Bytes.{IsLine};
+ghost use Rattle.tl_layout.specs.RecordText.{text_of};
+ghost use Rattle.tl_layout.specs.Tables.{HoldsByType};
+ghost use Rattle.tl_layout.specs.declared.record_type.Record.{Record};
 ghost use Rattle.tl_load.specs.Keeping.{KeepsLine};
 
 use canonical_lines::{CanonicalLine, copy_line};

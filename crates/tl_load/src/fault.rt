@@ -2,7 +2,8 @@
 
 ghost use Rattle.std.specs.Prelude.{Some, ◌≡◌};
 ghost use Rattle.fault_report.specs.Reports.{report_line};
-ghost use Rattle.tl_load.specs.{Reports.at_column, Reports.at_line, Reports.load_report, Verdicts.fault_at};
+ghost use Rattle.tl_load.specs.Reports.{at_column, at_line, load_report};
+ghost use Rattle.tl_load.specs.Verdicts.{fault_at};
 
 use fault_report::{FaultKind, FaultPlace, FaultReport};
 use std::fmt;

@@ -1,6 +1,6 @@
 //! Judging a line: its record, or its fault.
 
-ghost use Rattle.std.specs.Prelude.{◌≡◌, ◌≤◌, ◌<◌, [], ◌∷◌, take, length, replicate, not, position, IsTrue};
+ghost use Rattle.std.specs.Prelude.{IsTrue, [], length, not, position, replicate, take, ◌<◌, ◌∷◌, ◌≡◌, ◌≤◌};
 ghost use Rattle.tl_layout.specs.Bytes.{AreAllowed, IsLine, is_allowed, longest_line};
 ghost use Rattle.tl_load.specs.LineOf.{filled, judged_as, judged_full};
 

@@ -1,11 +1,17 @@
 //! Laws of the definitions. Each is the contract of a function that does nothing.
 
 ghost use Rattle.std.specs.Prelude.{All, Err, List, Ok, [], take, ℕ, ◌++◌, ◌↔◌, ◌∷◌, ◌≡◌, ◌⊎◌};
-ghost use Rattle.tl_layout.specs.{Limits.IsWithinLimit, RecordText.FitsRecord, RecordText.text_of, declared.record_type.Record.Record};
+ghost use Rattle.tl_layout.specs.Limits.{IsWithinLimit};
+ghost use Rattle.tl_layout.specs.RecordText.{FitsRecord, text_of};
+ghost use Rattle.tl_layout.specs.declared.record_type.Record.{Record};
 ghost use Rattle.tl_load.specs.LineOf.{IsFaultIn, IsLineOf, judged_as};
 ghost use Rattle.tl_load.specs.Outcome.{FaultAt, IsFaulty, IsSpelled, Spells, SpellsWithin};
-ghost use Rattle.tl_load.specs.{Choice.tiger, Lines.HaveSameLines, RecordLine.HasRecord, RecordLine.IsFaultOfLine, Verdicts.without_place};
-ghost use Rattle.tl_load.specs.{declared.fault.LineFault.LineFault, declared.fault.LoadFault.LoadFault};
+ghost use Rattle.tl_load.specs.Choice.{tiger};
+ghost use Rattle.tl_load.specs.Lines.{HaveSameLines};
+ghost use Rattle.tl_load.specs.RecordLine.{HasRecord, IsFaultOfLine};
+ghost use Rattle.tl_load.specs.Verdicts.{without_place};
+ghost use Rattle.tl_load.specs.declared.fault.LineFault.{LineFault};
+ghost use Rattle.tl_load.specs.declared.fault.LoadFault.{LoadFault};
 
 use tl_layout::Layout;
 

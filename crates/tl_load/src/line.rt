@@ -1,7 +1,7 @@
 //! Finding the end of a line, and removing its line ending.
 
-ghost use Rattle.std.specs.Prelude.{◌≡◌, true, IfSome, MatchOption};
-ghost use Rattle.tl_load.specs.Lines.{without_return, IsFeedAfter, IsLineEnd, IsWithoutLineFeed};
+ghost use Rattle.std.specs.Prelude.{IfSome, MatchOption, true, ◌≡◌};
+ghost use Rattle.tl_load.specs.Lines.{IsFeedAfter, IsLineEnd, IsWithoutLineFeed, without_return};
 
 use crate::bytes::is_ascii;
 use memchr::memchr;

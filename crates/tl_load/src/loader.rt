@@ -1,12 +1,14 @@
 //! The loader of a list of records.
 
 ghost use Rattle.std.specs.Io.KnownBytes.{IsAtEnd};
-ghost use Rattle.std.specs.Prelude.{All, Err, IfErr, IfOk, IfSome, List, MatchResult, None, OnOk, Some, [], if◌then◌else◌, is_ok, length};
-ghost use Rattle.std.specs.Prelude.{ℕ, ◌++◌, ◌+◌, ◌<◌, ◌∷◌, ◌≡◌, ◌≤◌};
-ghost use Rattle.tl_layout.specs.{Limits.most_records, RecordText.FitsRecord, declared.record_type.Record.Record};
+ghost use Rattle.std.specs.Prelude.{All, Err, IfErr, IfOk, IfSome, List, MatchResult, None, OnOk, Some, [], if◌then◌else◌, is_ok, length, ℕ, ◌++◌, ◌+◌, ◌<◌, ◌∷◌, ◌≡◌, ◌≤◌};
+ghost use Rattle.tl_layout.specs.Limits.{most_records};
+ghost use Rattle.tl_layout.specs.RecordText.{FitsRecord};
+ghost use Rattle.tl_layout.specs.declared.record_type.Record.{Record};
 ghost use Rattle.tl_load.specs.Loaded.{FedPart, IsFaultHowever, IsNotDevice, IsOfLines, IsWellAfter, WasFed, all_parts, is_device};
 ghost use Rattle.tl_load.specs.Sources.{Gave, StopsThere, most_read, most_taken};
-ghost use Rattle.tl_load.specs.{Choice.tiger, Outcome.FaultAt, Outcome.SpellsWithin};
+ghost use Rattle.tl_load.specs.Choice.{tiger};
+ghost use Rattle.tl_load.specs.Outcome.{FaultAt, SpellsWithin};
 
 use crate::{LoadFault, LoaderFor, Source};
 use std::alloc::Global;
@@ -25,7 +27,8 @@ pub struct Loader {
 
 impl Model for Loader {
     ghost use Rattle.std.specs.Prelude.{None, ◌≡◌};
-    ghost use Rattle.tl_load.specs.{Keeping.AreCounted, Keeping.seen, Loaded.Loaded};
+    ghost use Rattle.tl_load.specs.Keeping.{AreCounted, seen};
+    ghost use Rattle.tl_load.specs.Loaded.{Loaded};
 
     ghost Value = { Loaded };
 

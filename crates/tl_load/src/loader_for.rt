@@ -1,14 +1,18 @@
 //! The loader over any collector: splits pieces of bytes into lines, judges each line when it ends, and keeps its record.
 
-ghost use Rattle.std.specs.Prelude.{Err, IfErr, IfOk, IfSome, IsTrue, List, MatchResult, None, OnOk, Some, [], false, if◌then◌else◌, is_ok};
-ghost use Rattle.std.specs.Prelude.{length, replicate, take, ℕ, ◌++◌, ◌+◌, ◌<◌, ◌∷◌, ◌≡◌, ◌≤◌};
-ghost use Rattle.std.specs.{Io.KnownBytes.IsAtEnd, Result.IsErr};
-ghost use Rattle.tl_layout.specs.{Bytes.AreAllowed, Limits.most_records, declared.record_type.Record.Record};
+ghost use Rattle.std.specs.Prelude.{Err, IfErr, IfOk, IfSome, IsTrue, List, MatchResult, None, OnOk, Some, [], false, if◌then◌else◌, is_ok, length, replicate, ℕ, ◌++◌, ◌+◌, ◌<◌, ◌∷◌, ◌≡◌, ◌≤◌};
+ghost use Rattle.std.specs.Io.KnownBytes.{IsAtEnd};
+ghost use Rattle.std.specs.Result.{IsErr};
+ghost use Rattle.tl_layout.specs.Bytes.{AreAllowed};
+ghost use Rattle.tl_layout.specs.Limits.{most_records};
+ghost use Rattle.tl_layout.specs.declared.record_type.Record.{Record};
 ghost use Rattle.tl_load.specs.Keeping.{HasSome, IsSamePart, Lifts, WasFedInto, bytes_used};
 ghost use Rattle.tl_load.specs.Loaded.{FedPart, IsFaultHowever, IsNotDevice, IsOfLines, IsWellAfter, all_parts, is_device};
 ghost use Rattle.tl_load.specs.Steps.{Closes, Ends, ReadsPart, Takes, TakesWell, with_fault};
-ghost use Rattle.tl_load.specs.{Choice.judged, Lines.IsWithoutLineFeed, Lines.most_unfinished, Lines.without_return, Outcome.SpellsWithin};
-ghost use Rattle.tl_load.specs.{Choice.tiger, Outcome.FaultAt, Sources.Gave, Sources.StopsThere, Sources.most_taken};
+ghost use Rattle.tl_load.specs.Choice.{judged, tiger};
+ghost use Rattle.tl_load.specs.Lines.{IsWithoutLineFeed, most_unfinished, without_return};
+ghost use Rattle.tl_load.specs.Outcome.{FaultAt, SpellsWithin};
+ghost use Rattle.tl_load.specs.Sources.{Gave, StopsThere, most_taken};
 
 mod judging;
 
@@ -36,7 +40,7 @@ pub struct LoaderFor<K> {
 }
 
 impl<K> Model for LoaderFor<K> {
-    ghost use Rattle.tl_load.specs.Keeping.{LoadedInto, IsLoader};
+    ghost use Rattle.tl_load.specs.Keeping.{IsLoader, LoadedInto};
 
     ghost Value = { LoadedInto K };
 

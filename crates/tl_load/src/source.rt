@@ -2,9 +2,9 @@
 //!
 //! A source counts its failures, so that a device fault is reported exactly if a read failed. A failed read isn't retried.
 
-ghost use Rattle.std.specs.Prelude.{IfOk, IsTrue, List, MatchResult, Option, Some, if◌then◌else◌, is_ok, length, min, ℕ, ◌+◌, ◌<◌, ◌↔◌};
-ghost use Rattle.std.specs.Prelude.{◌≡◌, ◌≤◌};
-ghost use Rattle.std.specs.{Io.KnownBytes.ReadConsumes, Result.IsErr};
+ghost use Rattle.std.specs.Prelude.{IfOk, IsTrue, List, MatchResult, Option, Some, if◌then◌else◌, is_ok, length, min, ℕ, ◌+◌, ◌<◌, ◌↔◌, ◌≡◌, ◌≤◌};
+ghost use Rattle.std.specs.Io.KnownBytes.{ReadConsumes};
+ghost use Rattle.std.specs.Result.{IsErr};
 ghost use Rattle.tl_load.specs.Sources.{RoseBy, counted_down};
 
 use std::io::Read;

@@ -1,11 +1,16 @@
 -- Directed chains, and choices, with the same further address ranges.
 use Rattle.std.specs.Prelude.{List, take, ◌≡◌}
-use Rattle.std.specs.{List.AllByRecursion, declared.cmp.Ordering.TheVariants.Equal}
+use Rattle.std.specs.List.{AllByRecursion}
+use Rattle.std.specs.declared.cmp.Ordering.TheVariants.{Equal}
 use Rattle.tl_layout.specs.declared.ranges.Ranges.{Ranges}
-use Rattle.county_chart.specs.{ChartWords.ranges_of, County.County, DirectedChains.directed_chain}
+use Rattle.county_chart.specs.ChartWords.{ranges_of}
+use Rattle.county_chart.specs.County.{County}
+use Rattle.county_chart.specs.DirectedChains.{directed_chain}
 use Rattle.county_chart.specs.declared.directed_chain.DirectedChain.{DirectedChain}
-use Rattle.record_groups.specs.{CountyGroups.type_6_by_chain, TypeOneOrder.ones_cmp}
-use Rattle.tl_number.specs.{ChoiceSearch.chosen_county, declared.choice_search.Tie.Tie}
+use Rattle.record_groups.specs.CountyGroups.{type_6_by_chain}
+use Rattle.record_groups.specs.TypeOneOrder.{ones_cmp}
+use Rattle.tl_number.specs.ChoiceSearch.{chosen_county}
+use Rattle.tl_number.specs.declared.choice_search.Tie.{Tie}
 
 -- the further address ranges of a chain, in its direction
 abbrev pub ranges_towards : County → DirectedChain → List Ranges

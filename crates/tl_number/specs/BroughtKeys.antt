@@ -1,6 +1,7 @@
 -- Places that bring a wanted key: they have it, and no fixed place before has it.
 use Rattle.std.specs.Prelude.{Bool, List, filter, map, not, ℕ, ◌&&◌}
-use Rattle.std.specs.{List.list_any, List.range_with_len, declared.cmp.Ordering.Ordering}
+use Rattle.std.specs.List.{list_any, range_with_len}
+use Rattle.std.specs.declared.cmp.Ordering.{Ordering}
 use Rattle.ordered_lists.specs.Orders.{contains}
 use Rattle.county_chart.specs.declared.open_place.OpenPlace.{OpenPlace}
 use Rattle.canonical_form.specs.Growth.{first_seen}

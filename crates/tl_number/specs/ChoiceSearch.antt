@@ -2,10 +2,15 @@
 use Rattle.std.specs.Prelude.{List, cond, length, ℕ, ◌≡◌, ◌≤◌}
 use Rattle.std.specs.Ordering.{is_gt}
 use Rattle.county_chart.specs.CountyRules.{AllKeysContained, polygon_keys, polygons_along}
-use Rattle.county_chart.specs.{Choices.choices, Choices.most_choices, County.County, ShapeOrder.IsShapeOrder, ShapeOrder.OrderOfShapes}
+use Rattle.county_chart.specs.Choices.{choices, most_choices}
+use Rattle.county_chart.specs.County.{County}
+use Rattle.county_chart.specs.ShapeOrder.{IsShapeOrder, OrderOfShapes}
 use Rattle.county_chart.specs.declared.directed_chain.DirectedChain.{DirectedChain}
 use Rattle.canonical_form.specs.MovedChains.{AreWithin, other_way}
-use Rattle.canonical_form.specs.{Arrangement.arranged, LeastNumber.choices_cmp, NumberedChoices.moved, Tidy.numbered_choice}
+use Rattle.canonical_form.specs.Arrangement.{arranged}
+use Rattle.canonical_form.specs.LeastNumber.{choices_cmp}
+use Rattle.canonical_form.specs.NumberedChoices.{moved}
+use Rattle.canonical_form.specs.Tidy.{numbered_choice}
 use Rattle.tl_number.specs.declared.numbered_arrangement.NumberedArrangement.{NumberedArrangement}
 
 -- this is the order of its chains by their shapes, which leaves few enough choices, its open places are within it, and the county has

@@ -1,12 +1,17 @@
 -- Parts of a county: some of its chains, with their names and polygons, and all of its landmarks or none; and tables for them.
 use Rattle.std.specs.Prelude.{Bool, List, [], cond, filter, flat_map, length, option_to_list, slice_get, ℕ, ◌≡◌}
-use Rattle.std.specs.{List.list_any, List.range_with_len, Ordering.nat_cmp, declared.cmp.Ordering.Ordering}
-use Rattle.ordered_lists.specs.{Orders.contains, Places.at_places}
+use Rattle.std.specs.List.{list_any, range_with_len}
+use Rattle.std.specs.Ordering.{nat_cmp}
+use Rattle.std.specs.declared.cmp.Ordering.{Ordering}
+use Rattle.ordered_lists.specs.Orders.{contains}
+use Rattle.ordered_lists.specs.Places.{at_places}
 use Rattle.tl_shape.specs.Chain.{Chain}
 use Rattle.county_chart.specs.CountyRules.{feats, nodes, polygon_keys, polygons_along, tlids}
-use Rattle.county_chart.specs.{County.County, PolygonKeys.key_cmp}
+use Rattle.county_chart.specs.County.{County}
+use Rattle.county_chart.specs.PolygonKeys.{key_cmp}
 use Rattle.canonical_form.specs.WholeArrangements.{AreReadAt}
-use Rattle.tl_number.specs.{declared.part_tables.PartTables.PartTables, declared.part_tables.Picked.Picked}
+use Rattle.tl_number.specs.declared.part_tables.PartTables.{PartTables}
+use Rattle.tl_number.specs.declared.part_tables.Picked.{Picked}
 
 -- the FEATs that chains have, one chain after another
 abbrev pub feats_along : List (ℕ × Chain) → List ℕ

@@ -1,11 +1,20 @@
 -- Searching the kept chains of a county, place by place.
 use Rattle.std.specs.Prelude.{List, flat_map, length, map, ℕ, ◌≡◌}
-use Rattle.std.specs.{List.range_with_len, Ordering.nat_cmp, declared.cmp.Ordering.Ordering}
+use Rattle.std.specs.List.{range_with_len}
+use Rattle.std.specs.Ordering.{nat_cmp}
+use Rattle.std.specs.declared.cmp.Ordering.{Ordering}
 use Rattle.ordered_lists.specs.Orders.{contains}
-use Rattle.county_chart.specs.{ChartWords.links_at, County.link_key, CountyRules.chain_nodes, PolygonKeys.PolygonKey, PolygonKeys.key_cmp}
-use Rattle.county_chart.specs.{County.County, CountyRules.chain_polygons, ShapeOrder.OrderOfShapes, declared.open_place.OpenPlace.OpenPlace}
+use Rattle.county_chart.specs.ChartWords.{links_at}
+use Rattle.county_chart.specs.County.{County, link_key}
+use Rattle.county_chart.specs.CountyRules.{chain_nodes, chain_polygons}
+use Rattle.county_chart.specs.PolygonKeys.{PolygonKey, key_cmp}
+use Rattle.county_chart.specs.ShapeOrder.{OrderOfShapes}
+use Rattle.county_chart.specs.declared.open_place.OpenPlace.{OpenPlace}
 use Rattle.tl_number.specs.SmallCounty.{wanted_feats, wanted_nodes, wanted_polygons}
-use Rattle.tl_number.specs.{BroughtKeys.met_before, KeysAlong.keys_along, NamesAlong.chain_feats, declared.kept_places.Searches.Searches}
+use Rattle.tl_number.specs.BroughtKeys.{met_before}
+use Rattle.tl_number.specs.KeysAlong.{keys_along}
+use Rattle.tl_number.specs.NamesAlong.{chain_feats}
+use Rattle.tl_number.specs.declared.kept_places.Searches.{Searches}
 
 -- the polygons of the landmark at a place
 abbrev pub link_keys_at : County → ℕ → List PolygonKey

@@ -1,9 +1,13 @@
 -- The keys along directed chains, and the open ones, which first appear at open places.
 use Rattle.std.specs.Prelude.{Bool, List, [], cond, filter, flat_map, nat_le, nat_lt, option_to_list, ℕ, ◌&&◌, ◌++◌, ◌+◌, ◌∷◌}
-use Rattle.std.specs.{List.list_any, List.position_or_len, List.range_with_len, Ordering.is_eq, declared.cmp.Ordering.Ordering}
+use Rattle.std.specs.List.{list_any, position_or_len, range_with_len}
+use Rattle.std.specs.Ordering.{is_eq}
+use Rattle.std.specs.declared.cmp.Ordering.{Ordering}
 use Rattle.ordered_lists.specs.Orders.{contains}
 use Rattle.tl_shape.specs.Chain.{Chain}
-use Rattle.county_chart.specs.{County.County, declared.directed_chain.DirectedChain.DirectedChain, declared.open_place.OpenPlace.OpenPlace}
+use Rattle.county_chart.specs.County.{County}
+use Rattle.county_chart.specs.declared.directed_chain.DirectedChain.{DirectedChain}
+use Rattle.county_chart.specs.declared.open_place.OpenPlace.{OpenPlace}
 use Rattle.canonical_form.specs.DirectedChains.{parts_along}
 
 -- whether an open place moves a chain to or from the place

@@ -1,12 +1,19 @@
 -- The choices with the least records of type 1, digit by digit of their numbers.
-use Rattle.std.specs.Prelude.{List, [], flat_map, length, map, true, false, ℕ, ◌*◌, ◌+◌, ◌<◌, ◌∷◌, ◌≡◌, ◌≤◌}
-use Rattle.std.specs.{List.AllByRecursion, Ordering.is_gt, Ordering.nat_cmp, declared.cmp.Ordering.Ordering, declared.cmp.Ordering.TheVariants.Equal}
+use Rattle.std.specs.Prelude.{List, [], false, flat_map, length, map, true, ℕ, ◌*◌, ◌+◌, ◌<◌, ◌∷◌, ◌≡◌, ◌≤◌}
+use Rattle.std.specs.List.{AllByRecursion}
+use Rattle.std.specs.Ordering.{is_gt, nat_cmp}
+use Rattle.std.specs.declared.cmp.Ordering.{Ordering}
+use Rattle.std.specs.declared.cmp.Ordering.TheVariants.{Equal}
 use Rattle.tl_layout.specs.declared.record_type.Record.{Record}
 use Rattle.ordered_lists.specs.Orders.{contains}
-use Rattle.county_chart.specs.{Choices.choices, Choices.ways_at, County.County, declared.open_place.OpenPlace.OpenPlace}
-use Rattle.canonical_form.specs.{Canonical.IsNotAfter, MovedChains.AreWithin}
+use Rattle.county_chart.specs.Choices.{choices, ways_at}
+use Rattle.county_chart.specs.County.{County}
+use Rattle.county_chart.specs.declared.open_place.OpenPlace.{OpenPlace}
+use Rattle.canonical_form.specs.Canonical.{IsNotAfter}
+use Rattle.canonical_form.specs.MovedChains.{AreWithin}
 use Rattle.canonical_form.specs.LeastNumber.{IsLeastBelow, choice_list}
-use Rattle.record_groups.specs.{RecordOrder.records_cmp, TypeOneOrder.ones_cmp, TypeOneOrder.ones_of}
+use Rattle.record_groups.specs.RecordOrder.{records_cmp}
+use Rattle.record_groups.specs.TypeOneOrder.{ones_cmp, ones_of}
 use Rattle.tl_number.specs.ChoiceSearch.{chosen_county}
 
 -- Of the numbers below a bound, these are the ones whose values come after no other's. There is at least one.

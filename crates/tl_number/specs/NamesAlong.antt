@@ -2,8 +2,10 @@
 use Rattle.std.specs.Prelude.{List, ℕ}
 use Rattle.ordered_lists.specs.Entries.{entry_keys}
 use Rattle.tl_shape.specs.Chain.{Chain}
-use Rattle.county_chart.specs.{County.County, declared.directed_chain.DirectedChain.DirectedChain}
-use Rattle.canonical_form.specs.{Arrangement.names_in_order, DirectedChains.arrangement_of}
+use Rattle.county_chart.specs.County.{County}
+use Rattle.county_chart.specs.declared.directed_chain.DirectedChain.{DirectedChain}
+use Rattle.canonical_form.specs.Arrangement.{names_in_order}
+use Rattle.canonical_form.specs.DirectedChains.{arrangement_of}
 
 -- the FEATs of a chain's further names
 abbrev pub chain_feats : Chain → List ℕ

@@ -1,15 +1,21 @@
 -- The small county, which decides how choices compare: the chains at open places, the first fixed chain of each key that they have, and
 -- all landmarks if some landmark has a polygon that first appears at an open place.
 use Rattle.std.specs.Prelude.{Bool, List, [], cond, filter, length, map, ℕ, ◌++◌, ◌||◌}
-use Rattle.std.specs.{List.list_any, List.range_with_len, Ordering.nat_cmp}
-use Rattle.ordered_lists.specs.{Orders.contains, Places.at_places}
+use Rattle.std.specs.List.{list_any, range_with_len}
+use Rattle.std.specs.Ordering.{nat_cmp}
+use Rattle.ordered_lists.specs.Orders.{contains}
+use Rattle.ordered_lists.specs.Places.{at_places}
 use Rattle.tl_shape.specs.Chain.{Chain}
-use Rattle.county_chart.specs.{County.County, County.link_key, CountyRules.chain_nodes, CountyRules.chain_polygons, PolygonKeys.PolygonKey}
-use Rattle.county_chart.specs.{PolygonKeys.key_cmp, ShapeOrder.OrderOfShapes}
+use Rattle.county_chart.specs.County.{County, link_key}
+use Rattle.county_chart.specs.CountyRules.{chain_nodes, chain_polygons}
+use Rattle.county_chart.specs.PolygonKeys.{PolygonKey, key_cmp}
+use Rattle.county_chart.specs.ShapeOrder.{OrderOfShapes}
 use Rattle.canonical_form.specs.DirectedChains.{tlid_at}
 use Rattle.record_groups.specs.Groups.{group_at, grouped}
 use Rattle.tl_number.specs.KeysAlong.{first_open, is_open, keys_along, open_among}
-use Rattle.tl_number.specs.{CountyParts.part_of, BroughtKeys.brings, NamesAlong.chain_feats}
+use Rattle.tl_number.specs.CountyParts.{part_of}
+use Rattle.tl_number.specs.BroughtKeys.{brings}
+use Rattle.tl_number.specs.NamesAlong.{chain_feats}
 
 -- the keys of the chains at open places
 abbrev pub keys_at_open : {K : Type 0} → (Chain → List K) → County → OrderOfShapes → List K

@@ -4,12 +4,14 @@
 //! records of each type. So the first type whose records differ decides between their texts.
 
 ghost use Rattle.std.specs.Prelude.{take, ◌≡◌};
-ghost use Rattle.std.specs.{Cmp.Lexicographic.slice_cmp, Ordering.nat_cmp, Ordering.ordering_then, declared.cmp.Ordering.TheVariants.Equal};
-ghost use Rattle.county_chart.specs.{Packing.packed, Renumbering.AreSame};
+ghost use Rattle.std.specs.Cmp.Lexicographic.{slice_cmp};
+ghost use Rattle.std.specs.Ordering.{nat_cmp, ordering_then};
+ghost use Rattle.std.specs.declared.cmp.Ordering.TheVariants.{Equal};
+ghost use Rattle.county_chart.specs.Packing.{packed};
+ghost use Rattle.county_chart.specs.Renumbering.{AreSame};
 ghost use Rattle.tl_layout.specs.declared.record_type.Record.TheVariants.{Four, I, One, P, Six};
 ghost use Rattle.tl_layout.specs.RecordText.{text_of};
-ghost use Rattle.record_groups.specs.CountyGroups.{type_1_by_chain, type_2_by_chain, type_4_by_chain, type_5_by_name, type_6_by_chain};
-ghost use Rattle.record_groups.specs.CountyGroups.{type_7_by_landmark, type_i_by_chain, type_p_by_number};
+ghost use Rattle.record_groups.specs.CountyGroups.{type_1_by_chain, type_2_by_chain, type_4_by_chain, type_5_by_name, type_6_by_chain, type_7_by_landmark, type_i_by_chain, type_p_by_number};
 ghost use Rattle.record_groups.specs.RecordOrder.{groups_cmp, types_8_to_p_cmp};
 ghost use Rattle.arranged_county.specs.Views.{arranged_county};
 

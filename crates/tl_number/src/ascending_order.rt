@@ -1,7 +1,8 @@
 //! The ascending arrangement: each chain in its lesser direction, and the chains in the order of their shapes.
 
 ghost use Rattle.std.specs.Prelude.{IfOk, ◌≡◌};
-ghost use Rattle.canonical_form.specs.{Arrangement.ascending, DirectedChains.HasChainsOf, DirectedChains.arrangement_of};
+ghost use Rattle.canonical_form.specs.Arrangement.{ascending};
+ghost use Rattle.canonical_form.specs.DirectedChains.{HasChainsOf, arrangement_of};
 
 use county_chart::{Chart, DirectedChain};
 use std::alloc::{AllocError, Global};

@@ -1,8 +1,12 @@
 //! Making the canonical county.
 
 ghost use Rattle.std.specs.Prelude.{Err, IfOk, MatchResult, Ok, ◌≡◌};
-ghost use Rattle.county_chart.specs.{Profile.IsInProfile, Renumbering.Carries, ShapeOrder.IsShapeOrder};
-ghost use Rattle.canonical_form.specs.{Arrangement.arranged, Arrangement.renaming_of, CanonCounties.IsCanonCounty, Tidy.IsLeastChoice};
+ghost use Rattle.county_chart.specs.Profile.{IsInProfile};
+ghost use Rattle.county_chart.specs.Renumbering.{Carries};
+ghost use Rattle.county_chart.specs.ShapeOrder.{IsShapeOrder};
+ghost use Rattle.canonical_form.specs.Arrangement.{arranged, renaming_of};
+ghost use Rattle.canonical_form.specs.CanonCounties.{IsCanonCounty};
+ghost use Rattle.canonical_form.specs.Tidy.{IsLeastChoice};
 ghost use Rattle.arranged_county.specs.Views.{arranged_county, arrangement_in, source_of};
 
 use crate::least_choice::least_arrangement;

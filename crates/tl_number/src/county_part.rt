@@ -3,8 +3,10 @@
 ghost use Rattle.std.specs.Prelude.{cond, get_or, length, slice_get, ◌<◌, ◌≡◌};
 ghost use Rattle.county_chart.specs.ChartWords.{bodies_at, chain_at, links_at, name_at, polygon_at};
 ghost use Rattle.county_chart.specs.CountyRules.{IsCounty, feats, lands, nodes, polygon_keys, tlids};
-ghost use Rattle.county_chart.specs.Limits.{IsWithinLimits, most_records};
-ghost use Rattle.county_chart.specs.{CountyProps.IsCounty-prop, LimitsProps.IsWithinLimits-prop};
+ghost use Rattle.county_chart.specs.Limits.{IsWithinLimits};
+ghost use Rattle.tl_layout.specs.Limits.{most_records};
+ghost use Rattle.county_chart.specs.CountyProps.{IsCounty-prop};
+ghost use Rattle.county_chart.specs.LimitsProps.{IsWithinLimits-prop};
 ghost use Rattle.canonical_form.specs.WholeArrangements.{AreReadAt};
 ghost use Rattle.tl_number.specs.CountyParts.{HoldsPart, part_with};
 

@@ -6,12 +6,17 @@
 
 ghost use Rattle.std.specs.List.{list_any};
 ghost use Rattle.std.specs.Prelude.{IfOk, OnOk, [], cond, length, ◌++◌, ◌+◌, ◌<◌, ◌||◌, ◌≡◌};
-ghost use Rattle.canonical_form.specs.{DirectedChains.HasChainsOf, Growth.first_seen, Growth.first_seen_after};
-ghost use Rattle.county_chart.specs.{CountyRules.chain_polygons, PolygonKeys.key_cmp};
-ghost use Rattle.ordered_lists.specs.{Orders.contains, Places.at_places};
+ghost use Rattle.canonical_form.specs.DirectedChains.{HasChainsOf};
+ghost use Rattle.canonical_form.specs.Growth.{first_seen, first_seen_after};
+ghost use Rattle.county_chart.specs.CountyRules.{chain_polygons};
+ghost use Rattle.county_chart.specs.PolygonKeys.{key_cmp};
+ghost use Rattle.ordered_lists.specs.Orders.{contains};
+ghost use Rattle.ordered_lists.specs.Places.{at_places};
 ghost use Rattle.record_groups.specs.Groups.{grouped};
-ghost use Rattle.tl_number.specs.{ChoiceSearch.LeavesChoices, KeptPlaces.AreSearched, KeptPlaces.link_keys, KeysAlong.keys_along};
-ghost use Rattle.tl_number.specs.{KeysAlong.open_among, SmallCounty.is_kept, SmallCounty.is_linked, SmallCounty.kept_tlids};
+ghost use Rattle.tl_number.specs.ChoiceSearch.{LeavesChoices};
+ghost use Rattle.tl_number.specs.KeptPlaces.{AreSearched, link_keys};
+ghost use Rattle.tl_number.specs.KeysAlong.{keys_along, open_among};
+ghost use Rattle.tl_number.specs.SmallCounty.{is_kept, is_linked, kept_tlids};
 
 use crate::key_groups::{FeatKeys, NodeKeys, PolygonKeys};
 use crate::key_search::{KeySearch, search_place};

@@ -1,7 +1,7 @@
 //! Keys of chains, chain by chain: nodes, polygons or further names.
 
 ghost use Rattle.county_chart.specs.PolygonKeys.{key_on};
-ghost use Rattle.std.specs.Prelude.{◌≡◌, ◌++◌, OnOk, flat_map, option_to_list};
+ghost use Rattle.std.specs.Prelude.{OnOk, flat_map, option_to_list, ◌++◌, ◌≡◌};
 
 use arranged_county::{Half, NumericKey};
 use county_chart::{Chart, DirectedChain, PolygonKey, push_all};
@@ -12,7 +12,7 @@ use tl_layout::Side;
 
 /// Keys of chains, chain by chain.
 pub(crate) trait KeyGroups {
-    ghost use Rattle.std.specs.Prelude.{◌≡◌, ◌<◌, List, OnOk, length};
+    ghost use Rattle.std.specs.Prelude.{List, OnOk, length, ◌<◌, ◌≡◌};
     ghost use Rattle.record_groups.specs.Groups.{group_at};
 
     /// A key.
@@ -104,7 +104,8 @@ impl<C: Chart> KeyGroups for PolygonKeys<'_, C> {
 pub(crate) struct FeatKeys<'a, C: Chart>(pub(crate) &'a C, pub(crate) &'a [DirectedChain]);
 
 impl<C: Chart> KeyGroups for FeatKeys<'_, C> {
-    ghost use Rattle.tl_number.specs.{KeysAlong.keys_along, NamesAlong.chain_feats};
+    ghost use Rattle.tl_number.specs.KeysAlong.{keys_along};
+    ghost use Rattle.tl_number.specs.NamesAlong.{chain_feats};
 
     type Item = u32;
 

@@ -3,7 +3,8 @@
 ghost use Rattle.std.specs.Prelude.{IfOk, OnOk, [], cond, filter, length, not, ◌&&◌, ◌+◌, ◌<◌, ◌∷◌, ◌≡◌};
 ghost use Rattle.ordered_lists.specs.Orders.{contains};
 ghost use Rattle.canonical_form.specs.Growth.{first_seen_after};
-ghost use Rattle.tl_number.specs.{BroughtKeys.brings, BroughtKeys.has_new, BroughtKeys.met_before, KeysAlong.is_open};
+ghost use Rattle.tl_number.specs.BroughtKeys.{brings, has_new, met_before};
+ghost use Rattle.tl_number.specs.KeysAlong.{is_open};
 
 use crate::key_groups::KeyGroups;
 use crate::open_keys::{has_key, is_open_at};

@@ -5,10 +5,14 @@
 
 ghost use Rattle.std.specs.Prelude.{IfOk, length, ◌<◌, ◌≤◌};
 ghost use Rattle.county_chart.specs.CountyRules.{AllKeysContained, polygon_keys, polygons_along};
-ghost use Rattle.county_chart.specs.{Choices.choices, Choices.most_choices, ShapeOrder.IsShapeOrder};
-ghost use Rattle.tl_number.specs.{ChoiceSearch.LeavesChoices, LeastOnes.HaveLeast, LeastOnes.HaveSameOnes};
+ghost use Rattle.county_chart.specs.Choices.{choices, most_choices};
+ghost use Rattle.county_chart.specs.ShapeOrder.{IsShapeOrder};
+ghost use Rattle.tl_number.specs.ChoiceSearch.{LeavesChoices};
+ghost use Rattle.tl_number.specs.LeastOnes.{HaveLeast, HaveSameOnes};
 ghost use Rattle.canonical_form.specs.DirectedChains.{HasChainsOf, arrangement_of};
-ghost use Rattle.canonical_form.specs.{LeastNumber.IsLeastBelow, Tidy.IsLeastChoice, WholeArrangements.NamesEachOnce};
+ghost use Rattle.canonical_form.specs.LeastNumber.{IsLeastBelow};
+ghost use Rattle.canonical_form.specs.Tidy.{IsLeastChoice};
+ghost use Rattle.canonical_form.specs.WholeArrangements.{NamesEachOnce};
 
 use crate::choice_search::least_among_choices;
 use crate::county_part::{CountyPart, Shared};

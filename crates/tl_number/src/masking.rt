@@ -1,8 +1,11 @@
 //! Admitted counties under a mask, and their canonical counties.
 
 ghost use Rattle.std.specs.Prelude.{IfErr, IfOk, true, ◌≡◌};
-ghost use Rattle.county_chart.specs.{MaskedCounty.masked, Renumbering.Carries};
-ghost use Rattle.canonical_form.specs.{Arrangement.arranged, Arrangement.renaming_of, CanonCounties.IsCanonCounty, Tidy.IsLeastChoice};
+ghost use Rattle.county_chart.specs.MaskedCounty.{masked};
+ghost use Rattle.county_chart.specs.Renumbering.{Carries};
+ghost use Rattle.canonical_form.specs.Arrangement.{arranged, renaming_of};
+ghost use Rattle.canonical_form.specs.CanonCounties.{IsCanonCounty};
+ghost use Rattle.canonical_form.specs.Tidy.{IsLeastChoice};
 ghost use Rattle.arranged_county.specs.Views.{arranged_county, arrangement_in, source_of};
 
 use crate::canonising::canonise;

@@ -2,7 +2,7 @@
 //! come before the chain there, and whether it is turned. Chains at fixed places stay. From one number to the next, only the few chains
 //! at open places are put back and moved.
 
-ghost use Rattle.std.specs.Prelude.{◌≡◌, ◌++◌, drop, length, take, IfOk};
+ghost use Rattle.std.specs.Prelude.{IfOk, drop, length, take, ◌++◌, ◌≡◌};
 ghost use Rattle.tl_number.specs.ChoiceSearch.{IsChosen};
 ghost use Rattle.canonical_form.specs.MovedChains.{AgreeApart, AreWithin, IsWithin, other_way};
 ghost use Rattle.canonical_form.specs.NumberedChoices.{moved, moved_at};

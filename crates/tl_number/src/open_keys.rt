@@ -1,6 +1,6 @@
 //! Keys of chains in the order of their first appearance, and the open ones, which first appear at an open place.
 
-ghost use Rattle.std.specs.Prelude.{◌≡◌, ◌++◌, ◌∷◌, [], IfOk, OnOk, cond};
+ghost use Rattle.std.specs.Prelude.{IfOk, OnOk, [], cond, ◌++◌, ◌∷◌, ◌≡◌};
 ghost use Rattle.ordered_lists.specs.Orders.{contains};
 ghost use Rattle.record_groups.specs.Groups.{grouped};
 ghost use Rattle.canonical_form.specs.Growth.{first_seen, first_seen_after};

@@ -1,15 +1,17 @@
 //! Tables that describe a part of a county: some of its chains, with their names and polygons, and all of its landmarks or none.
 
 ghost use Rattle.std.specs.Prelude.{IfOk, false, length, map, option_to_list, ◌<◌, ◌^◌, ◌≡◌};
-ghost use Rattle.std.specs.{List.list_any, Ordering.nat_cmp};
+ghost use Rattle.std.specs.List.{list_any};
+ghost use Rattle.std.specs.Ordering.{nat_cmp};
 ghost use Rattle.canonical_form.specs.Growth.{first_seen};
-ghost use Rattle.county_chart.specs.CountyRules.{AllKeysContained, chain_nodes, chain_polygons, feats, polygon_keys, polygons_along};
-ghost use Rattle.county_chart.specs.CountyRules.{tlids as all_tlids};
+ghost use Rattle.county_chart.specs.CountyRules.{AllKeysContained, chain_nodes, chain_polygons, feats, polygon_keys, polygons_along, tlids as all_tlids};
 ghost use Rattle.county_chart.specs.PolygonKeys.{key_cmp};
-ghost use Rattle.ordered_lists.specs.{Orders.distinct, Orders.contains, Places.at_places};
+ghost use Rattle.ordered_lists.specs.Orders.{contains, distinct};
+ghost use Rattle.ordered_lists.specs.Places.{at_places};
 ghost use Rattle.record_groups.specs.Groups.{grouped};
 ghost use Rattle.tl_number.specs.CountyParts.{HoldsPart, IsPicked, places_among};
-ghost use Rattle.tl_number.specs.{KeysAlong.keys_along, NamesAlong.chain_feats};
+ghost use Rattle.tl_number.specs.KeysAlong.{keys_along};
+ghost use Rattle.tl_number.specs.NamesAlong.{chain_feats};
 
 use crate::kept_places::KeptChains;
 use crate::key_groups::{FeatKeys, KeyGroups, NodeKeys, PolygonKeys};

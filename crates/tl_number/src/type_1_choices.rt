@@ -6,7 +6,7 @@
 
 ghost use Rattle.std.specs.List.{AllByRecursion, list_any};
 ghost use Rattle.std.specs.Ordering.{is_eq, is_gt};
-ghost use Rattle.std.specs.Prelude.{IfOk, OnOk, [], cond, drop, length, map, nat_lt, take, ◌++◌, ◌+◌, ◌*◌, ◌∷◌, ◌<◌, ◌≡◌, ◌≤◌};
+ghost use Rattle.std.specs.Prelude.{IfOk, OnOk, [], cond, drop, length, map, nat_lt, take, ◌*◌, ◌++◌, ◌+◌, ◌<◌, ◌∷◌, ◌≡◌, ◌≤◌};
 ghost use Rattle.canonical_form.specs.MovedChains.{ArePlacesInOrder, AreWithin};
 ghost use Rattle.county_chart.specs.Choices.{choices, most_choices};
 ghost use Rattle.record_groups.specs.TypeOneOrder.{ones_cmp};

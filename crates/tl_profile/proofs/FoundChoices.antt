@@ -1,12 +1,10 @@
 -- The shapes of a county in order, and a pass over them from the last to the first.
-use Rattle.tl_profile.proofs.Common.{AllByRecursion, Ordering, choices_stated, is_either_way, length-append, ordering_then, placed_directed}
-use Rattle.tl_profile.proofs.Common.{AreInShapeOrder, counted_choices, length-map-range_with_len, length_permutation, more_choices-append}
-use Rattle.tl_profile.proofs.Common.{County, Greater, IsInOrder, List, [], arith, cond, false, is_gt, length, map-map, nat_cmp, refl, subst}
-use Rattle.tl_profile.proofs.Common.{Equal, PlacedShape, along_shapes, append_assoc, counted_next, directed_cmp, most_choices, points_along}
-use Rattle.tl_profile.proofs.Common.{IsCounted, Less, along_shape, few_chains, length-map, map-append, open_places, points_cmp, whole_shape}
-use Rattle.tl_profile.proofs.Common.{ap, map, min, suc, sym, take, ℕ, ◌++◌, ◌+◌, ◌<◌, ◌∙◌, ◌∷◌, ◌≡◌, ◌≤◌}
-use Rattle.county_chart.proofs.Common.{IsWithinLimits, choices, drop, is_settled, most_records, open_place_at}
-use Rattle.county_chart.proofs.Common.{reverse, running, take_all, ways_at, ◌*◌, ◌-◌, ◌^◌}
+use Rattle.tl_profile.proofs.Common.{AllByRecursion, AreInShapeOrder, County, Equal, Greater, IsCounted, IsInOrder, Less, List, Ordering, PlacedShape, [], along_shape, along_shapes, ap, append_assoc, arith, choices_stated, cond, counted_choices, counted_next, directed_cmp, false, few_chains, is_either_way, is_gt, length, length-append, length-map, length-map-range_with_len, length_permutation, map, map-append, map-map, min, more_choices-append, most_choices, nat_cmp, open_places, ordering_then, placed_directed, points_along, points_cmp, refl, subst, suc, sym, take, whole_shape, ℕ, ◌++◌, ◌+◌, ◌<◌, ◌∙◌, ◌∷◌, ◌≡◌, ◌≤◌}
+use Rattle.county_chart.specs.Limits.{IsWithinLimits}
+use Rattle.county_chart.specs.Choices.{choices, is_settled, open_place_at, running, ways_at}
+use Rattle.std.proofs.Common.{drop, reverse, ◌*◌, ◌-◌, ◌^◌}
+use Rattle.tl_layout.specs.Limits.{most_records}
+use Rattle.std.proofs.lemmas.List.{take_all}
 use Rattle.county_chart.specs.declared.directed_chain.DirectedChain.{DirectedChain}
 use Rattle.county_chart.specs.declared.open_place.OpenPlace.{OpenPlace}
 

@@ -1,10 +1,9 @@
 -- The order of placed shapes is the order of their chains.
-use Rattle.tl_profile.proofs.Common.{AllByRecursion, AreInShapeOrder, County, Equal, Greater, HasFirstPoints, IsInOrder, IsTotalOrder, Less, List}
-use Rattle.tl_profile.proofs.Common.{Ordering, PlacedShape, [], along_shapes, ap, ap₂, directed_cmp, false, int_cmp_total, is_gt, map}
-use Rattle.tl_profile.proofs.Common.{ordering_then, placed_cmp, placed_directed, placed_key_cmp, point_cmp, points_cmp, points_keys, refl}
-use Rattle.tl_profile.proofs.Common.{subst, sym, then_total, whole_shape, ◌∙◌, ◌∷◌, ◌≡◌}
+use Rattle.tl_profile.proofs.Common.{AllByRecursion, AreInShapeOrder, County, Equal, Greater, HasFirstPoints, IsInOrder, IsTotalOrder, Less, List, Ordering, PlacedShape, [], along_shapes, ap, ap₂, directed_cmp, false, int_cmp_total, is_gt, map, ordering_then, placed_cmp, placed_directed, placed_key_cmp, point_cmp, points_cmp, points_keys, refl, subst, sym, then_total, whole_shape, ◌∙◌, ◌∷◌, ◌≡◌}
 use Rattle.tl_profile.proofs.PointRanks.{as_points}
-use Rattle.county_chart.proofs.Common.{IsPermutation, IsPermutation-map, nat_cmp, nat_cmp_total, on_total}
+use Rattle.std.proofs.Common.{IsPermutation, nat_cmp}
+use Rattle.std.proofs.lemmas.List.Sorted.{IsPermutation-map}
+use Rattle.std.proofs.lemmas.Cmp.{nat_cmp_total, on_total}
 
 pub placed_key_total : (county : County) → IsTotalOrder (placed_key_cmp county)
 placed_key_total county =

@@ -1,7 +1,8 @@
 -- Ranks compare as the points of the map do.
-use Rattle.tl_profile.proofs.Common.{Equal, Greater, IsRankOf, Less, Ordering, ap₂, arith, int_cmp, int_cmp_is, int_ranks, ints, neg_ℤ}
-use Rattle.tl_profile.proofs.Common.{ordering_then, point_cmp, point_rank, sym, unsigned_abs, ℤ, ◌<ℤ◌, ◌∙◌, ◌≡◌, ◌≤ℤ◌, ◌≤◌}
-use Rattle.county_chart.proofs.Common.{Coordinates, IsOnMap, MatchOrdering, pos}
+use Rattle.tl_profile.proofs.Common.{Equal, Greater, IsRankOf, Less, Ordering, ap₂, arith, int_cmp, int_cmp_is, int_ranks, ints, neg_ℤ, ordering_then, point_cmp, point_rank, sym, unsigned_abs, ℤ, ◌<ℤ◌, ◌∙◌, ◌≡◌, ◌≤ℤ◌, ◌≤◌}
+use Rattle.tl_layout.specs.Coordinates.{Coordinates, IsOnMap}
+use Rattle.std.specs.Ordering.{MatchOrdering}
+use Rattle.std.proofs.Common.{pos}
 
 -- a latitude's magnitude bounds it on both sides
 between : (z : ℤ) → unsigned_abs z ≤ 99999999 → (neg_ℤ (pos 99999999) ≤ℤ z) × (z ≤ℤ pos 99999999)

@@ -1,11 +1,17 @@
 -- The keys on sides and those with a type P record, gathered place by place, and how the profile judges them.
-use Rattle.tl_profile.proofs.Common.{ChainIsAt, IsInOrder, append_assoc, chain_is_at, filter_map, is_unknown, key_if_bodied, strict-map}
-use Rattle.tl_profile.proofs.Common.{County, [], arith, distinct, false, has_body, key_cmp, key_keys, keys_on, length, slice_get, contains}
-use Rattle.tl_profile.proofs.Common.{List, Some, ap, cond, is_eq, map, not, refl, suc, sym, take, ℕ, ◌&&◌, ◌++◌, ◌+◌, ◌<◌, ◌∙◌, ◌∷◌, ◌≡◌}
-use Rattle.tl_profile.proofs.Common.{flat_map-append, in_order-filter, keys_with_body, polygons_along, range_with_len, contains-distinct}
-use Rattle.county_chart.proofs.Common.{BodyP, Bool, Chain, IsCounty, None, Option, PolygonKey, PolygonSide, append-nil, chain_at}
-use Rattle.county_chart.proofs.Common.{chain_polygons, cons_option, filter, in_order-map, in_order-strict, is_some, key_on, list_any}
-use Rattle.county_chart.proofs.Common.{lt-ltb, map-id, nat_lt, on, option_map, true, ◌||◌}
+use Rattle.tl_profile.proofs.Common.{ChainIsAt, County, IsInOrder, List, Some, [], ap, append_assoc, arith, chain_is_at, cond, contains, contains-distinct, distinct, false, filter_map, flat_map-append, has_body, in_order-filter, is_eq, is_unknown, key_cmp, key_if_bodied, key_keys, keys_on, keys_with_body, length, map, not, polygons_along, range_with_len, refl, slice_get, strict-map, suc, sym, take, ℕ, ◌&&◌, ◌++◌, ◌+◌, ◌<◌, ◌∙◌, ◌∷◌, ◌≡◌}
+use Rattle.tl_layout.specs.declared.type_p.BodyP.{BodyP}
+use Rattle.std.proofs.Common.{Bool, None, Option, append-nil, filter, is_some, map-id, nat_lt, option_map, true, ◌||◌}
+use Rattle.tl_shape.specs.Chain.{Chain}
+use Rattle.county_chart.specs.CountyRules.{IsCounty, chain_polygons}
+use Rattle.county_chart.specs.PolygonKeys.{PolygonKey, key_on}
+use Rattle.tl_layout.specs.PolygonSide.{PolygonSide}
+use Rattle.county_chart.specs.ChartWords.{chain_at}
+use Rattle.std.specs.List.{cons_option, list_any}
+use Rattle.ordered_lists.proofs.Lists.InOrder.{in_order-map}
+use Rattle.ordered_lists.proofs.Lists.EntryLists.{in_order-strict}
+use Rattle.std.proofs.lemmas.Bool.{lt-ltb}
+use Rattle.std.specs.Ordering.{on}
 
 -- the sides of one more chain
 pub sides_next : (county : County) (place : ℕ) → place < length county.chains → (before left_too both : List PolygonKey)

@@ -1,11 +1,15 @@
 -- The values that represent chains while shapes are sorted.
 use Rattle.std.specs.Prelude.{List, ◌∷◌, ◌≡◌}
-use Rattle.std.specs.{Ordering.int_cmp, Ordering.nat_cmp, Ordering.ordering_then, declared.cmp.Ordering.Ordering}
+use Rattle.std.specs.Ordering.{int_cmp, nat_cmp, ordering_then}
+use Rattle.std.specs.declared.cmp.Ordering.{Ordering}
 use Rattle.tl_layout.specs.Coordinates.{Coordinates}
 use Rattle.tl_shape.specs.PointOrder.{points_cmp}
-use Rattle.county_chart.specs.{Choices.is_either_way, County.County, ShapeOrder.points_along}
-use Rattle.county_chart.specs.{declared.directed_chain.DirectedChain.DirectedChain}
-use Rattle.tl_profile.specs.{PointRanks.IsRankOf, declared.shapes.PlacedShape.PlacedShape}
+use Rattle.county_chart.specs.Choices.{is_either_way}
+use Rattle.county_chart.specs.County.{County}
+use Rattle.county_chart.specs.ShapeOrder.{points_along}
+use Rattle.county_chart.specs.declared.directed_chain.DirectedChain.{DirectedChain}
+use Rattle.tl_profile.specs.PointRanks.{IsRankOf}
+use Rattle.tl_profile.specs.declared.shapes.PlacedShape.{PlacedShape}
 
 -- the chain in this direction
 abbrev pub placed_directed : PlacedShape → DirectedChain

@@ -1,6 +1,7 @@
 -- The polygons on the sides of chains, and those with a type P record.
 use Rattle.std.specs.Prelude.{List, None, Option, Some, [], cond, filter, is_some, map}
-use Rattle.tl_layout.specs.{PolygonSide.PolygonSide, declared.type_p.BodyP.BodyP}
+use Rattle.tl_layout.specs.PolygonSide.{PolygonSide}
+use Rattle.tl_layout.specs.declared.type_p.BodyP.{BodyP}
 use Rattle.county_chart.specs.PolygonKeys.{PolygonKey, key_on}
 
 -- the polygon on a side, if there is a side

@@ -1,8 +1,11 @@
 //! Admission: a county in the profile is kept as such. For any other county, the first clause that it breaks is reported.
 
 ghost use Rattle.std.specs.Prelude.{IfErr, IfOk, ◌≡◌, ◌≢◌};
-ghost use Rattle.county_chart.specs.{CountyRules.is_without_chain, PolygonKeys.key_cmp, Profile.AreAllOnSides, Profile.IsFirstBrokenClause};
-ghost use Rattle.county_chart.specs.{Profile.IsInProfile, ShapeOrder.IsShapeOrder, declared.profile_fault.ProfileFault.TheVariants.Memory};
+ghost use Rattle.county_chart.specs.CountyRules.{is_without_chain};
+ghost use Rattle.county_chart.specs.PolygonKeys.{key_cmp};
+ghost use Rattle.county_chart.specs.Profile.{AreAllOnSides, IsFirstBrokenClause, IsInProfile};
+ghost use Rattle.county_chart.specs.ShapeOrder.{IsShapeOrder};
+ghost use Rattle.county_chart.specs.declared.profile_fault.ProfileFault.TheVariants.{Memory};
 ghost use Rattle.ordered_lists.specs.Keyed.{IsLeastPassing};
 
 use crate::open_places::MOST_CHOICES;
@@ -22,7 +25,8 @@ pub struct Admitted<C: Chart = County> {
 }
 
 impl<C: Chart> Model for Admitted<C> {
-    ghost use Rattle.county_chart.specs.{Profile.IsInProfile, ShapeOrder.IsShapeOrder};
+    ghost use Rattle.county_chart.specs.Profile.{IsInProfile};
+    ghost use Rattle.county_chart.specs.ShapeOrder.{IsShapeOrder};
 
     ghost Value = { C };
 

@@ -1,8 +1,12 @@
 //! Laws of the definitions in `specs/`. The functions do nothing; their contracts are the laws.
 
 ghost use Rattle.std.specs.Prelude.{◌≡◌, ◌⊎◌};
-ghost use Rattle.county_chart.specs.{Choices.choices, County.County, CountyRules.IsCounty, Profile.IsFirstBrokenClause};
-ghost use Rattle.county_chart.specs.{Profile.IsInProfile, Renumbering.AreSame, declared.profile_fault.ProfileFault.ProfileFault};
+ghost use Rattle.county_chart.specs.Choices.{choices};
+ghost use Rattle.county_chart.specs.County.{County};
+ghost use Rattle.county_chart.specs.CountyRules.{IsCounty};
+ghost use Rattle.county_chart.specs.Profile.{IsFirstBrokenClause, IsInProfile};
+ghost use Rattle.county_chart.specs.Renumbering.{AreSame};
+ghost use Rattle.county_chart.specs.declared.profile_fault.ProfileFault.{ProfileFault};
 
 /// A county is in the profile, or exactly one clause is the first that it breaks, never both.
 #[tactic(auto, using(county_chart::proofs::Profile::ProfileFaults::profile_has_none, county_chart::proofs::Profile::ProfileFaults::one_first_clause))]

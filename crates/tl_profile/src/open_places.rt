@@ -4,9 +4,9 @@
 //! next one, therefore knows how many of the same shape are still to come.
 
 ghost use Rattle.std.specs.List.{AllByRecursion};
-ghost use Rattle.std.specs.Prelude.{◌≡◌, ◌<◌, ◌≤◌, ◌+◌, ◌*◌, ◌^◌, [], ◌∷◌, ◌++◌, cond, length, map, min, reverse, suc, IfOk, OnOk};
+ghost use Rattle.std.specs.Prelude.{IfOk, OnOk, [], cond, length, map, min, reverse, suc, ◌*◌, ◌++◌, ◌+◌, ◌<◌, ◌^◌, ◌∷◌, ◌≡◌, ◌≤◌};
 ghost use Rattle.ordered_lists.specs.Orders.{IsInOrder};
-ghost use Rattle.county_chart.specs.Choices.{alike_first, choices, counted_choices, is_either_way, is_first, is_settled, most_choices, open_places, open_place_at, ways_at};
+ghost use Rattle.county_chart.specs.Choices.{alike_first, choices, counted_choices, is_either_way, is_first, is_settled, most_choices, open_place_at, open_places, ways_at};
 ghost use Rattle.tl_profile.specs.PlacedShapes.{HasFirstPoints, placed_directed, whole_shape};
 ghost use Rattle.county_chart.specs.ShapeOrder.{AreInShapeOrder};
 ghost use Rattle.tl_shape.specs.PointOrder.{points_cmp};

@@ -1,7 +1,7 @@
 //! The order of a county's chains by their shapes.
 
 ghost use Rattle.std.specs.List.{AllByRecursion};
-ghost use Rattle.std.specs.Prelude.{◌≡◌, map, IfOk};
+ghost use Rattle.std.specs.Prelude.{IfOk, map, ◌≡◌};
 ghost use Rattle.tl_profile.specs.PlacedShapes.{HasFirstPoints, placed_directed};
 ghost use Rattle.county_chart.specs.ShapeOrder.{AreInShapeOrder, IsShapeOrder};
 

@@ -4,9 +4,9 @@
 //! while chains are sorted, and the county is read only if both are equal. Afterwards chains of the same shape are neighbours.
 
 ghost use Rattle.std.specs.List.{AllByRecursion};
-ghost use Rattle.std.specs.Prelude.{◌≡◌, ◌<◌, length, map, reverse, IfOk, IsPermutation};
+ghost use Rattle.std.specs.Prelude.{IfOk, IsPermutation, length, map, reverse, ◌<◌, ◌≡◌};
 ghost use Rattle.ordered_lists.specs.Orders.{IsInOrder};
-ghost use Rattle.tl_profile.specs.PlacedShapes.{HasFirstPoints, beyond_first_cmp, placed_cmp, placed_key_cmp, placed_directed};
+ghost use Rattle.tl_profile.specs.PlacedShapes.{HasFirstPoints, beyond_first_cmp, placed_cmp, placed_directed, placed_key_cmp};
 ghost use Rattle.county_chart.specs.ShapeOrder.{AreInShapeOrder, along_shape, along_shapes, points_along};
 ghost use Rattle.county_chart.specs.Shapes.{points_at};
 ghost use Rattle.tl_shape.specs.PointOrder.{points_cmp};

@@ -1,9 +1,12 @@
 //! Polygons with a record of type P that are on no side of a chain.
 
 ghost use Rattle.std.specs.Prelude.{IfErr, IfOk, OnOk, slice_get, ◌++◌, ◌≡◌};
-ghost use Rattle.county_chart.specs.{County.County, CountyRules.is_without_chain, CountyRules.polygons_along, PolygonKeys.key_cmp};
-ghost use Rattle.county_chart.specs.{Profile.AreAllOnSides, Profile.IsFirstBrokenClause};
-ghost use Rattle.ordered_lists.specs.{Keyed.IsLeastPassing, Orders.distinct};
+ghost use Rattle.county_chart.specs.County.{County};
+ghost use Rattle.county_chart.specs.CountyRules.{is_without_chain, polygons_along};
+ghost use Rattle.county_chart.specs.PolygonKeys.{key_cmp};
+ghost use Rattle.county_chart.specs.Profile.{AreAllOnSides, IsFirstBrokenClause};
+ghost use Rattle.ordered_lists.specs.Keyed.{IsLeastPassing};
+ghost use Rattle.ordered_lists.specs.Orders.{distinct};
 ghost use Rattle.tl_profile.specs.Sides.{key_if_bodied, keys_on, keys_with_body};
 
 use county_chart::{Chart, KeySet, PolygonKey, ProfileFault, least_unknown};

@@ -1,6 +1,6 @@
 -- Mapping a list in place, item by item.
-use Rattle.tl_layout.proofs.Common.{List, [], add-one, ap, append-nil, arith, drop, drop_all, get_or, length, map, refl, slice_set, suc}
-use Rattle.tl_layout.proofs.Common.{take, take_all, zero, ℕ, ◌++◌, ◌+◌, ◌<◌, ◌∙◌, ◌∷◌, ◌≡◌, ◌≤◌}
+use Rattle.std.proofs.Common.{List, [], add-one, ap, arith, drop, get_or, length, map, refl, slice_set, suc, take, zero, ℕ, ◌++◌, ◌+◌, ◌<◌, ◌∙◌, ◌∷◌, ◌≡◌, ◌≤◌}
+use Rattle.std.proofs.lemmas.List.{append-nil, drop_all, take_all}
 
 -- the item at the position that is mapped next is still unmapped
 at_place : {X : Type 0} (f : X → X) (xs : List X) (i : ℕ) (d : X) → get_or (map f (take i xs) ++ drop i xs) i d ≡ get_or xs i d

@@ -1,8 +1,11 @@
 -- The orders of points and of point lists are total, and items that compare as equal are equal.
-use Rattle.tl_layout.proofs.Common.{List, [], ap, refl, sym, true, ◌∙◌, ◌∷◌, ◌≡◌}
-use Rattle.std.specs.{Cmp.IsTotalOrder, Ordering.int_cmp, Ordering.is_eq, Ordering.ordering_then, declared.cmp.Ordering.TheVariants.Less}
-use Rattle.std.specs.{declared.cmp.Ordering.Ordering, declared.cmp.Ordering.TheVariants.Equal, declared.cmp.Ordering.TheVariants.Greater}
-use Rattle.std.proofs.lemmas.{Cmp.int_cmp_total, Cmp.lists_total, Cmp.on_total, Cmp.then_total, Cmp.tied_itself, Map.Lookups.exact_signed}
+use Rattle.std.proofs.Common.{List, [], ap, refl, sym, true, ◌∙◌, ◌∷◌, ◌≡◌}
+use Rattle.std.specs.Cmp.{IsTotalOrder}
+use Rattle.std.specs.Ordering.{int_cmp, is_eq, ordering_then}
+use Rattle.std.specs.declared.cmp.Ordering.TheVariants.{Equal, Greater, Less}
+use Rattle.std.specs.declared.cmp.Ordering.{Ordering}
+use Rattle.std.proofs.lemmas.Cmp.{int_cmp_total, lists_total, on_total, then_total, tied_itself}
+use Rattle.std.proofs.lemmas.Map.Lookups.{exact_signed}
 use Rattle.tl_layout.specs.Coordinates.{Coordinates}
 use Rattle.tl_shape.specs.PointOrder.{point_cmp, points_cmp}
 

@@ -1,8 +1,10 @@
 -- Comparing a list with its reverse, item by item.
-use Rattle.tl_layout.proofs.Common.{List, ap, arith, drop, drop_more, get_or, length, refl, sym, ℕ, ◌+◌, ◌-◌, ◌<◌, ◌∙◌, ◌≡◌}
-use Rattle.std.proofs.{Common.reverse, lemmas.List.get_or-reverse, lemmas.List.get_or_read, lemmas.List.length-reverse}
+use Rattle.std.proofs.Common.{List, ap, arith, drop, get_or, length, refl, reverse, sym, ℕ, ◌+◌, ◌-◌, ◌<◌, ◌∙◌, ◌≡◌}
+use Rattle.std.proofs.lemmas.List.{drop_more, get_or-reverse, get_or_read, length-reverse}
 use Rattle.std.specs.declared.cmp.Ordering.TheVariants.{Equal, Greater, Less}
-use Rattle.std.specs.{Cmp.Lexicographic.slice_cmp, Ordering.ordering_then, declared.cmp.Ordering.Ordering}
+use Rattle.std.specs.Cmp.Lexicographic.{slice_cmp}
+use Rattle.std.specs.Ordering.{ordering_then}
+use Rattle.std.specs.declared.cmp.Ordering.{Ordering}
 
 -- from an item on, that item's pair decides, and then the pairs after it
 pub from_item : {X : Type 0} (cmp : X → X → Ordering) (xs : List X) (i : ℕ) (d : X) → i < length xs

@@ -1,7 +1,10 @@
 -- A chain: what all records with one TLID describe.
 use Rattle.std.specs.Prelude.{List, Option, ℕ}
-use Rattle.tl_layout.specs.{Coordinates.Coordinates, PolygonSide.PolygonSide, declared.ranges.Ranges.Ranges}
-use Rattle.tl_layout.specs.{declared.type1.fields.Body1Fields.Body1Fields, declared.type_i.BodyI.BodyI}
+use Rattle.tl_layout.specs.Coordinates.{Coordinates}
+use Rattle.tl_layout.specs.PolygonSide.{PolygonSide}
+use Rattle.tl_layout.specs.declared.ranges.Ranges.{Ranges}
+use Rattle.tl_layout.specs.declared.type1.fields.Body1Fields.{Body1Fields}
+use Rattle.tl_layout.specs.declared.type_i.BodyI.{BodyI}
 
 -- a chain without its TLID
 pub record Chain : Type 0 where

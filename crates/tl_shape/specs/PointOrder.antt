@@ -1,7 +1,9 @@
 -- The order of points and of point lists.
 use Rattle.std.specs.Prelude.{List, reverse, ◌≡◌}
 use Rattle.std.specs.Ordering.{int_cmp, ordering_then}
-use Rattle.std.specs.{Cmp.Lexicographic.slice_cmp, declared.cmp.Ordering.Ordering, declared.cmp.Ordering.TheVariants.Less}
+use Rattle.std.specs.Cmp.Lexicographic.{slice_cmp}
+use Rattle.std.specs.declared.cmp.Ordering.{Ordering}
+use Rattle.std.specs.declared.cmp.Ordering.TheVariants.{Less}
 use Rattle.tl_layout.specs.Coordinates.{Coordinates}
 
 -- points in the order of longitude, then of latitude, as numbers

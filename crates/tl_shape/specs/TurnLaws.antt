@@ -1,8 +1,10 @@
 -- Turning a chain twice restores it, and each chain has exactly one turned chain.
 use Rattle.std.proofs.Common.{List, [], ap, map, refl, ◌∷◌, ◌≡◌}
 use Rattle.std.proofs.lemmas.List.{reverse-reverse}
-use Rattle.tl_layout.specs.{Turned.turned_ranges, declared.ranges.Ranges.Ranges}
-use Rattle.tl_shape.specs.{Chain.Chain, Turned.IsTurned, Turned.turned}
+use Rattle.tl_layout.specs.Turned.{turned_ranges}
+use Rattle.tl_layout.specs.declared.ranges.Ranges.{Ranges}
+use Rattle.tl_shape.specs.Chain.{Chain}
+use Rattle.tl_shape.specs.Turned.{IsTurned, turned}
 
 pub all_turned-turned : (ranges : List Ranges) → map turned_ranges (map turned_ranges ranges) ≡ ranges
 all_turned-turned [] = refl

@@ -1,6 +1,6 @@
 -- A chain seen from its other end.
-use Rattle.std.specs.Prelude.{◌≡◌, map, reverse, Bool, cond}
-use Rattle.tl_layout.specs.Turned.{turned_ranges, turned_body}
+use Rattle.std.specs.Prelude.{Bool, cond, map, reverse, ◌≡◌}
+use Rattle.tl_layout.specs.Turned.{turned_body, turned_ranges}
 use Rattle.tl_shape.specs.Chain.{Chain}
 
 -- d is c turned: its points are reversed, its nodes and its sides are exchanged, and its content and each of its

@@ -2,7 +2,8 @@
 
 ghost use Rattle.std.specs.List.{AllByRecursion};
 ghost use Rattle.std.specs.Prelude.{map, ◌≡◌};
-ghost use Rattle.tl_layout.specs.{Numbers.IsNumber, Numbers.IsNumberOrNone, Turned.turned_ranges};
+ghost use Rattle.tl_layout.specs.Numbers.{IsNumber, IsNumberOrNone};
+ghost use Rattle.tl_layout.specs.Turned.{turned_ranges};
 ghost use Rattle.tl_shape.specs.Turned.{IsTurned};
 
 use crate::shape::Shape;
@@ -170,7 +171,8 @@ fn turn_all(ranges: &mut [Ranges])
 /// Reverses the points, exchanges the nodes and the sides, and turns the content and each of the address ranges. The names, the
 /// order of the ranges and the content of the record of type I stay.
 impl Turn for Chain {
-    ghost use Rattle.tl_shape.specs.{TurnLaws.turned-turned, Turned.turned};
+    ghost use Rattle.tl_shape.specs.TurnLaws.{turned-turned};
+    ghost use Rattle.tl_shape.specs.Turned.{turned};
 
     ghost turned = { turned };
 

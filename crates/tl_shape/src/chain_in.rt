@@ -1,7 +1,7 @@
 //! Chains with borrowed lists.
 
 ghost use Rattle.std.specs.List.{AllByRecursion};
-ghost use Rattle.std.specs.Prelude.{◌≡◌, ◌≤◌, length};
+ghost use Rattle.std.specs.Prelude.{length, ◌≡◌, ◌≤◌};
 ghost use Rattle.tl_layout.specs.Numbers.{IsNumber, IsNumberOrNone};
 
 use crate::chain::Surroundings;
@@ -22,7 +22,7 @@ pub struct ChainIn<'a> {
 
 impl<'a> Model for ChainIn<'a> {
     ghost use Rattle.std.specs.List.{AllByRecursion};
-    ghost use Rattle.std.specs.Prelude.{◌≤◌, length};
+    ghost use Rattle.std.specs.Prelude.{length, ◌≤◌};
     ghost use Rattle.tl_layout.specs.Numbers.{IsNumber, IsNumberOrNone};
     ghost use Rattle.tl_shape.specs.Chain.{Chain};
 

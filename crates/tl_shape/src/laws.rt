@@ -1,9 +1,12 @@
 //! Laws of the definitions. Each is the contract of a function that does nothing.
 
 ghost use Rattle.std.specs.Prelude.{List, ◌↔◌, ◌≡◌};
-ghost use Rattle.std.specs.{Cmp.IsTotalOrder, declared.cmp.Ordering.TheVariants.Equal};
+ghost use Rattle.std.specs.Cmp.{IsTotalOrder};
+ghost use Rattle.std.specs.declared.cmp.Ordering.TheVariants.{Equal};
 ghost use Rattle.tl_layout.specs.Coordinates.{Coordinates};
-ghost use Rattle.tl_shape.specs.{Chain.Chain, PointOrder.points_cmp, Turned.IsTurned, Turned.turned};
+ghost use Rattle.tl_shape.specs.Chain.{Chain};
+ghost use Rattle.tl_shape.specs.PointOrder.{points_cmp};
+ghost use Rattle.tl_shape.specs.Turned.{IsTurned, turned};
 
 /// Point lists are totally ordered, and two lists that compare as equal are equal.
 pub fn point_lists_are_totally_ordered()

@@ -1,8 +1,8 @@
 //! The points of a chain.
 
-ghost use Rattle.std.specs.Prelude.{◌≡◌, ◌+◌, ◌≤◌, ◌<◌, ◌↔◌, [], ◌∷◌, ◌++◌, List, IfOk, IsTrue, length, reverse};
+ghost use Rattle.std.specs.Prelude.{IfOk, IsTrue, List, [], length, reverse, ◌++◌, ◌↔◌, ◌∷◌, ◌≡◌, ◌≤◌};
 ghost use Rattle.tl_layout.specs.Coordinates.{Coordinates};
-ghost use Rattle.tl_shape.specs.PointOrder.{points_cmp, ComeAfterReverse};
+ghost use Rattle.tl_shape.specs.PointOrder.{ComeAfterReverse, points_cmp};
 
 use std::alloc::{AllocError, Global};
 use std::cmp::Ordering;
@@ -17,7 +17,7 @@ pub struct Shape {
 }
 
 impl Model for Shape {
-    ghost use Rattle.std.specs.Prelude.{◌≤◌, List, length};
+    ghost use Rattle.std.specs.Prelude.{List, length, ◌≤◌};
     ghost use Rattle.tl_layout.specs.Coordinates.{Coordinates};
 
     ghost Value = { List Coordinates };

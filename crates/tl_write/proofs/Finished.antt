@@ -1,8 +1,7 @@
 -- A text that was written completely, or a beginning of it, with nothing in the buffer before.
-use Rattle.std.proofs.Common.{◌≡◌, ◌+◌, ◌-◌, ◌^◌, ◌<◌, ◌++◌, ◌∷◌, ℕ, List, [], length, take, Result, Ok, Err, refl, sym, ap, ◌∙◌, subst}
-use Rattle.std.proofs.Common.{append-nil, length-append, arith}
-use Rattle.std.specs.Result.{IfOk, IfErr, MatchResult}
-use Rattle.tl_write.specs.GoingOut.{Waiting, HasCounted, IsGoingOut, HoldsBeginning, up_to_most}
+use Rattle.std.proofs.Common.{Err, List, Ok, Result, [], ap, append-nil, arith, length, length-append, refl, subst, sym, take, ℕ, ◌++◌, ◌+◌, ◌-◌, ◌<◌, ◌^◌, ◌∙◌, ◌∷◌, ◌≡◌}
+use Rattle.std.specs.Result.{IfErr, IfOk, MatchResult}
+use Rattle.tl_write.specs.GoingOut.{HasCounted, HoldsBeginning, IsGoingOut, Waiting, up_to_most}
 use Rattle.tl_write.specs.declared.fault.WriteFault.{WriteFault}
 
 abbrev pub nothing_yet : Waiting

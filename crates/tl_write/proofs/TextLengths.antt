@@ -1,11 +1,19 @@
 -- The length of a county's text.
-use Rattle.arranged_county.proofs.Common.{AllByRecursion, County, HasAtMost, IsCounty, List, [], arith, length, length-append, length-map}
-use Rattle.arranged_county.proofs.Common.{map, subst, ℕ, ◌++◌, ◌-◌, ◌<◌, ◌^◌, ◌∷◌, ◌≡◌, ◌≤◌}
-use Rattle.record_groups.proofs.Common.{Eight, FitsRecord, Five, Four, I, IsWithinLimits, One, P, Record, Seven, Six, Two, most_records}
-use Rattle.record_groups.proofs.Common.{packed, packed-fits, packed_by_type, spelling_is_line, spelling_of, text_of, ◌*◌}
-use Rattle.tl_layout.specs.RecordText.{len_of}
-use Rattle.county_chart.specs.Packing.{Typed}
-use Rattle.canonical_form.proofs.Common.{by_type_of, by_type_within, type_after_type}
+use Rattle.std.specs.List.{AllByRecursion}
+use Rattle.county_chart.specs.County.{County}
+use Rattle.county_chart.specs.Laws.TypeCounts.{HasAtMost, by_type_within}
+use Rattle.county_chart.specs.CountyRules.{IsCounty}
+use Rattle.std.proofs.Common.{List, [], arith, length, length-append, map, subst, ℕ, ◌*◌, ◌++◌, ◌-◌, ◌<◌, ◌^◌, ◌∷◌, ◌≡◌, ◌≤◌}
+use Rattle.std.proofs.lemmas.List.{length-map}
+use Rattle.tl_layout.specs.declared.record_type.Record.TheVariants.{Eight, Five, Four, I, One, P, Seven, Six, Two}
+use Rattle.tl_layout.specs.RecordText.{FitsRecord, len_of, spelling_of, text_of}
+use Rattle.county_chart.specs.Limits.{IsWithinLimits}
+use Rattle.tl_layout.specs.declared.record_type.Record.{Record}
+use Rattle.tl_layout.specs.Limits.{most_records}
+use Rattle.county_chart.specs.Packing.{Typed, packed, packed_by_type, type_after_type}
+use Rattle.county_chart.proofs.Limits.FitsPacked.{packed-fits}
+use Rattle.tl_layout.specs.Laws.RecordLaws.{spelling_is_line}
+use Rattle.county_chart.specs.Laws.PackedTypes.{by_type_of}
 
 line_length : (r : Record) → len_of r ≤ 228
 unfolding len_of

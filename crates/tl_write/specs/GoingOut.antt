@@ -1,5 +1,5 @@
 -- A text that is written to a sink through a buffer.
-use Rattle.std.specs.Prelude.{◌≡◌, ◌<◌, ◌+◌, ◌-◌, ◌^◌, ℕ, List, ◌++◌, length, min}
+use Rattle.std.specs.Prelude.{List, length, min, ℕ, ◌++◌, ◌+◌, ◌-◌, ◌<◌, ◌^◌, ◌≡◌}
 
 -- the bytes waiting to be sent, and the number of bytes sent, or the greatest 64-bit number
 pub record Waiting : Type 0 where

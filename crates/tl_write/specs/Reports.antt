@@ -1,5 +1,7 @@
 -- How faults of writing are reported.
-use Rattle.fault_report.specs.{Reports.at, declared.report.FaultPlace.TheVariants.Number, declared.report.FaultReport.FaultReport}
+use Rattle.fault_report.specs.Reports.{at}
+use Rattle.fault_report.specs.declared.report.FaultPlace.TheVariants.{Number}
+use Rattle.fault_report.specs.declared.report.FaultReport.{FaultReport}
 use Rattle.tl_write.specs.declared.fault.WriteFault.{WriteFault}
 use Rattle.fault_report.specs.declared.kind.FaultKind.TheVariants as kind
 

@@ -1,7 +1,7 @@
 -- What it means that records were taken one after another.
-use Rattle.std.specs.Prelude.{◌≡◌, ◌+◌, ◌<◌, ℕ, List, ◌++◌, length, Result, MatchResult, is_ok, if◌then◌else◌}
+use Rattle.std.specs.Prelude.{List, MatchResult, Result, if◌then◌else◌, is_ok, length, ℕ, ◌++◌, ◌+◌, ◌<◌, ◌≡◌}
 use Rattle.tl_layout.specs.declared.record_type.Record.{Record}
-use Rattle.tl_write.specs.GoingOut.{Waiting, HasCounted, IsGoingOut, HoldsBeginning}
+use Rattle.tl_write.specs.GoingOut.{HasCounted, HoldsBeginning, IsGoingOut, Waiting}
 use Rattle.tl_write.specs.declared.fault.WriteFault.{WriteFault}
 
 -- More text was appended to a text that is being written to a sink; or the sink failed and then holds a beginning of both.

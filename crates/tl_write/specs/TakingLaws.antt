@@ -1,11 +1,10 @@
 -- Taking records one after another is taking them together.
-use Rattle.std.proofs.Common.{Err, List, Ok, Result, [], ap, append-nil, append_assoc, arith, length, length-append, refl, subst, sym, ℕ}
-use Rattle.std.proofs.Common.{◌++◌, ◌+◌, ◌<◌, ◌∙◌, ◌∷◌, ◌≡◌}
-use Rattle.std.specs.Bool.{if◌then◌else◌}
-use Rattle.std.specs.Result.{MatchResult, is_ok}
-use Rattle.tl_layout.specs.{RecordText.spelling_of, RecordText.text_of, declared.record_type.Record.Record}
+use Rattle.std.proofs.Common.{Err, List, Ok, Result, [], ap, append-nil, append_assoc, arith, length, length-append, refl, subst, sym, ℕ, ◌++◌, ◌+◌, ◌<◌, ◌∙◌, ◌∷◌, ◌≡◌}
+use Rattle.tl_layout.specs.RecordText.{spelling_of, text_of}
+use Rattle.tl_layout.specs.declared.record_type.Record.{Record}
 use Rattle.tl_write.specs.GoingOut.{HasCounted, HoldsBeginning, IsGoingOut, Waiting}
-use Rattle.tl_write.specs.{Taking.ListsRecords, Taking.PutsText, declared.fault.WriteFault.WriteFault}
+use Rattle.tl_write.specs.Taking.{ListsRecords, PutsText}
+use Rattle.tl_write.specs.declared.fault.WriteFault.{WriteFault}
 
 -- the text of one list after another
 pub text_of-append : (xs ys : List Record) → text_of (xs ++ ys) ≡ text_of xs ++ text_of ys

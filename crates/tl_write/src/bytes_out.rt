@@ -1,6 +1,6 @@
 //! Writing a finished text.
 
-ghost use Rattle.std.specs.Prelude.{◌≡◌, ◌<◌, ◌+◌, ◌++◌, ℕ, List, length, take, IfErr, IfOk, MatchResult, is_ok, if◌then◌else◌};
+ghost use Rattle.std.specs.Prelude.{IfErr, IfOk, List, MatchResult, if◌then◌else◌, is_ok, length, take, ℕ, ◌++◌, ◌+◌, ◌<◌, ◌≡◌};
 
 use crate::fault::WriteFault;
 use crate::sink::Sink;

@@ -1,6 +1,6 @@
 //! The records of a canonical county, as a list and as a text.
 
-ghost use Rattle.std.specs.Prelude.{◌≡◌, ◌<◌, ◌+◌, ◌++◌, ℕ, List, length, take, IfErr, IfOk, MatchResult, is_ok, if◌then◌else◌};
+ghost use Rattle.std.specs.Prelude.{IfErr, IfOk, List, MatchResult, if◌then◌else◌, is_ok, length, take, ℕ, ◌++◌, ◌+◌, ◌<◌, ◌≡◌};
 ghost use Rattle.county_chart.specs.Packing.{packed};
 ghost use Rattle.tl_layout.specs.RecordText.{text_of};
 ghost use Rattle.canonical_form.specs.Canonical.{IsCanonical};

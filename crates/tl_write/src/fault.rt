@@ -1,6 +1,6 @@
 //! How writing can fail.
 
-ghost use Rattle.std.specs.Prelude.{◌≡◌, Some};
+ghost use Rattle.std.specs.Prelude.{Some, ◌≡◌};
 ghost use Rattle.fault_report.specs.Reports.{report_line};
 ghost use Rattle.tl_write.specs.Reports.{write_report};
 

@@ -1,6 +1,6 @@
 //! Sinks for bytes.
 
-ghost use Rattle.std.specs.Prelude.{◌≡◌, ◌≤◌, ◌<◌, ◌+◌, ◌++◌, ℕ, List, Some, length, take, IfOk, MatchResult, is_ok, if◌then◌else◌};
+ghost use Rattle.std.specs.Prelude.{IfOk, List, MatchResult, Some, if◌then◌else◌, is_ok, length, take, ℕ, ◌++◌, ◌+◌, ◌<◌, ◌≡◌, ◌≤◌};
 
 use std::io::Write;
 use tl_layout::DeviceFault;

@@ -1,6 +1,6 @@
 //! A sink for testing code that writes to a sink.
 
-ghost use Rattle.std.specs.Prelude.{◌≡◌, ◌≤◌, ◌<◌, ◌+◌, ◌-◌, ◌++◌, ℕ, List, [], length, take, min, IfOk, MatchResult, is_ok, if◌then◌else◌, ◌↔◌};
+ghost use Rattle.std.specs.Prelude.{IfOk, List, MatchResult, [], if◌then◌else◌, is_ok, length, min, take, ℕ, ◌++◌, ◌+◌, ◌-◌, ◌<◌, ◌↔◌, ◌≡◌, ◌≤◌};
 ghost use Rattle.std.specs.Result.{IsErr};
 
 use crate::sink::Sink;
@@ -17,7 +17,7 @@ pub struct SlowSink<'a> {
 }
 
 impl<'a> Model for SlowSink<'a> {
-    ghost use Rattle.std.specs.Prelude.{◌<◌, ◌≤◌, length, take};
+    ghost use Rattle.std.specs.Prelude.{length, take, ◌<◌, ◌≤◌};
     ghost use Rattle.tl_write.specs.LentBuffer.{LentBuffer};
 
     ghost Value = { LentBuffer };

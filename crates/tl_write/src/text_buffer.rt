@@ -1,6 +1,6 @@
 //! A buffer between the lines of a text and the sink that it is written to.
 
-ghost use Rattle.std.specs.Prelude.{◌≡◌, ◌<◌, ◌≤◌, ◌+◌, ◌++◌, ◌∷◌, ℕ, List, [], length, MatchResult, OnOk, Some, is_ok, slice_get, if◌then◌else◌};
+ghost use Rattle.std.specs.Prelude.{List, MatchResult, OnOk, Some, [], if◌then◌else◌, is_ok, length, slice_get, ℕ, ◌++◌, ◌+◌, ◌<◌, ◌∷◌, ◌≡◌, ◌≤◌};
 ghost use Rattle.record_groups.specs.Groups.{group_at};
 ghost use Rattle.tl_write.specs.GoingOut.{HasCounted, HoldsBeginning, IsGoingOut, up_to_most};
 
@@ -23,7 +23,7 @@ pub(crate) struct TextBuffer {
 }
 
 impl Model for TextBuffer {
-    ghost use Rattle.std.specs.Prelude.{◌≤◌, take, length};
+    ghost use Rattle.std.specs.Prelude.{length, take, ◌≤◌};
     ghost use Rattle.tl_write.specs.GoingOut.{Waiting};
 
     ghost Value = { Waiting };

@@ -14,7 +14,8 @@ use tl_layout::{Layout, Record, Tabled};
 /// first.
 impl<W: Sink> RecordVisitor<W> for TextBuffer {
     ghost use Rattle.std.below.core.specs.declared.int.u64.TheConstants.{MAX};
-    ghost use Rattle.tl_write.specs.{Taking.PutsText, TakingLaws.puts_none, TakingLaws.puts_stops, TakingLaws.puts_then};
+    ghost use Rattle.tl_write.specs.Taking.{PutsText};
+    ghost use Rattle.tl_write.specs.TakingLaws.{puts_none, puts_stops, puts_then};
 
     type Fault = WriteFault;
 
@@ -55,7 +56,8 @@ pub(crate) struct NoDevice;
 /// Appends the records to the list.
 impl RecordVisitor<NoDevice> for Vec<Record> {
     ghost use Rattle.std.proofs.Common.{append-nil, sym};
-    ghost use Rattle.tl_write.specs.{Taking.ListsRecords, TakingLaws.lists_then};
+    ghost use Rattle.tl_write.specs.Taking.{ListsRecords};
+    ghost use Rattle.tl_write.specs.TakingLaws.{lists_then};
 
     type Fault = AllocError;
 

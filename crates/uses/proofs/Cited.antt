@@ -1,8 +1,14 @@
 -- Two sets with the same canonical text, and the renaming from the first set to the second through it.
-use Rattle.tigercanon.proofs.Common.{Carries, County, IsAcceptedSet, IsCounty, IsLinked, List, Record, Renumbering, SpellsWithin, []}
-use Rattle.tigercanon.proofs.Common.{county_of, inl, inr, most_records, subst, sym, tiger, ℕ, ◌∙◌, ◌∷◌, ◌≡◌, ◌⊎◌}
-use Rattle.tl_load.specs.Outcome.{IsFaulty, IsSpelled}
-use Rattle.tigercanon.specs.Sets.{CarriesSet}
+use Rattle.county_chart.specs.Renumbering.{Carries, Renumbering}
+use Rattle.county_chart.specs.County.{County, county_of}
+use Rattle.tigercanon.specs.Sets.{CarriesSet, IsAcceptedSet}
+use Rattle.county_chart.specs.CountyRules.{IsCounty}
+use Rattle.county_chart.specs.LinkRules.{IsLinked}
+use Rattle.std.proofs.Common.{List, [], inl, inr, subst, sym, ℕ, ◌∙◌, ◌∷◌, ◌≡◌, ◌⊎◌}
+use Rattle.tl_layout.specs.declared.record_type.Record.{Record}
+use Rattle.tl_load.specs.Outcome.{IsFaulty, IsSpelled, SpellsWithin}
+use Rattle.tl_layout.specs.Limits.{most_records}
+use Rattle.tl_load.specs.Choice.{tiger}
 
 -- the laws of the libraries about sets and linked records
 module _ (spelled_or_one_fault : (limit : ℕ) (parts : List (List ℕ)) → IsSpelled tiger limit parts ⊎ IsFaulty tiger limit parts)

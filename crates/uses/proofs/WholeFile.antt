@@ -1,8 +1,13 @@
 -- Pieces of a file, and the whole file.
 use Rattle.std.proofs.Common.{Bor, List, [], ap, append-nil, drop, get_or, length, map, subst, sym, take, ℕ, ◌++◌, ◌+◌, ◌<◌, ◌∙◌, ◌∷◌, ◌≡◌}
-use Rattle.std.proofs.{lemmas.List.Folds.concat-append, lemmas.List.map-append, lemmas.List.take-append-drop, lemmas.List.take_more}
+use Rattle.std.proofs.lemmas.List.Folds.{concat-append}
+use Rattle.std.proofs.lemmas.List.{map-append, take-append-drop, take_more}
 use Rattle.std.specs.List.{concat}
-use Rattle.tl_load.specs.{Choice.tiger, Loaded.IsFaultHowever, Outcome.FaultAt, Outcome.most_records, declared.fault.LoadFault.LoadFault}
+use Rattle.tl_load.specs.Choice.{tiger}
+use Rattle.tl_load.specs.Loaded.{IsFaultHowever}
+use Rattle.tl_load.specs.Outcome.{FaultAt}
+use Rattle.tl_layout.specs.Limits.{most_records}
+use Rattle.tl_load.specs.declared.fault.LoadFault.{LoadFault}
 
 -- the bytes of the pieces
 abbrev pub bytes_of : List (Bor (List ℕ)) → List (List ℕ)

@@ -1,6 +1,6 @@
 //! Two files with the same records, compared record by record.
 
-ghost use Rattle.std.specs.Prelude.{◌≡◌, ◌↔◌, ◌∷◌, [], ℕ, List, IfOk, IsTrue};
+ghost use Rattle.std.specs.Prelude.{IfOk, IsTrue, List, [], ℕ, ◌↔◌, ◌∷◌, ◌≡◌};
 ghost use Rattle.tigercanon.specs.Respelling.{IsRespelt};
 
 use std::alloc::Global;

@@ -1,9 +1,12 @@
 //! A chain that one archive cites, found in another archive of the same map.
 
 ghost use Rattle.std.specs.Prelude.{IfOk, IfSome, Some, [], ◌∷◌, ◌≡◌};
-ghost use Rattle.std.specs.{Bool.Decides, Ordering.nat_cmp};
+ghost use Rattle.std.specs.Bool.{Decides};
+ghost use Rattle.std.specs.Ordering.{nat_cmp};
 ghost use Rattle.tigercanon.specs.Sets.{CarriesSet};
-ghost use Rattle.county_chart.specs.{County.County, CountyRules.IsCounty, Renumbering.Carries, Renumbering.Renumbering};
+ghost use Rattle.county_chart.specs.County.{County};
+ghost use Rattle.county_chart.specs.CountyRules.{IsCounty};
+ghost use Rattle.county_chart.specs.Renumbering.{Carries, Renumbering};
 ghost use Rattle.ordered_lists.specs.Entries.{value_under};
 
 use std::alloc::{AllocError, Global};

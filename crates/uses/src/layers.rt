@@ -2,8 +2,9 @@
 
 ghost use Rattle.std.specs.Prelude.{IfOk, [], ◌∷◌, ◌≡◌};
 ghost use Rattle.tigercanon.specs.Sets.{IsCanonicalText};
-ghost use Rattle.county_chart.specs.{Limits.most_records, Packing.packed};
-ghost use Rattle.tl_layout.specs.{Limits.IsWithinLimit, RecordText.text_of};
+ghost use Rattle.tl_layout.specs.Limits.{IsWithinLimit, most_records};
+ghost use Rattle.county_chart.specs.Packing.{packed};
+ghost use Rattle.tl_layout.specs.RecordText.{text_of};
 ghost use Rattle.canonical_form.specs.Accepted.{IsCanonicalOf};
 
 use crate::pieces::load_pieces;

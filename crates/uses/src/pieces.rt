@@ -2,7 +2,10 @@
 
 ghost use Rattle.std.specs.List.{concat};
 ghost use Rattle.std.specs.Prelude.{IfErr, IfOk, [], map, ◌∷◌};
-ghost use Rattle.tl_load.specs.{Choice.tiger, Loaded.IsOfLines, Outcome.FaultAt, Outcome.SpellsWithin, Outcome.most_records};
+ghost use Rattle.tl_load.specs.Choice.{tiger};
+ghost use Rattle.tl_load.specs.Loaded.{IsOfLines};
+ghost use Rattle.tl_load.specs.Outcome.{FaultAt, SpellsWithin};
+ghost use Rattle.tl_layout.specs.Limits.{most_records};
 
 use std::alloc::Global;
 use tl_layout::Record;

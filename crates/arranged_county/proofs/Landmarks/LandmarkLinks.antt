@@ -1,13 +1,10 @@
 -- Links gathered landmark by landmark, and counted LAND by LAND.
-use Rattle.arranged_county.proofs.Common.{Bool, IsPermutation-sym, apart-permutation, apart_from_sorted, filter-filtered, in_order-in_order}
-use Rattle.arranged_county.proofs.Common.{County, Fields8, IsTrue, Option, filter, length, links_at, ltb-true, nat_cmp, nat_keys}
-use Rattle.arranged_county.proofs.Common.{Known, List, None, Some, arith, false, is_gt, lands, nat_le, refl, subst, times, ℕ}
-use Rattle.arranged_county.proofs.Common.{IsCounty, flat_map, in_order, lands_at, link_cmp, link_keys, slice_get, contains}
-use Rattle.arranged_county.proofs.Common.{IsInOrder, ap₂, eight_land, filter_map, leb_tells, length-map, links_with, map-append, true≢false}
-use Rattle.arranged_county.proofs.Common.{IsPermutation, all_at_places, append-nil, append_assoc, cons_option, links_up_to, range_with_len}
-use Rattle.arranged_county.proofs.Common.{IsPermutation-map, IsPermutation-trans, all_weaker, in_order-is_permutation, in_order-permutation}
-use Rattle.arranged_county.proofs.Common.{[], ap, inl, inr, map, suc, sym, true, zero, ◌++◌, ◌+◌, ◌-◌, ◌<◌, ◌∙◌, ◌∷◌, ◌≡◌, ◌≤◌, ◌⊎◌}
-use Rattle.canonical_form.proofs.Common.{filter-agree, groups-permutation, known-permutation_to, not, of_number, ◌&&◌}
+use Rattle.arranged_county.proofs.Common.{Bool, County, Fields8, IsCounty, IsInOrder, IsPermutation, IsPermutation-map, IsPermutation-sym, IsPermutation-trans, IsTrue, Known, List, None, Option, Some, [], all_at_places, all_weaker, ap, apart-permutation, apart_from_sorted, append-nil, append_assoc, ap₂, arith, cons_option, contains, eight_land, false, filter, filter-filtered, filter_map, flat_map, in_order, in_order-in_order, in_order-is_permutation, in_order-permutation, inl, inr, is_gt, lands, lands_at, leb_tells, length, length-map, link_cmp, link_keys, links_at, links_up_to, links_with, ltb-true, map, map-append, nat_cmp, nat_keys, nat_le, range_with_len, refl, slice_get, subst, suc, sym, times, true, true≢false, zero, ℕ, ◌++◌, ◌+◌, ◌-◌, ◌<◌, ◌∙◌, ◌∷◌, ◌≡◌, ◌≤◌, ◌⊎◌}
+use Rattle.ordered_lists.proofs.Lists.Counted.{filter-agree}
+use Rattle.county_chart.proofs.Lists.OfNumber.{groups-permutation}
+use Rattle.ordered_lists.proofs.ByKey.Keys.{known-permutation_to}
+use Rattle.std.proofs.Common.{not, ◌&&◌}
+use Rattle.tl_layout.specs.ByType.{of_number}
 use Rattle.std.proofs.lemmas.List.Filters.{length-filter_both}
 use Rattle.std.proofs.lemmas.Bool.Decides.{nat_tests}
 

@@ -1,28 +1,19 @@
 -- Landmarks sorted by their bodies, their links and their places are in their new order.
-use Rattle.arranged_county.proofs.Common.{AreWhole, arrangement_of, in_order-in_order, landmark_body_cmp, polygons_in_order}
-use Rattle.arranged_county.proofs.Common.{AreClasses, Arrangement, among_known, arranged_by, lists_total, up_to-strict}
-use Rattle.arranged_county.proofs.Common.{AreReadAt, IsTotalOrder, in_order-map, nat_cmp_total, ordering_then, slice_get-map, sorted_places}
-use Rattle.arranged_county.proofs.Common.{AreSortedLandmarks, has_repeat-apart, landmark_bodies_cmp, landmark_place_cmp, landmarks_in_order}
-use Rattle.arranged_county.proofs.Common.{Body7, DirectedChain, IsPermutation, classed_place, link_part_cmp, numbered_links, range_with_len}
-use Rattle.arranged_county.proofs.Common.{County, IsPermutation-trans, classed_landmark_cmp, in_order-is_permutation, length-range_with_len}
-use Rattle.arranged_county.proofs.Common.{Fields8, IsApart, all_map, in_order, lands_at, link_cmp, nat_keys, numbered, on_total}
-use Rattle.arranged_county.proofs.Common.{IsCounty, Ordering, arranges, link_part, own_links, slice_cmp, slice_get, unwrap_or}
-use Rattle.arranged_county.proofs.Common.{IsInOrder, Known, among-get, bodies_at, link_keys, links_with, option_map, then_assoc}
-use Rattle.arranged_county.proofs.Common.{IsPermutation-map, IsPermutation-sym, apart-permutation, apart_from_sorted, length_permutation, ℕ}
-use Rattle.arranged_county.proofs.Common.{List, Option, arith, false, image, key_cmp, lands, length, map-map, nat_cmp, subst, up_to}
-use Rattle.arranged_county.proofs.Common.{Some, [], ap, ap₂, map, on, refl, sym, ◌∙◌, ◌∷◌, ◌≡◌, ◌≤◌}
-use Rattle.arranged_county.proofs.Common.{PolygonKey, eight_land, entry_keys, filter_map, has_repeat, length-map, link_under}
+use Rattle.arranged_county.proofs.Common.{AreClasses, AreReadAt, AreSortedLandmarks, AreWhole, Arrangement, Body7, County, DirectedChain, Fields8, IsApart, IsCounty, IsInOrder, IsPermutation, IsPermutation-map, IsPermutation-sym, IsPermutation-trans, IsTotalOrder, Known, List, Option, Ordering, PolygonKey, Some, [], all_map, among-get, among_known, ap, apart-permutation, apart_from_sorted, ap₂, arith, arranged_by, arrangement_of, arranges, bodies_at, classed_landmark_cmp, classed_place, eight_land, entry_keys, false, filter_map, has_repeat, has_repeat-apart, image, in_order, in_order-in_order, in_order-is_permutation, in_order-map, key_cmp, landmark_bodies_cmp, landmark_body_cmp, landmark_place_cmp, landmarks_in_order, lands, lands_at, length, length-map, length-range_with_len, length_permutation, link_cmp, link_keys, link_part, link_part_cmp, link_under, links_with, lists_total, map, map-map, nat_cmp, nat_cmp_total, nat_keys, numbered, numbered_links, on, on_total, option_map, ordering_then, own_links, polygons_in_order, range_with_len, refl, slice_cmp, slice_get, slice_get-map, sorted_places, subst, sym, then_assoc, unwrap_or, up_to, up_to-strict, ℕ, ◌∙◌, ◌∷◌, ◌≡◌, ◌≤◌}
 use Rattle.std.proofs.lemmas.Cmp.{then_total}
 use Rattle.arranged_county.proofs.Lists.Classes.{agree_in_order, agree_permuted, agree_weaker, classes_all}
 use Rattle.arranged_county.proofs.Views.ViewTables.{by_land, keys_paired}
-use Rattle.arranged_county.proofs.{Landmarks.LandmarkLinks.listed, Names.NameOrder.filter_map_all, Polygons.PolygonOrder.read_mapped}
-use Rattle.canonical_form.proofs.Common.{image-injective, landmark_key, landmark_key_cmp, link_key, link_part_keys}
-use Rattle.canonical_form.proofs.Common.{links_of, links_relinked, new_keys, relinked}
+use Rattle.arranged_county.proofs.Landmarks.LandmarkLinks.{listed}
+use Rattle.arranged_county.proofs.Names.NameOrder.{filter_map_all}
+use Rattle.arranged_county.proofs.Polygons.PolygonOrder.{read_mapped}
+use Rattle.ordered_lists.proofs.ByKey.Keys.{image-injective}
+use Rattle.canonical_form.specs.Uses.{landmark_key, landmark_key_cmp, links_of}
+use Rattle.county_chart.specs.County.{link_key}
+use Rattle.county_chart.specs.Laws.KeyOrders.{link_part_keys}
+use Rattle.canonical_form.specs.Arrangement.{links_relinked, new_keys, relinked}
 use Rattle.canonical_form.proofs.Arrangements.Carrying.{images-numbered, landmarks_permutation, lands_renamed, links_arranged}
 use Rattle.canonical_form.proofs.Arrangements.Placed.{lefts-numbered, rights-numbered}
-use Rattle.canonical_form.proofs.Unique.SameLandmarks.{landmark_key_keys}
-use Rattle.canonical_form.proofs.Unique.SameLandmarks.{relanded}
-use Rattle.canonical_form.proofs.Unique.SameLandmarks.{lands_known, links_kept}
+use Rattle.canonical_form.proofs.Unique.SameLandmarks.{landmark_key_keys, lands_known, links_kept, relanded}
 use Rattle.std.proofs.lemmas.Grind.{common_steps}
 
 -- lists compared by images of their elements

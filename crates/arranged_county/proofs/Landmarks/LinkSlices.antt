@@ -1,8 +1,5 @@
 -- In a list in the order of its numbers, the elements with one number are between two counts.
-use Rattle.arranged_county.proofs.Common.{AllByRecursion, Bool, all_weaker, eight_land, get_or-map-range_with_len, link_bounds, links_up_to}
-use Rattle.arranged_county.proofs.Common.{Fields8, IsInOrder, at_most, eqb_tells, filter, get_or, leb_tells, links_with, nat_cmp, slice_get}
-use Rattle.arranged_county.proofs.Common.{List, ap₂, arith, cond, drop, false, is_gt, length, nat_le, refl, subst, take, true, up_to, ◌==◌}
-use Rattle.arranged_county.proofs.Common.{[], ap, eqb, inl, inr, on, suc, sym, ℕ, ◌+◌, ◌-◌, ◌<◌, ◌∙◌, ◌∷◌, ◌≡◌, ◌≢◌, ◌≤◌, ◌⊎◌}
+use Rattle.arranged_county.proofs.Common.{AllByRecursion, Bool, Fields8, IsInOrder, List, [], all_weaker, ap, ap₂, arith, at_most, cond, drop, eight_land, eqb, eqb_tells, false, filter, get_or, get_or-map-range_with_len, inl, inr, is_gt, leb_tells, length, link_bounds, links_up_to, links_with, nat_cmp, nat_le, on, refl, slice_get, subst, suc, sym, take, true, up_to, ℕ, ◌+◌, ◌-◌, ◌<◌, ◌==◌, ◌∙◌, ◌∷◌, ◌≡◌, ◌≢◌, ◌≤◌, ◌⊎◌}
 use Rattle.arranged_county.proofs.Views.ViewNumbers.{get_up_to}
 use Rattle.std.proofs.lemmas.Bool.Decides.{nat_tests}
 use Rattle.std.proofs.lemmas.Grind.{common_steps}

@@ -1,11 +1,8 @@
 -- Places in the order of their items, with classes: the classes are in the same order.
-use Rattle.arranged_county.proofs.Common.{AgreeOn, AllByRecursion, AreClasses, Equal, Greater, IsInOrder, IsPermutation, IsPermutation-sym}
-use Rattle.arranged_county.proofs.Common.{IsPermutation-trans, IsTotalOrder, Less, List, Ordering, [], alike_right, all_map, all_permuted}
-use Rattle.arranged_county.proofs.Common.{all_weaker, ap, arith, class_after, classed_place, classes_along, cond, false, in_order}
-use Rattle.arranged_county.proofs.Common.{in_order-in_order, in_order-is_permutation, in_order-permutation, is_eq, is_gt, less, map}
-use Rattle.arranged_county.proofs.Common.{nat_cmp, nat_cmp_total, nat_keys, on, ordering_reverse, range_with_len, ranked, refl, subst, sym}
-use Rattle.arranged_county.proofs.Common.{tied_itself, true≢false, ℕ, ◌+◌, ◌∙◌, ◌∷◌, ◌≡◌, ◌≤◌}
-use Rattle.canonical_form.proofs.Common.{all_both, in_order-strict, range_strict}
+use Rattle.arranged_county.proofs.Common.{AgreeOn, AllByRecursion, AreClasses, Equal, Greater, IsInOrder, IsPermutation, IsPermutation-sym, IsPermutation-trans, IsTotalOrder, Less, List, Ordering, [], alike_right, all_map, all_permuted, all_weaker, ap, arith, class_after, classed_place, classes_along, cond, false, in_order, in_order-in_order, in_order-is_permutation, in_order-permutation, is_eq, is_gt, less, map, nat_cmp, nat_cmp_total, nat_keys, on, ordering_reverse, range_with_len, ranked, refl, subst, sym, tied_itself, true≢false, ℕ, ◌+◌, ◌∙◌, ◌∷◌, ◌≡◌, ◌≤◌}
+use Rattle.ordered_lists.proofs.Lists.Elements.{all_both}
+use Rattle.ordered_lists.proofs.Lists.EntryLists.{in_order-strict}
+use Rattle.ordered_lists.proofs.Lists.Ranges.{range_strict}
 
 -- orders that agree on a list agree on it in another order, and put it in the same order
 module _ {X : Type 0} (by to : X → X → Ordering) where

@@ -1,6 +1,5 @@
 -- Two lists compared item by item.
-use Rattle.arranged_county.proofs.Common.{Equal, Greater, Less, List, None, Ordering, [], ap, arith, drop, drop_all, length, option_cmp}
-use Rattle.arranged_county.proofs.Common.{ordering_then, refl, slice_cmp, slice_get, suc, sym, zero, ℕ, ◌<◌, ◌∙◌, ◌∷◌, ◌≡◌, ◌≢◌, ◌≤◌}
+use Rattle.arranged_county.proofs.Common.{Equal, Greater, Less, List, None, Ordering, [], ap, arith, drop, drop_all, length, option_cmp, ordering_then, refl, slice_cmp, slice_get, suc, sym, zero, ℕ, ◌<◌, ◌∙◌, ◌∷◌, ◌≡◌, ◌≢◌, ◌≤◌}
 
 module _ {X : Type 0} (R : X → X → Ordering) where
   rest_greater : (i : ℕ) (xs : List X) → i < length xs → slice_cmp R (drop i xs) [] ≡ Greater

@@ -1,19 +1,13 @@
 -- Names sorted by their bytes, the ranks of their first uses and their places are in their new order.
-use Rattle.arranged_county.proofs.Common.{AreClasses, AreWhole, Arrangement, IsKeyOrder, RankedName, cons_option, name_key_at, uses_of_name}
-use Rattle.arranged_county.proofs.Common.{AreReadAt, County, IsInOrder, key_place, option_map, ranked_at, ranked_cmp, slice_cmp, then_assoc}
-use Rattle.arranged_county.proofs.Common.{Body5, apart-permutation, apart_from_sorted, first_seen_after, has_repeat-apart, name_content_cmp}
-use Rattle.arranged_county.proofs.Common.{Bool, Option, Use, arith, false, feats, length, map-map, nat_cmp, placed, rank_of, subst, use_cmp}
-use Rattle.arranged_county.proofs.Common.{Chain, IsCounty, Ordering, arranges, flat_map, ltb-true, nat_keys, on_total, slice_get, contains}
-use Rattle.arranged_county.proofs.Common.{DirectedChain, all_uses-strict, arranged_tlids, arrangement_of, names_in_order, range_with_len, ℕ}
-use Rattle.arranged_county.proofs.Common.{IsApart, IsPermutation, classed_place, name_body_cmp, name_key_keys, name_keys_cmp, ordering_then}
-use Rattle.arranged_county.proofs.Common.{IsPermutation-map, IsPermutation-trans, append_assoc, feats_along_arrangement, length_permutation}
-use Rattle.arranged_county.proofs.Common.{List, Some, [], ap, ap₂, cond, map, refl, suc, sym, true, ◌++◌, ◌∙◌, ◌∷◌, ◌≡◌}
-use Rattle.arranged_county.proofs.Common.{append-nil, entry_keys, filter_map, first_seen, has_repeat, length-map, map-append, option_cmp}
-use Rattle.arranged_county.proofs.Common.{feats_placed, in_order-map, ranked_place, slice_get-map, sorted_items, times-append, up_to-strict}
+use Rattle.arranged_county.proofs.Common.{AreClasses, AreReadAt, AreWhole, Arrangement, Body5, Bool, Chain, County, DirectedChain, IsApart, IsCounty, IsInOrder, IsKeyOrder, IsPermutation, IsPermutation-map, IsPermutation-trans, List, Option, Ordering, RankedName, Some, Use, [], all_uses-strict, ap, apart-permutation, apart_from_sorted, append-nil, append_assoc, ap₂, arith, arranged_tlids, arrangement_of, arranges, classed_place, cond, cons_option, contains, entry_keys, false, feats, feats_along_arrangement, feats_placed, filter_map, first_seen, first_seen_after, flat_map, has_repeat, has_repeat-apart, in_order-map, key_place, length, length-map, length_permutation, ltb-true, map, map-append, map-map, name_body_cmp, name_content_cmp, name_key_at, name_key_keys, name_keys_cmp, names_in_order, nat_cmp, nat_keys, on_total, option_cmp, option_map, ordering_then, placed, range_with_len, rank_of, ranked_at, ranked_cmp, ranked_place, refl, slice_cmp, slice_get, slice_get-map, sorted_items, subst, suc, sym, then_assoc, times-append, true, up_to-strict, use_cmp, uses_of_name, ℕ, ◌++◌, ◌∙◌, ◌∷◌, ◌≡◌}
 use Rattle.arranged_county.proofs.Lists.Classes.{agree_in_order, agree_map, agree_permuted, agree_weaker, classes_all}
-use Rattle.arranged_county.proofs.{Names.NameRanks.ranks_decide, Polygons.PolygonOrder.read_mapped}
-use Rattle.canonical_form.proofs.Common.{IsStrictlySortedBy, all_uses, name_key, name_key_cmp, times-yes, uses_from}
-use Rattle.canonical_form.proofs.{Arrangements.Carrying.names_permutation, Arrangements.Placed.placed_tlids}
+use Rattle.arranged_county.proofs.Names.NameRanks.{ranks_decide}
+use Rattle.arranged_county.proofs.Polygons.PolygonOrder.{read_mapped}
+use Rattle.std.specs.List.Sorted.{IsStrictlySortedBy}
+use Rattle.canonical_form.specs.Uses.{all_uses, name_key, name_key_cmp, uses_from}
+use Rattle.ordered_lists.proofs.ByKey.Keys.{times-yes}
+use Rattle.canonical_form.proofs.Arrangements.Carrying.{names_permutation}
+use Rattle.canonical_form.proofs.Arrangements.Placed.{placed_tlids}
 
 -- distinct keys are each seen once
 module _ {K : Type 0} {cmp : K → K → Ordering} (o : IsKeyOrder cmp) where

@@ -1,13 +1,13 @@
 -- The first uses of two names along the chains decide as all their uses do.
-use Rattle.arranged_county.proofs.Common.{AllByRecursion, Bool, Greater, IsTotalOrder, Known, Less, List, None, Some, Use, [], all_after}
-use Rattle.arranged_county.proofs.Common.{all_among, ap, ap₂, arith, cond, false, false_from_ne_true, filter, first_seen_after, from_one}
-use Rattle.arranged_county.proofs.Common.{inl, inr, is_eq, known_after, known_within, length, length-append, length-map, less, ltb-true}
-use Rattle.arranged_county.proofs.Common.{map, nat_cmp, nat_cmp_total, nat_keys, ordering_reverse, ordering_then, place-append, place-new}
-use Rattle.arranged_county.proofs.Common.{place_behind, place_from, rank_of, refl, seen_stays, slice_cmp, contains, subst, suc, sym}
-use Rattle.arranged_county.proofs.Common.{tied_itself, times, times-append, to_position, true, under_use, unknown_at_end, use_cmp, use_keys}
-use Rattle.arranged_county.proofs.Common.{uses_of_name, zero, ℕ, ◌++◌, ◌+◌, ◌<◌, ◌==◌, ◌∙◌, ◌∷◌, ◌≡◌, ◌≤◌, ◌⊎◌}
-use Rattle.canonical_form.proofs.Common.{Among, among-map, differ_apart, eq-eqb, known-here, known-left, known-right, lists_keys, nat_lt}
-use Rattle.canonical_form.proofs.Common.{ne_eqb, position_or_len, same_or_not, times-no, times-of_number}
+use Rattle.arranged_county.proofs.Common.{AllByRecursion, Bool, Greater, IsTotalOrder, Known, Less, List, None, Some, Use, [], all_after, all_among, ap, ap₂, arith, cond, contains, false, false_from_ne_true, filter, first_seen_after, from_one, inl, inr, is_eq, known_after, known_within, length, length-append, length-map, less, ltb-true, map, nat_cmp, nat_cmp_total, nat_keys, ordering_reverse, ordering_then, place-append, place-new, place_behind, place_from, rank_of, refl, seen_stays, slice_cmp, subst, suc, sym, tied_itself, times, times-append, to_position, true, under_use, unknown_at_end, use_cmp, use_keys, uses_of_name, zero, ℕ, ◌++◌, ◌+◌, ◌<◌, ◌==◌, ◌∙◌, ◌∷◌, ◌≡◌, ◌≤◌, ◌⊎◌}
+use Rattle.ordered_lists.proofs.Lists.Among.{Among}
+use Rattle.ordered_lists.proofs.Lists.Members.{among-map}
+use Rattle.ordered_lists.proofs.ByKey.Keys.{differ_apart, known-here, known-left, known-right, same_or_not, times-no}
+use Rattle.std.proofs.lemmas.Bool.{eq-eqb, ne_eqb}
+use Rattle.ordered_lists.proofs.ByKey.KeyOrders.{lists_keys}
+use Rattle.std.proofs.Common.{nat_lt}
+use Rattle.std.specs.List.{position_or_len}
+use Rattle.county_chart.proofs.Lists.OfNumber.{times-of_number}
 use Rattle.std.specs.List.Sorted.{IsStrictlySortedBy}
 
 -- the number of a FEAT among those seen, or 0

@@ -1,6 +1,5 @@
 -- The keys first seen along a list that is walked piece by piece.
-use Rattle.arranged_county.proofs.Common.{Bool, List, Option, Ordering, [], ap, ap₂, arith, cond, drop, drop_all, false, first_seen_after}
-use Rattle.arranged_county.proofs.Common.{option_to_list, refl, slice_get, contains, suc, sym, true, zero, ℕ, ◌++◌, ◌+◌, ◌∙◌, ◌∷◌, ◌≡◌}
+use Rattle.arranged_county.proofs.Common.{Bool, List, Option, Ordering, [], ap, ap₂, arith, cond, contains, drop, drop_all, false, first_seen_after, option_to_list, refl, slice_get, suc, sym, true, zero, ℕ, ◌++◌, ◌+◌, ◌∙◌, ◌∷◌, ◌≡◌}
 
 module _ {K : Type 0} (cmp : K → K → Ordering) where
   -- one list after another

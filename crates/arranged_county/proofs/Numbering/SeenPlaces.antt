@@ -1,6 +1,5 @@
 -- A key that was seen stays at its place.
-use Rattle.arranged_county.proofs.Common.{IsKeyOrder, List, Ordering, Some, ap, arith, first_seen_after, is_eq, length, length-append}
-use Rattle.arranged_county.proofs.Common.{place_stays, position, seen_stays, sym, ℕ, ◌++◌, ◌∙◌, ◌≡◌, ◌≤◌}
+use Rattle.arranged_county.proofs.Common.{IsKeyOrder, List, Ordering, Some, ap, arith, first_seen_after, is_eq, length, length-append, place_stays, position, seen_stays, sym, ℕ, ◌++◌, ◌∙◌, ◌≡◌, ◌≤◌}
 
 module _ {K : Type 0} {cmp : K → K → Ordering} (o : IsKeyOrder cmp) where
   -- a key that was seen keeps its place, whatever is seen later

@@ -1,12 +1,10 @@
 -- The ends and the sides of chains, numbered in order of appearance.
-use Rattle.arranged_county.proofs.Common.{Equal, Option, Some, arith, get_or, is_eq, key_cmp, keys_at, length, nat_cmp, position, side_of}
-use Rattle.arranged_county.proofs.Common.{IsKeyOrder, Ordering, PolygonKey, PolygonSide, drop-set-lt, get_dropped, number_seen, seen_within}
-use Rattle.arranged_county.proofs.Common.{IsTotalOrder, List, changed_both, drop_more_same, first_seen_after, one_more_taken, polygon_among}
-use Rattle.arranged_county.proofs.Common.{[], ap, drop, map, set, sym, take, ℕ, ◌++◌, ◌+◌, ◌<◌, ◌^◌, ◌∙◌, ◌∷◌, ◌≡◌, ◌≤◌}
-use Rattle.arranged_county.proofs.Common.{drop_more, flat_map, key_keys, key_seen, map-append, nat_keys, node_among, side_among, slice_get}
-use Rattle.arranged_county.proofs.{Numbering.SeenLists.seen_append, Numbering.SeenPlaces.seen_fewer, Numbering.SeenPlaces.seen_keeps}
-use Rattle.canonical_form.proofs.Common.{key_on, key_under}
-use Rattle.canonical_form.proofs.{Common.get_or_from_slice_get, Lists.ListPlaces.none_past}
+use Rattle.arranged_county.proofs.Common.{Equal, IsKeyOrder, IsTotalOrder, List, Option, Ordering, PolygonKey, PolygonSide, Some, [], ap, arith, changed_both, drop, drop-set-lt, drop_more, drop_more_same, first_seen_after, flat_map, get_dropped, get_or, is_eq, key_cmp, key_keys, key_seen, keys_at, length, map, map-append, nat_cmp, nat_keys, node_among, number_seen, one_more_taken, polygon_among, position, seen_within, set, side_among, side_of, slice_get, sym, take, ℕ, ◌++◌, ◌+◌, ◌<◌, ◌^◌, ◌∙◌, ◌∷◌, ◌≡◌, ◌≤◌}
+use Rattle.arranged_county.proofs.Numbering.SeenLists.{seen_append}
+use Rattle.arranged_county.proofs.Numbering.SeenPlaces.{seen_fewer, seen_keeps}
+use Rattle.county_chart.specs.PolygonKeys.{key_on, key_under}
+use Rattle.std.proofs.lemmas.Option.{get_or_from_slice_get}
+use Rattle.canonical_form.proofs.Lists.ListPlaces.{none_past}
 
 -- the element at a place comes before those after it
 drop_there : {X : Type 0} (xs : List X) (i : ℕ) (x : X) → Some x ≡ slice_get xs i → drop i xs ≡ x ∷ drop (i + 1) xs

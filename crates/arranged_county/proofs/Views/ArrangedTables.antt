@@ -1,13 +1,9 @@
 -- Going along the directed chains meets the nodes and the polygons of the arrangement, and gives the ends and the sides under
 -- their numbers.
-use Rattle.arranged_county.proofs.Common.{AreWhole, Arrangement, Chain, County, DirectedChain, IsCounty, List, None, Option, Ordering}
-use Rattle.arranged_county.proofs.Common.{PolygonSide, Some, [], ap, arranged_by, arrangement_of, bodies_read, chains, directed_chain}
-use Rattle.arranged_county.proofs.Common.{ends_among, ends_of, entry_values, first_seen, flat_map, flat_map-map, image, key_cmp, length}
-use Rattle.arranged_county.proofs.Common.{map, map-map, nat_cmp, nodes_at, nodes_in_order, numbered_from, option_map, placed, polygon_among}
-use Rattle.arranged_county.proofs.Common.{polygons_at, polygons_in_order, refl, renaming_of, rights-numbered_from, side_of, sides_among}
-use Rattle.arranged_county.proofs.Common.{sides_of, sym, values, ℕ, ◌<◌, ◌^◌, ◌∙◌, ◌∷◌, ◌≡◌}
-use Rattle.arranged_county.proofs.{Polygons.PolygonOrder.few_polygons, Views.ViewTables.keys_paired, Views.ViewTables.nodes_paired}
-use Rattle.canonical_form.proofs.Common.{renumbered, renumbered_polygon}
+use Rattle.arranged_county.proofs.Common.{AreWhole, Arrangement, Chain, County, DirectedChain, IsCounty, List, None, Option, Ordering, PolygonSide, Some, [], ap, arranged_by, arrangement_of, bodies_read, chains, directed_chain, ends_among, ends_of, entry_values, first_seen, flat_map, flat_map-map, image, key_cmp, length, map, map-map, nat_cmp, nodes_at, nodes_in_order, numbered_from, option_map, placed, polygon_among, polygons_at, polygons_in_order, refl, renaming_of, rights-numbered_from, side_of, sides_among, sides_of, sym, values, ℕ, ◌<◌, ◌^◌, ◌∙◌, ◌∷◌, ◌≡◌}
+use Rattle.arranged_county.proofs.Polygons.PolygonOrder.{few_polygons}
+use Rattle.arranged_county.proofs.Views.ViewTables.{keys_paired, nodes_paired}
+use Rattle.county_chart.specs.Renumbering.{renumbered, renumbered_polygon}
 
 pub same_somes : {X : Type 0} (xs ys : List X) → map Some xs ≡ map Some ys → xs ≡ ys
 same_somes [] [] e = refl

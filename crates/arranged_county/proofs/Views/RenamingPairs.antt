@@ -1,10 +1,8 @@
 -- The pairs of a renaming, one after another.
-use Rattle.arranged_county.proofs.Common.{AreReadAt, Body7, Bool, County, DirectedChain, HasChainsOf, List, Some, [], ap, ap₂, arith}
-use Rattle.arranged_county.proofs.Common.{arranged_tlids, arrangement_of, cond, cons_option, entry_keys, enumerate_from, false, filter}
-use Rattle.arranged_county.proofs.Common.{filter_map, lands, lands_at, length, length-map, map, numbered, numbered_from, range_with_len}
-use Rattle.arranged_county.proofs.Common.{refl, slice_get, suc, tlid_at, tlids, true, turned_tlids, zip, ℕ, ◌+◌, ◌<◌, ◌∙◌, ◌∷◌, ◌≡◌}
-use Rattle.arranged_county.proofs.{Names.NameOrder.filter_map_all, Polygons.PolygonOrder.read_mapped}
-use Rattle.canonical_form.proofs.Common.{slice_get-get_or}
+use Rattle.arranged_county.proofs.Common.{AreReadAt, Body7, Bool, County, DirectedChain, HasChainsOf, List, Some, [], ap, ap₂, arith, arranged_tlids, arrangement_of, cond, cons_option, entry_keys, enumerate_from, false, filter, filter_map, lands, lands_at, length, length-map, map, numbered, numbered_from, range_with_len, refl, slice_get, suc, tlid_at, tlids, true, turned_tlids, zip, ℕ, ◌+◌, ◌<◌, ◌∙◌, ◌∷◌, ◌≡◌}
+use Rattle.arranged_county.proofs.Names.NameOrder.{filter_map_all}
+use Rattle.arranged_county.proofs.Polygons.PolygonOrder.{read_mapped}
+use Rattle.std.proofs.lemmas.Option.{slice_get-get_or}
 
 -- each key beside the next number
 pub zip_numbered : {K : Type 0} (keys : List K) → zip keys (range_with_len 1 (length keys)) ≡ numbered keys

@@ -1,8 +1,7 @@
 -- The numbers from 1.
-use Rattle.arranged_county.proofs.Common.{Some, all_among, among-get, among_known, ap, arith, false, false_from_ne_true, inl, inr}
-use Rattle.arranged_county.proofs.Common.{lt-ltb, ltb-true, nat_cmp, nat_keys, range_with_len, slice_get, contains}
-use Rattle.arranged_county.proofs.Common.{suc, sym, times, true, up_to, zero, ℕ, ◌+◌, ◌-◌, ◌<◌, ◌∙◌, ◌≡◌, ◌≤◌, ◌⊎◌}
-use Rattle.canonical_form.proofs.Common.{known_is_among, range_bounds}
+use Rattle.arranged_county.proofs.Common.{Some, all_among, among-get, among_known, ap, arith, contains, false, false_from_ne_true, inl, inr, lt-ltb, ltb-true, nat_cmp, nat_keys, range_with_len, slice_get, suc, sym, times, true, up_to, zero, ℕ, ◌+◌, ◌-◌, ◌<◌, ◌∙◌, ◌≡◌, ◌≤◌, ◌⊎◌}
+use Rattle.ordered_lists.proofs.Lists.Members.{known_is_among}
+use Rattle.ordered_lists.proofs.Lists.Ranges.{range_bounds}
 
 get_range : (a n p : ℕ) → p < n → slice_get (range_with_len a n) p ≡ Some (a + p)
 get_range a zero p h = absurd (omega (arith, h))

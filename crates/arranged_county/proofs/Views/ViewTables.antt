@@ -1,18 +1,9 @@
 -- Nodes, names, polygons and landmarks of a county in an arrangement, read from its tables.
-use Rattle.arranged_county.proofs.Common.{AreReadAt, distinct-in_order, in_order-permutation, landmarks_in_order, length-map-range_with_len}
-use Rattle.arranged_county.proofs.Common.{AreWhole, Fields8, IsCounty, arranges, link_cmp, links_at, map-map, nat_keys, numbered}
-use Rattle.arranged_county.proofs.Common.{Arrangement, LandmarkTables, MatchesLandmarks, arrangement_of, in_order-weaker, polygons_in_order}
-use Rattle.arranged_county.proofs.Common.{Body5, DirectedChain, IsPermutation, link_part_cmp, names_in_order, nodes_in_order, slice_get-map}
-use Rattle.arranged_county.proofs.Common.{Body7, IsInOrder, link_part, links_with, option_map, read_there, slice_get, then-first, unwrap_or}
-use Rattle.arranged_county.proofs.Common.{County, List, Option, ap₂, arith, feats, lands, length, nat_cmp, subst, up_to}
-use Rattle.arranged_county.proofs.Common.{MatchesNames, [], arranged_by, entry_values, link_bounds, links_up_to, read_nowhere, up_to-strict}
-use Rattle.arranged_county.proofs.Common.{NameTables, PolygonKey, eight_land, length-map, read_length, renaming_of, under_cenid}
-use Rattle.arranged_county.proofs.Common.{None, Some, ap, map, on, suc, sym, ℕ, ◌+◌, ◌-◌, ◌∙◌, ◌∷◌, ◌≡◌}
-use Rattle.canonical_form.proofs.Common.{carried_landmark, carried_name, nodes, nodes_along}
-use Rattle.canonical_form.proofs.Arrangements.Carrying.{feats_arranged, landmarks_arranged, lands_arranged, names_arranged, names_renamed}
-use Rattle.canonical_form.proofs.Arrangements.Carrying.{node_rights, nodes_renamed, paired_nodes, polygons_renamed}
-use Rattle.arranged_county.proofs.Common.{slice_get_within, zero, ◌<◌}
-use Rattle.canonical_form.proofs.Common.{in_order-strict}
+use Rattle.arranged_county.proofs.Common.{AreReadAt, AreWhole, Arrangement, Body5, Body7, County, DirectedChain, Fields8, IsCounty, IsInOrder, IsPermutation, LandmarkTables, List, MatchesLandmarks, MatchesNames, NameTables, None, Option, PolygonKey, Some, [], ap, ap₂, arith, arranged_by, arrangement_of, arranges, distinct-in_order, eight_land, entry_values, feats, in_order-permutation, in_order-weaker, landmarks_in_order, lands, length, length-map, length-map-range_with_len, link_bounds, link_cmp, link_part, link_part_cmp, links_at, links_up_to, links_with, map, map-map, names_in_order, nat_cmp, nat_keys, nodes_in_order, numbered, on, option_map, polygons_in_order, read_length, read_nowhere, read_there, renaming_of, slice_get, slice_get-map, slice_get_within, subst, suc, sym, then-first, under_cenid, unwrap_or, up_to, up_to-strict, zero, ℕ, ◌+◌, ◌-◌, ◌<◌, ◌∙◌, ◌∷◌, ◌≡◌}
+use Rattle.county_chart.specs.Renumbering.{carried_landmark, carried_name}
+use Rattle.county_chart.specs.CountyRules.{nodes, nodes_along}
+use Rattle.canonical_form.proofs.Arrangements.Carrying.{feats_arranged, landmarks_arranged, lands_arranged, names_arranged, names_renamed, node_rights, nodes_renamed, paired_nodes, polygons_renamed}
+use Rattle.ordered_lists.proofs.Lists.EntryLists.{in_order-strict}
 
 -- links in order are in the order of their LANDs
 pub by_land : (links : List Fields8) → IsInOrder link_cmp links → IsInOrder (on eight_land nat_cmp) links

@@ -1,30 +1,16 @@
 -- The arranged county is a county, and all its numbers are canonical for the arrangement's choice.
-use Rattle.canonical_form.proofs.Common.{AllByRecursion, AllContained, AllKeysContained, Among, Arrangement, Arranges, Body7, BodyP}
-use Rattle.canonical_form.proofs.Common.{Carries, Chain, County, Fields8, Grows, HasOneCenidEach, IsApart, IsArranged, IsAscending}
-use Rattle.canonical_form.proofs.Common.{IsCounty, IsInOrder, IsKeyOrder, IsPermutation, IsStrictlySortedBy, IsTrue, Known, List, Option}
-use Rattle.canonical_form.proofs.Common.{Ordering, PolygonKey, Some, [], all-in_order, all_among, all_map, all_uses, all_weaker, among-map}
-use Rattle.canonical_form.proofs.Common.{among-unmap, among_known, ap, apart_from_sorted, ap₂, arith, arranged, arranged_tlids}
-use Rattle.canonical_form.proofs.Common.{carried_landmark, carried_link, carried_name, carried_polygon, contains, each_from, false, feats}
-use Rattle.canonical_form.proofs.Common.{first_seen, image, in_order, in_order-in_order, in_order-is_permutation, in_order-map, inl, inr}
-use Rattle.canonical_form.proofs.Common.{is_eq, is_gt, key_cmp, key_keys, keys_known, known_is_among, landmark_body_cmp, landmark_key}
-use Rattle.canonical_form.proofs.Common.{landmark_key_cmp, landmarks_in_order, lands, length, length-map, link_cmp, link_keys, links_of}
-use Rattle.canonical_form.proofs.Common.{links_relinked, lt-ltb, ltb-true, map, map-map, map_agree, name_key, name_key_cmp, names_in_order}
-use Rattle.canonical_form.proofs.Common.{nat_cmp, nat_keys, new_keys, nodes_along, nodes_in_order, numbered, on, on_total, placed}
-use Rattle.canonical_form.proofs.Common.{polygon_keys, polygons_along, polygons_in_order, position_or_len, refl, relinked, renaming_of}
-use Rattle.canonical_form.proofs.Common.{rights, same_or_not, slice_get, strict_from_order, subst, sym, times, times-no, times-permutation}
-use Rattle.canonical_form.proofs.Common.{times-yes, under_cenid, up_to, uses_of_name, ℕ, ◌∙◌, ◌∷◌, ◌≡◌, ◌≤◌, ◌⊎◌}
+use Rattle.canonical_form.proofs.Common.{AllByRecursion, AllContained, AllKeysContained, Among, Arrangement, Arranges, Body7, BodyP, Carries, Chain, County, Fields8, Grows, HasOneCenidEach, IsApart, IsArranged, IsAscending, IsCounty, IsInOrder, IsKeyOrder, IsPermutation, IsStrictlySortedBy, IsTrue, Known, List, Option, Ordering, PolygonKey, Some, [], all-in_order, all_among, all_map, all_uses, all_weaker, among-map, among-unmap, among_known, ap, apart_from_sorted, ap₂, arith, arranged, arranged_tlids, carried_landmark, carried_link, carried_name, carried_polygon, contains, each_from, false, feats, first_seen, image, in_order, in_order-in_order, in_order-is_permutation, in_order-map, inl, inr, is_eq, is_gt, key_cmp, key_keys, keys_known, known_is_among, landmark_body_cmp, landmark_key, landmark_key_cmp, landmarks_in_order, lands, length, length-map, link_cmp, link_keys, links_of, links_relinked, lt-ltb, ltb-true, map, map-map, map_agree, name_key, name_key_cmp, names_in_order, nat_cmp, nat_keys, new_keys, nodes_along, nodes_in_order, numbered, on, on_total, placed, polygon_keys, polygons_along, polygons_in_order, position_or_len, refl, relinked, renaming_of, rights, same_or_not, slice_get, strict_from_order, subst, sym, times, times-no, times-permutation, times-yes, under_cenid, up_to, uses_of_name, ℕ, ◌∙◌, ◌∷◌, ◌≡◌, ◌≤◌, ◌⊎◌}
 use Rattle.canonical_form.proofs.Sameness.CarriedCounty.{all_carried, carried_closed, carried_whole, feats-turned}
-use Rattle.canonical_form.proofs.Arrangements.Carrying.{arrangement_carries, chains_arranged, feats_arranged, from_placed, keys_arranged}
-use Rattle.canonical_form.proofs.Arrangements.Carrying.{landmarks_arranged, lands_arranged, links_arranged, names_arranged}
-use Rattle.canonical_form.proofs.Arrangements.Carrying.{nodes_along_arranged, nodes_renamed, polygons_arranged, polygons_renamed}
-use Rattle.canonical_form.proofs.Arrangements.Carrying.{polygons_to_placed, tlids_arranged}
+use Rattle.canonical_form.proofs.Arrangements.Carrying.{arrangement_carries, chains_arranged, feats_arranged, from_placed, keys_arranged, landmarks_arranged, lands_arranged, links_arranged, names_arranged, nodes_along_arranged, nodes_renamed, polygons_arranged, polygons_renamed, polygons_to_placed, tlids_arranged}
 use Rattle.canonical_form.proofs.Numbering.FirstSeen.{first_seen-grows, known_within, place_from, to_first_seen}
 use Rattle.canonical_form.proofs.Numbering.NewNumbers.{image-numbered, image-under_cenid}
 use Rattle.canonical_form.proofs.Arrangements.Placed.{chain_count, rights-numbered}
 use Rattle.canonical_form.proofs.Unique.SameLandmarks.{landmark_key_keys, lands_known, links_kept, relanded}
 use Rattle.canonical_form.proofs.Unique.SameNames.{all_uses-all, all_uses-kept, name_key_keys, uses_of-renamed}
 use Rattle.canonical_form.proofs.Unique.SameNumbers.{counted_injective, kept_entry, polygons_along-kept}
-use Rattle.canonical_form.proofs.{Lists.Counting.up_to-strict, Numbering.SeenKeys.found_key, Unique.SameKeys.key_with}
+use Rattle.canonical_form.proofs.Lists.Counting.{up_to-strict}
+use Rattle.canonical_form.proofs.Numbering.SeenKeys.{found_key}
+use Rattle.canonical_form.proofs.Unique.SameKeys.{key_with}
 
 -- different keys have different places
 place-injective : {K : Type 0} {cmp : K → K → Ordering} (o : IsKeyOrder cmp) (i : ℕ) (xs : List K) (k j : K) → Known cmp xs k

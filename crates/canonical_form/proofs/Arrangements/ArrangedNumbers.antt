@@ -1,19 +1,11 @@
 -- The numbers of an arranged county are small, and canonical lists keep the limits of their original lists.
-use Rattle.canonical_form.proofs.Common.{AllByRecursion, Body5, IsCanonicalInView, county-is_county, county-within_limits, greatest_number}
-use Rattle.canonical_form.proofs.Common.{AllKeysContained, IsWithinLimits, [], by_type_within, chain_polygons, option_to_list, packed_by_type}
-use Rattle.canonical_form.proofs.Common.{AllContained, county_counts, length-append, most_records, packed_keeps, packed_sevens, packed_within}
-use Rattle.canonical_form.proofs.Common.{Arrangement, Body7, KeepsLimits, ShowsNoMore, chain_nodes, nodes_along, polygon_keys, range_bounds}
-use Rattle.canonical_form.proofs.Common.{Arranges, IsCounty, all_both, all_known, all_unmap, county_of, key_under, known_all, contains, ℕ}
-use Rattle.canonical_form.proofs.Common.{BodyP, GrowsFrom, HasAtMost, HasWithin, all_weaker, by_type_of, length-map, numbers_of, packed_one}
-use Rattle.canonical_form.proofs.Common.{Carries, IsLeastChoice, IsWithinLimit, arranged_list, by_type_keeps, count_of_type, polygons_along}
-use Rattle.canonical_form.proofs.Common.{Chain, IsTrue, Option, Record, arith, feats, key_on, lands, length, lt-ltb, packed, subst, times}
-use Rattle.canonical_form.proofs.Common.{County, IsView, arranged, flat_map, key_cmp, key_keys, link_key, ltb-true, map, nat_cmp, nat_keys}
-use Rattle.canonical_form.proofs.Common.{FitsRecord, IsAccepted, IsArranged, PolygonKey, all_pieces, packed-fits, packed_five, renaming_of}
-use Rattle.canonical_form.proofs.Common.{List, None, Some, max, suc, sym, tlids, up_to, ◌*◌, ◌+◌, ◌<◌, ◌∷◌, ◌≡◌, ◌≤◌}
+use Rattle.canonical_form.proofs.Common.{AllByRecursion, AllContained, AllKeysContained, Arrangement, Arranges, Body5, Body7, BodyP, Carries, Chain, County, FitsRecord, GrowsFrom, HasAtMost, HasWithin, IsAccepted, IsArranged, IsCanonicalInView, IsCounty, IsLeastChoice, IsTrue, IsView, IsWithinLimit, IsWithinLimits, KeepsLimits, List, None, Option, PolygonKey, Record, ShowsNoMore, Some, [], all_both, all_known, all_pieces, all_unmap, all_weaker, arith, arranged, arranged_list, by_type_keeps, by_type_of, by_type_within, chain_nodes, chain_polygons, contains, count_of_type, county-is_county, county-within_limits, county_counts, county_of, feats, flat_map, greatest_number, key_cmp, key_keys, key_on, key_under, known_all, lands, length, length-append, length-map, link_key, lt-ltb, ltb-true, map, max, most_records, nat_cmp, nat_keys, nodes_along, numbers_of, option_to_list, packed, packed-fits, packed_by_type, packed_five, packed_keeps, packed_one, packed_sevens, packed_within, polygon_keys, polygons_along, range_bounds, renaming_of, subst, suc, sym, times, tlids, up_to, ℕ, ◌*◌, ◌+◌, ◌<◌, ◌∷◌, ◌≡◌, ◌≤◌}
 use Rattle.canonical_form.proofs.Limits.CarriedLimits.{carried_contents, carried_counts, carried_lists}
-use Rattle.canonical_form.proofs.CanonicalLists.{Ascending.sides_in_profile, TidyLists.canonical_is_choice}
+use Rattle.canonical_form.proofs.CanonicalLists.Ascending.{sides_in_profile}
+use Rattle.canonical_form.proofs.CanonicalLists.TidyLists.{canonical_is_choice}
 use Rattle.canonical_form.proofs.Arrangements.SmallNumbers.{IsSmall, IsSmallKey, NamesSmall, NumbersSmall, packed_low, small_numbers_fit}
-use Rattle.canonical_form.proofs.Arrangements.{ArrangedCounties.arranged_county, ArrangedCounties.is_arranged, Carrying.arrangement_carries}
+use Rattle.canonical_form.proofs.Arrangements.ArrangedCounties.{arranged_county, is_arranged}
+use Rattle.canonical_form.proofs.Arrangements.Carrying.{arrangement_carries}
 
 -- numbers that grow are at most as large as the list is long
 grown_bounds : (m : ℕ) (ks : List ℕ) → GrowsFrom m ks → AllByRecursion (λ k. (1 ≤ k) × (k ≤ m + length ks)) ks

@@ -1,19 +1,10 @@
 -- The packing of an arranged county is an arranged list of records.
-use Rattle.canonical_form.proofs.Common.{AllByRecursion, AreFull, AreRecordsInOrder, Body7, Chain, Coordinates, County, Fields2, Fields4}
-use Rattle.canonical_form.proofs.Common.{Fields6, Fields7, IsArranged, IsArrangedList, IsCounty, IsInOrder, IsPacked, IsStrictlySortedBy}
-use Rattle.canonical_form.proofs.Common.{List, Ordering, Ranges, SequencedType, [], all_everywhere, all_weaker, ap, ap₂, arith, by_type_of}
-use Rattle.canonical_form.proofs.Common.{drop, false, filter_map, five_feat, four_rtsq, four_tlid, i_tlid, in_order-from_strict}
-use Rattle.canonical_form.proofs.Common.{in_order-in_order, in_pieces, inner_points, is_gt, landmark_body_cmp, landmark_cmp, length}
-use Rattle.canonical_form.proofs.Common.{length-drop, length-map, length-take, link_cmp, map, map-id, map-map, min, nat_cmp, nat_cmp_total}
-use Rattle.canonical_form.proofs.Common.{of_number, of_type_2, of_type_4, of_type_6, on, on_total, one_tlid, p_polyid, packed}
-use Rattle.canonical_form.proofs.Common.{packed_by_type, packed_five, packed_fours, packed_i, packed_one, packed_p, packed_sevens}
-use Rattle.canonical_form.proofs.Common.{packed_sixes, packed_twos, pieces, refl, rtsqs, seven_land, six_rtsq, six_tlid, subst, suc, sym}
-use Rattle.canonical_form.proofs.Common.{take, then_cmp, two_rtsq, two_tlid, type_after_type, up_to, zero, ℕ, ◌-◌, ◌∙◌, ◌∷◌, ◌≡◌, ◌≤◌}
+use Rattle.canonical_form.proofs.Common.{AllByRecursion, AreFull, AreRecordsInOrder, Body7, Chain, Coordinates, County, Fields2, Fields4, Fields6, Fields7, IsArranged, IsArrangedList, IsCounty, IsInOrder, IsPacked, IsStrictlySortedBy, List, Ordering, Ranges, SequencedType, [], all_everywhere, all_weaker, ap, ap₂, arith, by_type_of, drop, false, filter_map, five_feat, four_rtsq, four_tlid, i_tlid, in_order-from_strict, in_order-in_order, in_pieces, inner_points, is_gt, landmark_body_cmp, landmark_cmp, length, length-drop, length-map, length-take, link_cmp, map, map-id, map-map, min, nat_cmp, nat_cmp_total, of_number, of_type_2, of_type_4, of_type_6, on, on_total, one_tlid, p_polyid, packed, packed_by_type, packed_five, packed_fours, packed_i, packed_one, packed_p, packed_sevens, packed_sixes, packed_twos, pieces, refl, rtsqs, seven_land, six_rtsq, six_tlid, subst, suc, sym, take, then_cmp, two_rtsq, two_tlid, type_after_type, up_to, zero, ℕ, ◌-◌, ◌∙◌, ◌∷◌, ◌≡◌, ◌≤◌}
 use Rattle.canonical_form.proofs.Packing.PackedGroups.{groups_in_order}
-use Rattle.canonical_form.proofs.Packing.PackedNumbers.{contents_made, eights, fives, four_own, fours, links_of_chains, ones}
-use Rattle.canonical_form.proofs.Packing.PackedNumbers.{polygons_packed, rtsqs_counted, rtsqs_ordered, seven_own, sevens, six_own, sixes}
-use Rattle.canonical_form.proofs.Packing.PackedNumbers.{two_own, twos}
-use Rattle.canonical_form.proofs.{Packing.PackedCounty.packed_county, Packing.PackedLinked.packed_linked, Packing.TypeOrder.type_by_type}
+use Rattle.canonical_form.proofs.Packing.PackedNumbers.{contents_made, eights, fives, four_own, fours, links_of_chains, ones, polygons_packed, rtsqs_counted, rtsqs_ordered, seven_own, sevens, six_own, sixes, two_own, twos}
+use Rattle.canonical_form.proofs.Packing.PackedCounty.{packed_county}
+use Rattle.canonical_form.proofs.Packing.PackedLinked.{packed_linked}
+use Rattle.canonical_form.proofs.Packing.TypeOrder.{type_by_type}
 use Rattle.county_chart.specs.declared.fault.SequencedType.TheVariants as sequenced
 use Rattle.canonical_form.proofs.Packing.PackedChains.{in_group}
 

@@ -1,23 +1,10 @@
 -- The renaming of an arrangement carries the county onto the arranged county.
-use Rattle.canonical_form.proofs.Common.{AllByRecursion, AllKeysContained, all_everywhere, among-unpieces, apart-distinct, of_number-among, ℕ}
-use Rattle.canonical_form.proofs.Common.{Among, Body5, Body7, BodyP, Chain, County, IsTrue, Option, length, lt-ltb, nat_cmp, placed, rights}
-use Rattle.canonical_form.proofs.Common.{ArePaired, carried_polygon, chains_in_order, has_repeat-apart, landmark_key_cmp, polygons_in_order}
-use Rattle.canonical_form.proofs.Common.{Arrangement, IsApart, among-unmap, among_known, chain_nodes, nodes_along, under_cenid}
-use Rattle.canonical_form.proofs.Common.{Arranges, IsPermutation, among-pieces, among-turned, carried_chain, nodes_in_order, polygons_along}
-use Rattle.canonical_form.proofs.Common.{Bool, IsKeyOrder, PolygonKey, all_among, all_joined, all_known, entries_of, has_repeat, length-map}
-use Rattle.canonical_form.proofs.Common.{Carries, apart-permutation_of, in_order-is_permutation, known-permutation_to, rights-numbered_from}
-use Rattle.canonical_form.proofs.Common.{IsCounty, List, Ordering, all_uses, among-map, flat_map, in_order, known_all, contains, turned_if}
-use Rattle.canonical_form.proofs.Common.{IsPermutation-map, IsPermutation-sym, among-permutation, apart-permutation, apart_from_sorted, map}
-use Rattle.canonical_form.proofs.Common.{IsPermutation-refl, IsPermutation-trans, carried_landmark, known_from_distinct, landmarks_in_order}
-use Rattle.canonical_form.proofs.Common.{Known, feats, image, lands, lefts, nodes, on, refl, subst, sym, times, tlids, up_to, ◌∙◌, ◌≡◌}
-use Rattle.canonical_form.proofs.Common.{all_map, key_cmp, key_keys, link_cmp, ltb-true, map-map, name_key, nat_keys, new_keys, numbered}
-use Rattle.canonical_form.proofs.Common.{ap, arranged_tlids, chain_polygons, known-distinct, known_is_among, links_relinked, names_in_order}
-use Rattle.canonical_form.proofs.Common.{carried_link, carried_name, images-lefts, landmark_key, name_key_cmp, polygon_keys, turned_tlids}
+use Rattle.canonical_form.proofs.Common.{AllByRecursion, AllKeysContained, Among, ArePaired, Arrangement, Arranges, Body5, Body7, BodyP, Bool, Carries, Chain, County, IsApart, IsCounty, IsKeyOrder, IsPermutation, IsPermutation-map, IsPermutation-refl, IsPermutation-sym, IsPermutation-trans, IsTrue, Known, List, Option, Ordering, PolygonKey, all_among, all_everywhere, all_joined, all_known, all_map, all_uses, among-map, among-permutation, among-pieces, among-turned, among-unmap, among-unpieces, among_known, ap, apart-distinct, apart-permutation, apart-permutation_of, apart_from_sorted, arranged_tlids, carried_chain, carried_landmark, carried_link, carried_name, carried_polygon, chain_nodes, chain_polygons, chains_in_order, contains, entries_of, feats, flat_map, has_repeat, has_repeat-apart, image, images-lefts, in_order, in_order-is_permutation, key_cmp, key_keys, known-distinct, known-permutation_to, known_all, known_from_distinct, known_is_among, landmark_key, landmark_key_cmp, landmarks_in_order, lands, lefts, length, length-map, link_cmp, links_relinked, lt-ltb, ltb-true, map, map-map, name_key, name_key_cmp, names_in_order, nat_cmp, nat_keys, new_keys, nodes, nodes_along, nodes_in_order, numbered, of_number-among, on, placed, polygon_keys, polygons_along, polygons_in_order, refl, rights, rights-numbered_from, subst, sym, times, tlids, turned_if, turned_tlids, under_cenid, up_to, ℕ, ◌∙◌, ◌≡◌}
 use Rattle.canonical_form.proofs.Sameness.CarriedCounty.{nodes-turned, nodes-unturned, polygons-unturned}
 use Rattle.canonical_form.proofs.Numbering.FirstSeen.{first_seen-apart, from_first_seen, to_first_seen}
-use Rattle.canonical_form.proofs.Arrangements.Placed.{arrangement_apart, carried_placed, lefts-numbered, order-permutation, placed_tlids}
-use Rattle.canonical_form.proofs.Arrangements.Placed.{rights-numbered, turned_apart, turned_known}
-use Rattle.canonical_form.proofs.{Lists.Counting.up_to-strict, Unique.SameNumbers.kept_entry, Unique.SameNumbers.nodes_along-kept}
+use Rattle.canonical_form.proofs.Arrangements.Placed.{arrangement_apart, carried_placed, lefts-numbered, order-permutation, placed_tlids, rights-numbered, turned_apart, turned_known}
+use Rattle.canonical_form.proofs.Lists.Counting.{up_to-strict}
+use Rattle.canonical_form.proofs.Unique.SameNumbers.{kept_entry, nodes_along-kept}
 use Rattle.county_chart.specs.Renumbering.{NumbersArePaired}
 use Rattle.canonical_form.specs.Arrangement.{arranged, renaming_of}
 

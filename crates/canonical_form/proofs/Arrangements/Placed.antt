@@ -1,15 +1,8 @@
 -- The chains of an arrangement, in their new order and direction and with their new numbers.
-use Rattle.canonical_form.proofs.Common.{AllByRecursion, Among, Arrangement, Arranges, Bool, Chain, County, IsApart, IsCounty}
-use Rattle.canonical_form.proofs.Common.{IsPermutation, Known, List, Renumbering, [], all_among, all_filter, all_map, all_themselves}
-use Rattle.canonical_form.proofs.Common.{all_weaker, among-map, among-unmap, among_known, ap, apart-permutation, apart_from_sorted, ap₂}
-use Rattle.canonical_form.proofs.Common.{arith, arranged_tlids, carried_chain, chains_in_order, common_steps, contains, each_from}
-use Rattle.canonical_form.proofs.Common.{entries_of, false, false≢true, filter, flat_map, groups-permutation, image, images-lefts}
-use Rattle.canonical_form.proofs.Common.{keys_known, known-permutation, known-permutation_to, known_all, known_is_among}
-use Rattle.canonical_form.proofs.Common.{lefts-numbered_from, length, length-map, lt-ltb, ltb-true, map, map-append, map-map, map_agree_all}
-use Rattle.canonical_form.proofs.Common.{nat_cmp, nat_keys, numbered, numbered_from, of_number-all, one_entry, placed, refl, renumbered}
-use Rattle.canonical_form.proofs.Common.{rights-numbered_from, rules, same_or_not, subst, suc, sym, times, times-cons, times-no, times-yes}
-use Rattle.canonical_form.proofs.Common.{tlids, to_filter, true, turned_if, turned_tlids, turns, up_to, ℕ, ◌++◌, ◌∙◌, ◌∷◌, ◌≡◌, ◌≤◌}
-use Rattle.canonical_form.proofs.{Lists.Counting.entries_equal, Lists.Counting.flat_map-map, Unique.SameNumbers.kept_entry}
+use Rattle.canonical_form.proofs.Common.{AllByRecursion, Among, Arrangement, Arranges, Bool, Chain, County, IsApart, IsCounty, IsPermutation, Known, List, Renumbering, [], all_among, all_filter, all_map, all_themselves, all_weaker, among-map, among-unmap, among_known, ap, apart-permutation, apart_from_sorted, ap₂, arith, arranged_tlids, carried_chain, chains_in_order, common_steps, contains, each_from, entries_of, false, false≢true, filter, flat_map, groups-permutation, image, images-lefts, keys_known, known-permutation, known-permutation_to, known_all, known_is_among, lefts-numbered_from, length, length-map, lt-ltb, ltb-true, map, map-append, map-map, map_agree_all, nat_cmp, nat_keys, numbered, numbered_from, of_number-all, one_entry, placed, refl, renumbered, rights-numbered_from, rules, same_or_not, subst, suc, sym, times, times-cons, times-no, times-yes, tlids, to_filter, true, turned_if, turned_tlids, turns, up_to, ℕ, ◌++◌, ◌∙◌, ◌∷◌, ◌≡◌, ◌≤◌}
+use Rattle.canonical_form.proofs.Lists.Counting.{entries_equal}
+use Rattle.ordered_lists.proofs.Lists.Elements.{flat_map-map}
+use Rattle.canonical_form.proofs.Unique.SameNumbers.{kept_entry}
 use Rattle.std.proofs.lemmas.Bool.{false_from_ne_true}
 use Rattle.canonical_form.proofs.Views.DirectedChains.{alone_under}
 

@@ -1,10 +1,5 @@
 -- A county within its limits is small enough for places of 32 bits.
-use Rattle.canonical_form.proofs.Common.{AllByRecursion, AllKeysContained, Among, BodyP, Chain, County, HasAtMost, IsApart, IsCounty}
-use Rattle.canonical_form.proofs.Common.{IsKeyOrder, IsTrue, IsWithinLimits, List, Option, Ordering, PolygonKey, [], all_weaker}
-use Rattle.canonical_form.proofs.Common.{apart_from_sorted, arith, by_type_of, by_type_within, chain_polygons, few_in_groups, filter}
-use Rattle.canonical_form.proofs.Common.{flat_map, is_eq, key_keys, known_is_among, length, length-map, ltb-true, map, most_records, packed}
-use Rattle.canonical_form.proofs.Common.{packed_by_type, packed_five, packed_one, packed_sevens, polygon_keys, polygons_along, same-itself}
-use Rattle.canonical_form.proofs.Common.{contains, subst, times, to_filter, ℕ, ◌*◌, ◌<◌, ◌^◌, ◌∷◌, ◌≡◌, ◌≤◌}
+use Rattle.canonical_form.proofs.Common.{AllByRecursion, AllKeysContained, Among, BodyP, Chain, County, HasAtMost, IsApart, IsCounty, IsKeyOrder, IsTrue, IsWithinLimits, List, Option, Ordering, PolygonKey, [], all_weaker, apart_from_sorted, arith, by_type_of, by_type_within, chain_polygons, contains, few_in_groups, filter, flat_map, is_eq, key_keys, known_is_among, length, length-map, ltb-true, map, most_records, packed, packed_by_type, packed_five, packed_one, packed_sevens, polygon_keys, polygons_along, same-itself, subst, times, to_filter, ℕ, ◌*◌, ◌<◌, ◌^◌, ◌∷◌, ◌≡◌, ◌≤◌}
 use Rattle.canonical_form.proofs.Arrangements.ArrangedNumbers.{few_landmarks, long_joined, short_joined, two_polygons}
 
 -- the places of chains, names, polygons and landmarks fit into 32 bits

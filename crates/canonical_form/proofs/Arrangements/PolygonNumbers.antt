@@ -1,16 +1,9 @@
 -- Polygons in the order of first appearance are the polygons of the arranged county by number.
-use Rattle.canonical_form.proofs.Common.{AllByRecursion, carried_polygon, entry_polyid, in_order-strict, option_and_then, polygons_in_order}
-use Rattle.canonical_form.proofs.Common.{AllKeysContained, BodyP, IsPermutation, map_agree_all, nat_cmp_total, polygons_along, value-at_place}
-use Rattle.canonical_form.proofs.Common.{Arrangement, entry_values, images-lefts, in_order-map, numbered_from, polygon_under, slice_get-map}
-use Rattle.canonical_form.proofs.Common.{Arranges, IsCounty, arith, arranged, in_order, key_keys, nat_keys, numbered, slice_get, strict-map}
-use Rattle.canonical_form.proofs.Common.{County, IfSome, Option, all_at, image, key_cmp, length, map-map, nat_cmp, on_total, placed, rights}
-use Rattle.canonical_form.proofs.Common.{IsApart, entry_keys, option_map, polygon_keys, renaming_of, under_cenid, under_number, value_under}
-use Rattle.canonical_form.proofs.Common.{IsPermutation-map, IsPermutation-sym, in_order-in_order, polygons_by_number, strict-permutation, ℕ}
-use Rattle.canonical_form.proofs.Common.{IsPermutation-trans, IsStrictlySortedBy, PolygonKey, in_order-is_permutation, in_order-permutation}
-use Rattle.canonical_form.proofs.Common.{List, None, Some, [], ap, lefts, map, on, refl, subst, suc, sym, up_to, zero, ◌+◌, ◌∙◌, ◌∷◌, ◌≡◌}
+use Rattle.canonical_form.proofs.Common.{AllByRecursion, AllKeysContained, Arrangement, Arranges, BodyP, County, IfSome, IsApart, IsCounty, IsPermutation, IsPermutation-map, IsPermutation-sym, IsPermutation-trans, IsStrictlySortedBy, List, None, Option, PolygonKey, Some, [], all_at, ap, arith, arranged, carried_polygon, entry_keys, entry_polyid, entry_values, image, images-lefts, in_order, in_order-in_order, in_order-is_permutation, in_order-map, in_order-permutation, in_order-strict, key_cmp, key_keys, lefts, length, map, map-map, map_agree_all, nat_cmp, nat_cmp_total, nat_keys, numbered, numbered_from, on, on_total, option_and_then, option_map, placed, polygon_keys, polygon_under, polygons_along, polygons_by_number, polygons_in_order, refl, renaming_of, rights, slice_get, slice_get-map, strict-map, strict-permutation, subst, suc, sym, under_cenid, under_number, up_to, value-at_place, value_under, zero, ℕ, ◌+◌, ◌∙◌, ◌∷◌, ◌≡◌}
 use Rattle.canonical_form.proofs.Arrangements.Carrying.{polygon_lefts, polygons_arranged, polygons_permutation, polygons_renamed}
-use Rattle.canonical_form.proofs.{Arrangements.Placed.lefts-numbered, Arrangements.Placed.rights-numbered, Lists.Counting.map-equal_all}
-use Rattle.canonical_form.proofs.{Lists.Counting.up_to-strict, Numbering.FirstSeen.first_seen-apart}
+use Rattle.canonical_form.proofs.Arrangements.Placed.{lefts-numbered, rights-numbered}
+use Rattle.canonical_form.proofs.Lists.Counting.{map-equal_all, up_to-strict}
+use Rattle.canonical_form.proofs.Numbering.FirstSeen.{first_seen-apart}
 use Rattle.ordered_lists.proofs.Lists.Reordered.{all_permuted}
 
 -- numbered elements, read by place

@@ -1,19 +1,9 @@
 -- A canonical list of records is the packing of its county: chains, names and landmarks.
-use Rattle.canonical_form.proofs.Common.{AllByRecursion, AreFull, AreRecordsInOrder, Chain, Coordinates, Fields1, Fields2, Fields4, Fields5}
-use Rattle.canonical_form.proofs.Common.{Fields6, Fields7, FieldsI, IsInOrder, IsLinked, IsPacked, IsStrictlySortedBy, Known, LinkedType}
-use Rattle.canonical_form.proofs.Common.{List, NoChain, Ranges, Record, [], all_known, all_unmap, ap, apart_chains, ap₂, arith, chain_of}
-use Rattle.canonical_form.proofs.Common.{chain_tlids, chains_of, contains, distinct, distinct-strict, five_feat, flat_map, flat_map_agree}
-use Rattle.canonical_form.proofs.Common.{four_rtsq, four_tlid, further_names, i_tlid, in_order, in_order-from_strict, in_order-itself}
-use Rattle.canonical_form.proofs.Common.{in_order-map, in_pieces, known-distinct, landmark_body_cmp, landmark_cmp, landmarks_of, last_point}
-use Rattle.canonical_form.proofs.Common.{length, length-map, linked_tlids, lt-ltb, ltb-true, map, map-append, map-id, map-map}
-use Rattle.canonical_form.proofs.Common.{map_agree_all, names_of, nat_cmp, nat_keys, needed, numbered_from, of_number, of_number-all}
-use Rattle.canonical_form.proofs.Common.{of_type_1, of_type_2, of_type_4, of_type_5, of_type_6, of_type_7, of_type_i, on, one_tlid}
-use Rattle.canonical_form.proofs.Common.{packed_five, packed_fours, packed_i, packed_one, packed_sevens, packed_sixes, packed_twos, refl}
-use Rattle.canonical_form.proofs.Common.{seven_land, shape_points, six_rtsq, six_tlid, strict_from_order, subst, sym, the_link, then_cmp}
-use Rattle.canonical_form.proofs.Common.{times, two_rtsq, two_tlid, up_to, without_last, ℕ, ◌++◌, ◌==◌, ◌∙◌, ◌∷◌, ◌≡◌, ◌≤◌}
-use Rattle.canonical_form.proofs.Lists.Counting.{flat_map-map, up_to-strict}
-use Rattle.canonical_form.proofs.Lists.Grouping.{grouped, in_order-filter, in_order-weaker, parts_in_order, pieces-joined, rtsqs-back}
-use Rattle.canonical_form.proofs.Lists.Grouping.{then-first}
+use Rattle.canonical_form.proofs.Common.{AllByRecursion, AreFull, AreRecordsInOrder, Chain, Coordinates, Fields1, Fields2, Fields4, Fields5, Fields6, Fields7, FieldsI, IsInOrder, IsLinked, IsPacked, IsStrictlySortedBy, Known, LinkedType, List, NoChain, Ranges, Record, [], all_known, all_unmap, ap, apart_chains, ap₂, arith, chain_of, chain_tlids, chains_of, contains, distinct, distinct-strict, five_feat, flat_map, flat_map_agree, four_rtsq, four_tlid, further_names, i_tlid, in_order, in_order-from_strict, in_order-itself, in_order-map, in_pieces, known-distinct, landmark_body_cmp, landmark_cmp, landmarks_of, last_point, length, length-map, linked_tlids, lt-ltb, ltb-true, map, map-append, map-id, map-map, map_agree_all, names_of, nat_cmp, nat_keys, needed, numbered_from, of_number, of_number-all, of_type_1, of_type_2, of_type_4, of_type_5, of_type_6, of_type_7, of_type_i, on, one_tlid, packed_five, packed_fours, packed_i, packed_one, packed_sevens, packed_sixes, packed_twos, refl, seven_land, shape_points, six_rtsq, six_tlid, strict_from_order, subst, sym, the_link, then_cmp, times, two_rtsq, two_tlid, up_to, without_last, ℕ, ◌++◌, ◌==◌, ◌∙◌, ◌∷◌, ◌≡◌, ◌≤◌}
+use Rattle.ordered_lists.proofs.Lists.Elements.{flat_map-map}
+use Rattle.canonical_form.proofs.Lists.Counting.{up_to-strict}
+use Rattle.canonical_form.proofs.Lists.Grouping.{grouped, in_order-weaker, parts_in_order, pieces-joined, rtsqs-back, then-first}
+use Rattle.ordered_lists.proofs.ByKey.KeyedLists.{in_order-filter}
 use Rattle.county_chart.specs.declared.fault.LinkedType.TheVariants.{Four, I, Six, Two}
 use Rattle.county_chart.specs.declared.fault.SequencedType.TheVariants as sequenced
 

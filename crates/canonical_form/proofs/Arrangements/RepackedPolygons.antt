@@ -1,18 +1,9 @@
 -- The type P records of an arranged list are its county's polygons, packed; so the whole list is the packing of its county.
-use Rattle.canonical_form.proofs.Common.{AllByRecursion, Among, AreRecordsInOrder, BodyP, Equal, FieldsP, Greater, IsApart, IsArranged}
-use Rattle.canonical_form.proofs.Common.{IsArrangedList, IsInOrder, IsKeyOrder, IsLinked, IsPacked, IsTrue, Known, Less, List, None, Option}
-use Rattle.canonical_form.proofs.Common.{Ordering, PolygonKey, PolygonTwice, Record, Some, [], all_among, among-map, among-unmap}
-use Rattle.canonical_form.proofs.Common.{among_known, ap, apart-distinct, apart_tail, arith, by_type, contains, county_of, distinct, false}
-use Rattle.canonical_form.proofs.Common.{filter_map, flat_map, from_in_order, in_filter_map, in_order, in_order-in_order, in_order-itself}
-use Rattle.canonical_form.proofs.Common.{inl, inr, is_gt, key_cmp, key_keys, keys-county, known-distinct, known-right, known_all}
-use Rattle.canonical_form.proofs.Common.{known_is_among, link_cmp, ltb-false, ltb-true, map, nat_cmp, nat_cmp_total, nat_keys, of_type_8}
-use Rattle.canonical_form.proofs.Common.{of_type_i, of_type_p, on, on_total, p_key, p_polyid, packed, packed_body, packed_by_type, packed_p}
-use Rattle.canonical_form.proofs.Common.{polygon_body, polygon_keys, polygons_along, polygons_of, refl, side_keys, strict-equal, subst, suc}
-use Rattle.canonical_form.proofs.Common.{sym, times, times-in_order, times-yes, to_filter_map, to_in_order, true≢false, type_after_type, ℕ}
-use Rattle.canonical_form.proofs.Common.{◌++◌, ◌∙◌, ◌∷◌, ◌≡◌, ◌≤◌}
+use Rattle.canonical_form.proofs.Common.{AllByRecursion, Among, AreRecordsInOrder, BodyP, Equal, FieldsP, Greater, IsApart, IsArranged, IsArrangedList, IsInOrder, IsKeyOrder, IsLinked, IsPacked, IsTrue, Known, Less, List, None, Option, Ordering, PolygonKey, PolygonTwice, Record, Some, [], all_among, among-map, among-unmap, among_known, ap, apart-distinct, apart_tail, arith, by_type, contains, county_of, distinct, false, filter_map, flat_map, from_in_order, in_filter_map, in_order, in_order-in_order, in_order-itself, inl, inr, is_gt, key_cmp, key_keys, keys-county, known-distinct, known-right, known_all, known_is_among, link_cmp, ltb-false, ltb-true, map, map-id, map-map, nat_cmp, nat_cmp_total, nat_keys, of_type_8, of_type_i, of_type_p, on, on_total, p_key, p_polyid, packed, packed_body, packed_by_type, packed_p, polygon_body, polygon_keys, polygons_along, polygons_of, refl, side_keys, strict-equal, subst, suc, sym, times, times-in_order, times-yes, to_filter_map, to_in_order, true≢false, type_after_type, ℕ, ◌++◌, ◌∙◌, ◌∷◌, ◌≡◌, ◌≤◌}
 use Rattle.canonical_form.proofs.Arrangements.Repacked.{fives_back, fours_back, is_back, ones_back, sevens_back, sixes_back, twos_back}
-use Rattle.canonical_form.proofs.{Common.map-id, Common.map-map, Packing.PackedNamed.few_packed_keys, Packing.PolygonBodies.body_found}
-use Rattle.canonical_form.proofs.{Packing.PolygonBodies.first_body, Packing.TypeOrder.type_by_type}
+use Rattle.canonical_form.proofs.Packing.PackedNamed.{few_packed_keys}
+use Rattle.canonical_form.proofs.Packing.PolygonBodies.{body_found, first_body}
+use Rattle.canonical_form.proofs.Packing.TypeOrder.{type_by_type}
 use Rattle.std.specs.List.Sorted.{IsStrictlySortedBy}
 
 -- in order by a number, if equal numbers mean equal keys and no key occurs twice

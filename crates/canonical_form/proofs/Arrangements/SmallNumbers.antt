@@ -1,12 +1,5 @@
 -- Numbers up to the greatest one of a canonical list: in a county, and in the records that it is packed into.
-use Rattle.canonical_form.proofs.Common.{AllByRecursion, IsNumberOrNone, all_everywhere, all_numbered_from, chain_polygons, greatest_number}
-use Rattle.canonical_form.proofs.Common.{Body5, Body7, BodyP, Chain, Eight, Option, P, Ranges, Record, Seven, arith, key_on, length, packed}
-use Rattle.canonical_form.proofs.Common.{County, Fields2, Fields4, Fields6, Fields7, Fields8, FieldsP, all_map, nat_cmp, packed_i, packed_p}
-use Rattle.canonical_form.proofs.Common.{FitsNumbers, Five, chain_nodes, inner_points, packed_body, packed_five, packed_fours, packed_sixes}
-use Rattle.canonical_form.proofs.Common.{Four, IsNumber, all_both, all_left, flat_map, in_order, in_pieces, key_under, p_polyid, packed_one}
-use Rattle.canonical_form.proofs.Common.{I, NumbersFit, PolygonKey, all_append, all_joined, all_weaker, filter_map, numbers_of, packed_twos}
-use Rattle.canonical_form.proofs.Common.{List, None, One, Six, Some, Two, map, on, subst, ℕ, ◌+◌, ◌<◌, ◌≡◌, ◌≤◌}
-use Rattle.canonical_form.proofs.Common.{all-in_order, all_in_pieces, all_right, all_selected, numbered_from, option_to_list, packed_sevens}
+use Rattle.canonical_form.proofs.Common.{AllByRecursion, Body5, Body7, BodyP, Chain, County, Eight, Fields2, Fields4, Fields6, Fields7, Fields8, FieldsP, FitsNumbers, Five, Four, I, IsNumber, IsNumberOrNone, List, None, NumbersFit, One, Option, P, PolygonKey, Ranges, Record, Seven, Six, Some, Two, all-in_order, all_append, all_both, all_everywhere, all_in_pieces, all_joined, all_left, all_map, all_numbered_from, all_right, all_selected, all_weaker, arith, chain_nodes, chain_polygons, filter_map, flat_map, greatest_number, in_order, in_pieces, inner_points, key_on, key_under, length, map, nat_cmp, numbered_from, numbers_of, on, option_to_list, p_polyid, packed, packed_body, packed_five, packed_fours, packed_i, packed_one, packed_p, packed_sevens, packed_sixes, packed_twos, subst, ℕ, ◌+◌, ◌<◌, ◌≡◌, ◌≤◌}
 
 abbrev pub IsSmall : ℕ → Type 0
 IsSmall n = (1 ≤ n) × (n ≤ greatest_number)

@@ -1,10 +1,6 @@
 -- Each list of records is accepted or has one refusal. Lists of two accepted lists that are canonical in a view have the same
 -- text if the view shows the same map of both counties, and are equal only then.
-use Rattle.canonical_form.proofs.Common.{AreSame, County, IsView, List, Record, Unlinked, inl, inr, refl, subst, sym, text_of, ◌≡◌, ◌⊎◌}
-use Rattle.canonical_form.proofs.Common.{IsAccepted, IsCounty, IsLinked, IsRefusal, LinkFault, OutOfProfile, ProfileFault, county_of, plain}
-use Rattle.canonical_form.proofs.Common.{IsCanonicalOf, RecordsRefusal, one_first_rule, same-reflexive, same-symmetric, same_in_profile}
-use Rattle.canonical_form.proofs.Common.{IsCanonicalInView, IsFirstBrokenClause, IsFirstBrokenRule, ap, county-is_county, one_first_clause}
-use Rattle.canonical_form.proofs.Common.{IsInProfile, linked_has_none, linked_or_first, profile_has_none, profile_or_first, same-transitive}
+use Rattle.canonical_form.proofs.Common.{AreSame, County, IsAccepted, IsCanonicalInView, IsCanonicalOf, IsCounty, IsFirstBrokenClause, IsFirstBrokenRule, IsInProfile, IsLinked, IsRefusal, IsView, LinkFault, List, OutOfProfile, ProfileFault, Record, RecordsRefusal, Unlinked, ap, county-is_county, county_of, inl, inr, linked_has_none, linked_or_first, one_first_clause, one_first_rule, plain, profile_has_none, profile_or_first, refl, same-reflexive, same-symmetric, same-transitive, same_in_profile, subst, sym, text_of, ◌≡◌, ◌⊎◌}
 use Rattle.canonical_form.proofs.CanonicalLists.TidyLists.{canonical_texts_equal}
 
 pub accepted_or_refused : (records : List Record) → IsAccepted records ⊎ ((refusal : RecordsRefusal) × IsRefusal records refusal)

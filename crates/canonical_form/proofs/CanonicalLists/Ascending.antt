@@ -1,14 +1,9 @@
 -- Counties in the profile: their polygons are on sides, and they have few choices. Each accepted list of records has a canonical
 -- list, the list of a choice of least text.
-use Rattle.canonical_form.proofs.Common.{AllKeysContained, Among, Arrangement, BodyP, County, HasShapesApart, IsAccepted, IsCanonicalInView}
-use Rattle.canonical_form.proofs.Common.{IsCounty, IsInProfile, IsLeastChoice, IsView, IsTrue, List, Option, PolygonKey, Record}
-use Rattle.canonical_form.proofs.Common.{TooSymmetric, all_among, among-unmap, ap, arranged, arranged_list, ascending, body_on_side}
-use Rattle.canonical_form.proofs.Common.{choices, county-is_county, county_of, each_from, inl, inr, is_some, key_cmp, lt-ltb, ltb-false}
-use Rattle.canonical_form.proofs.Common.{most_choices, numbered_choice, or_cases, polygon_keys, polygons_along, renaming_of, contains}
-use Rattle.canonical_form.proofs.Common.{subst, sym, times, true, ◌||◌, ◌∙◌, ◌≡◌, ◌≤◌, ◌⊎◌}
-use Rattle.canonical_form.proofs.CanonicalLists.TidyLists.{canonical_is_choice, choice_is_same, least_choice, least_choice_is_canonical}
-use Rattle.canonical_form.proofs.CanonicalLists.TidyLists.{read_back}
-use Rattle.canonical_form.proofs.{Arrangements.Carrying.arrangement_carries, CanonicalLists.OneChoice.only_choice}
+use Rattle.canonical_form.proofs.Common.{AllKeysContained, Among, Arrangement, BodyP, County, HasShapesApart, IsAccepted, IsCanonicalInView, IsCounty, IsInProfile, IsLeastChoice, IsTrue, IsView, List, Option, PolygonKey, Record, TooSymmetric, all_among, among-unmap, ap, arranged, arranged_list, ascending, body_on_side, choices, contains, county-is_county, county_of, each_from, inl, inr, is_some, key_cmp, lt-ltb, ltb-false, most_choices, numbered_choice, or_cases, polygon_keys, polygons_along, renaming_of, subst, sym, times, true, ◌||◌, ◌∙◌, ◌≡◌, ◌≤◌, ◌⊎◌}
+use Rattle.canonical_form.proofs.CanonicalLists.TidyLists.{canonical_is_choice, choice_is_same, least_choice, least_choice_is_canonical, read_back}
+use Rattle.canonical_form.proofs.Arrangements.Carrying.{arrangement_carries}
+use Rattle.canonical_form.proofs.CanonicalLists.OneChoice.{only_choice}
 
 module _ (county : County) (is : IsCounty county) (profile : IsInProfile county) where
   -- each polygon is on a side

@@ -1,10 +1,10 @@
 -- A county is canonical exactly if its packing is a canonical list.
-use Rattle.canonical_form.proofs.Common.{AllKeysContained, AreSame, Arrangement, County, IsArranged, IsCanonCounty, IsCanonical, IsCounty}
-use Rattle.canonical_form.proofs.Common.{IsLeastChoice, IsNotAfter, IsTidy, IsTidyList, arranged, county-is_county, county_of, packed}
-use Rattle.canonical_form.proofs.Common.{polygon_keys, polygons_along, subst, sym, ◌≡◌}
-use Rattle.canonical_form.proofs.{Arrangements.ArrangedCounties.arranged_county, Arrangements.ArrangedPacking.packed_arranged}
-use Rattle.canonical_form.proofs.{Arrangements.RepackedPolygons.arranged_list_is_packed, CanonicalLists.TidyLists.least_choice_is_canonical}
-use Rattle.canonical_form.proofs.{Packing.PackedCounty.packed_county}
+use Rattle.canonical_form.proofs.Common.{AllKeysContained, AreSame, Arrangement, County, IsArranged, IsCanonCounty, IsCanonical, IsCounty, IsLeastChoice, IsNotAfter, IsTidy, IsTidyList, arranged, county-is_county, county_of, packed, polygon_keys, polygons_along, subst, sym, ◌≡◌}
+use Rattle.canonical_form.proofs.Arrangements.ArrangedCounties.{arranged_county}
+use Rattle.canonical_form.proofs.Arrangements.ArrangedPacking.{packed_arranged}
+use Rattle.canonical_form.proofs.Arrangements.RepackedPolygons.{arranged_list_is_packed}
+use Rattle.canonical_form.proofs.CanonicalLists.TidyLists.{least_choice_is_canonical}
+use Rattle.canonical_form.proofs.Packing.PackedCounty.{packed_county}
 
 pub packed_tidy : (county : County) → IsCounty county → IsArranged county → IsTidy county → IsTidyList (packed county)
 packed_tidy county is form tidy = record {

@@ -1,15 +1,10 @@
 -- If a renaming carries a county onto an arranged county, that county is the first one under the arrangement read off the renaming.
-use Rattle.canonical_form.proofs.Common.{AllByRecursion, AllKeysContained, Arrangement, Arranges, Bool, Carries, County, IsApart, IsArranged}
-use Rattle.canonical_form.proofs.Common.{IsCounty, IsPermutation, IsPermutation-map, IsPermutation-sym, IsPermutation-trans, Known, List}
-use Rattle.canonical_form.proofs.Common.{Renumbering, all_unmap, ap, apart-permutation, apart_from_sorted, arranged, arranged_tlids}
-use Rattle.canonical_form.proofs.Common.{exactly_one, false, false≢true, image, image-known, images-lefts, inverse, known-permutation}
-use Rattle.canonical_form.proofs.Common.{known-permutation_to, known_all, lefts, length, length-map, map, map-id, map-map, map_itself}
-use Rattle.canonical_form.proofs.Common.{nat_cmp, nat_keys, numbered, polygon_keys, polygons_along, refl, renaming_of, rights, contains}
-use Rattle.canonical_form.proofs.Common.{subst, swapped, sym, then, tlids, true, turns, up_to, ℕ, ◌∙◌, ◌≡◌}
+use Rattle.canonical_form.proofs.Common.{AllByRecursion, AllKeysContained, Arrangement, Arranges, Bool, Carries, County, IsApart, IsArranged, IsCounty, IsPermutation, IsPermutation-map, IsPermutation-sym, IsPermutation-trans, Known, List, Renumbering, all_unmap, ap, apart-permutation, apart_from_sorted, arranged, arranged_tlids, contains, exactly_one, false, false≢true, image, image-known, images-lefts, inverse, known-permutation, known-permutation_to, known_all, lefts, length, length-map, map, map-id, map-map, map_itself, nat_cmp, nat_keys, numbered, polygon_keys, polygons_along, refl, renaming_of, rights, subst, swapped, sym, then, tlids, true, turns, up_to, ℕ, ◌∙◌, ◌≡◌}
 use Rattle.canonical_form.proofs.Arrangements.ArrangedCounties.{arranged_county, is_arranged}
 use Rattle.canonical_form.proofs.Arrangements.Carrying.{arrangement_carries, chains_renamed, images-numbered, turned_renamed}
 use Rattle.canonical_form.proofs.Arrangements.Placed.{arrangement_apart, turns_as_stated}
-use Rattle.canonical_form.proofs.{Lists.Counting.map-equal_all, Unique.Rigid.rigid}
+use Rattle.canonical_form.proofs.Lists.Counting.{map-equal_all}
+use Rattle.canonical_form.proofs.Unique.Rigid.{rigid}
 use Rattle.county_chart.proofs.Sameness.Equivalence.{Follows, inverse_carries, inverse_follows, then_carries, then_follows, there_and_back}
 
 both_or_none : (a b : Bool) → exactly_one a b ≡ false → a ≡ b

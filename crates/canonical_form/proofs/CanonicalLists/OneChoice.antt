@@ -1,14 +1,8 @@
 -- If the shapes of chains are distinct, and none is its own reverse, there is one choice: the ascending arrangement.
-use Rattle.canonical_form.proofs.Common.{AllByRecursion, AreSame, Arrangement, Bool, County, HasShapesApart, IsApart, IsArrangedList}
-use Rattle.canonical_form.proofs.Common.{IsCanonical, IsChoice, IsCounty, IsKeyOrder, IsNotAfter, IsStrict, IsStrictlySortedBy, IsTidy}
-use Rattle.canonical_form.proofs.Common.{IsTidyList, Less, List, Ordering, Record, [], all_map, all_weaker, ap, apart_from_no_repeat}
-use Rattle.canonical_form.proofs.Common.{apart_from_sorted, apart_tail, arith, arranged_list, ascending, choices, choices_of_shapes, cond}
-use Rattle.canonical_form.proofs.Common.{county-is_county, county_of, entry_points, entry_shape, false, has_repeat-apart, in_order-strict}
-use Rattle.canonical_form.proofs.Common.{in_order-unmap, is_either_way, is_eq, is_gt, map, map_agree_all, numbered_choice, points_cmp}
-use Rattle.canonical_form.proofs.Common.{points_from, points_keys, refl, reverse, running, same-reflexive, shapes, strict-unmap, subst, suc}
-use Rattle.canonical_form.proofs.Common.{sym, times, times-yes, ◌*◌, ◌<◌, ◌∙◌, ◌∷◌, ◌≡◌}
-use Rattle.canonical_form.proofs.{CanonicalLists.TidyLists.not_after_itself, CanonicalLists.TidyLists.tidy_is_choice}
-use Rattle.canonical_form.proofs.{Choices.LesserDirections.turned_same, Choices.TidyChoices.choice_number, Choices.TidyChoices.first_choice}
+use Rattle.canonical_form.proofs.Common.{AllByRecursion, AreSame, Arrangement, Bool, County, HasShapesApart, IsApart, IsArrangedList, IsCanonical, IsChoice, IsCounty, IsKeyOrder, IsNotAfter, IsStrict, IsStrictlySortedBy, IsTidy, IsTidyList, Less, List, Ordering, Record, [], all_map, all_weaker, ap, apart_from_no_repeat, apart_from_sorted, apart_tail, arith, arranged_list, ascending, choices, choices_of_shapes, cond, county-is_county, county_of, entry_points, entry_shape, false, has_repeat-apart, in_order-strict, in_order-unmap, is_either_way, is_eq, is_gt, map, map_agree_all, numbered_choice, points_cmp, points_from, points_keys, refl, reverse, running, same-reflexive, shapes, strict-unmap, subst, suc, sym, times, times-yes, ◌*◌, ◌<◌, ◌∙◌, ◌∷◌, ◌≡◌}
+use Rattle.canonical_form.proofs.CanonicalLists.TidyLists.{not_after_itself, tidy_is_choice}
+use Rattle.canonical_form.proofs.Choices.LesserDirections.{turned_same}
+use Rattle.canonical_form.proofs.Choices.TidyChoices.{choice_number, first_choice}
 
 running_one : {K : Type 0} {cmp : K → K → Ordering} (o : IsKeyOrder cmp) (either : K → Bool) (ks : List K) → IsApart cmp ks
     → AllByRecursion (λ k. either k ≡ false) ks → running cmp either ks ≡ 1

@@ -1,10 +1,6 @@
 -- Tidy counties that are the same map have the same shapes.
-use Rattle.canonical_form.proofs.Common.{AreSame, Bool, Chain, Coordinates, County, Equal, Greater, IsInOrder, IsTidy, Less, List, Ordering}
-use Rattle.canonical_form.proofs.Common.{Renumbering, SameElements, ap, carried_chain, entry_points, entry_shape, false, false≢true}
-use Rattle.canonical_form.proofs.Common.{from_permutation, in_order-map, is_gt, least_points, least_reverse, map, map-map, map_agree_all}
-use Rattle.canonical_form.proofs.Common.{map_agree_everywhere, on, ordering_reverse, points_cmp, points_from, points_keys, refl, reverse}
-use Rattle.canonical_form.proofs.Common.{same-map, subst, sym, true, turned_if, turns, ℕ, ◌∙◌, ◌≡◌}
-use Rattle.ordered_lists.proofs.Common.{is_lt}
+use Rattle.canonical_form.proofs.Common.{AreSame, Bool, Chain, Coordinates, County, Equal, Greater, IsInOrder, IsTidy, Less, List, Ordering, Renumbering, SameElements, ap, carried_chain, entry_points, entry_shape, false, false≢true, from_permutation, in_order-map, is_gt, least_points, least_reverse, map, map-map, map_agree_all, map_agree_everywhere, on, ordering_reverse, points_cmp, points_from, points_keys, refl, reverse, same-map, subst, sym, true, turned_if, turns, ℕ, ◌∙◌, ◌≡◌}
+use Rattle.std.specs.Ordering.{is_lt}
 
 -- points that don't come after their reverse are their shape
 own_shape : (points : List Coordinates) → is_gt (points_cmp points (reverse points)) ≡ false → points ≡ least_points points

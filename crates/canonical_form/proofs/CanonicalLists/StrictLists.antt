@@ -1,15 +1,12 @@
 -- If the shapes of chains are distinct, and none is its own reverse, canonical lists are strict, and strict lists are canonical.
-use Rattle.canonical_form.proofs.Common.{AllByRecursion, IsAccepted, county-is_county, has_repeat-apart, same-transitive, strict_from_order}
-use Rattle.canonical_form.proofs.Common.{AreAllOnSides, HasShapesApart, IsCounty, SameElements, TooSymmetric, is_either_way, same-symmetric}
-use Rattle.canonical_form.proofs.Common.{AreSame, County, IsView, IsStrict, IsTidy, Memory, Record, all_both, each_from, map-map, reverse}
-use Rattle.canonical_form.proofs.Common.{Chain, all_among, all_unmap, all_weaker, apart-same, county_of, has_repeat, points_cmp, strict-map}
-use Rattle.canonical_form.proofs.Common.{Coordinates, IsInProfile, entry_points, least_points, map, masked_chain, most_choices, points_keys}
-use Rattle.canonical_form.proofs.Common.{IsCanonicalInView, IsStrictInView, IsStrictlyAccepted, PolygonWithoutChain, apart_from_no_repeat}
-use Rattle.canonical_form.proofs.Common.{Less, List, Mask, ap, false, is_gt, masked, nat_lt, plain, refl, shapes, subst, sym, ℕ, ◌≡◌}
+use Rattle.canonical_form.proofs.Common.{AllByRecursion, AreAllOnSides, AreSame, Chain, Coordinates, County, HasShapesApart, IsAccepted, IsCanonicalInView, IsCounty, IsInProfile, IsStrict, IsStrictInView, IsStrictlyAccepted, IsTidy, IsView, Less, List, Mask, Memory, PolygonWithoutChain, Record, SameElements, TooSymmetric, all_among, all_both, all_unmap, all_weaker, ap, apart-same, apart_from_no_repeat, county-is_county, county_of, each_from, entry_points, false, has_repeat, has_repeat-apart, is_either_way, is_gt, least_points, map, map-map, masked, masked_chain, most_choices, nat_lt, plain, points_cmp, points_keys, refl, reverse, same-symmetric, same-transitive, shapes, strict-map, strict_from_order, subst, sym, ℕ, ◌≡◌}
 use Rattle.canonical_form.proofs.CanonicalLists.OneChoice.{one_choice, only_tidy, strict_is_canonical}
 use Rattle.canonical_form.proofs.CanonicalLists.SameShapes.{points_in_order, shapes_carried, tidy_shapes}
-use Rattle.canonical_form.proofs.{CanonicalLists.Accepted.plain_view, CanonicalLists.Ascending.canonical_exists}
-use Rattle.canonical_form.proofs.{CanonicalLists.TidyLists.tidy_of, Lists.Counting.less_from, Masks.MaskedViews.masked_view}
+use Rattle.canonical_form.proofs.CanonicalLists.Accepted.{plain_view}
+use Rattle.canonical_form.proofs.CanonicalLists.Ascending.{canonical_exists}
+use Rattle.canonical_form.proofs.CanonicalLists.TidyLists.{tidy_of}
+use Rattle.canonical_form.proofs.Lists.Counting.{less_from}
+use Rattle.canonical_form.proofs.Masks.MaskedViews.{masked_view}
 
 -- ---- lists that the stricter rules accept are accepted
 

@@ -1,15 +1,14 @@
 -- The tidy lists of a map are the lists of its choices. Some choice has the least text, its list is canonical, and all canonical
 -- lists of one map have the same text.
-use Rattle.canonical_form.proofs.Common.{AllKeysContained, AreSame, Arrangement, Carries, County, IsCanonical, IsChoice, IsCounty}
-use Rattle.canonical_form.proofs.Common.{IsLeastBelow, IsLeastChoice, IsNotAfter, IsTidy, IsTidyList, List, Record, ap, arith, arranged}
-use Rattle.canonical_form.proofs.Common.{arranged_list, bytes_keys, choices, county-is_county, county_of, numbered_choice, order_antisymm}
-use Rattle.canonical_form.proofs.Common.{order_itself, packed, polygon_keys, polygons_along, renaming_of, same-symmetric, same-transitive}
-use Rattle.canonical_form.proofs.Common.{subst, sym, text_of, ℕ, ◌<◌, ◌∙◌, ◌≡◌}
+use Rattle.canonical_form.proofs.Common.{AllKeysContained, AreSame, Arrangement, Carries, County, IsCanonical, IsChoice, IsCounty, IsLeastBelow, IsLeastChoice, IsNotAfter, IsTidy, IsTidyList, List, Record, ap, arith, arranged, arranged_list, bytes_keys, choices, county-is_county, county_of, numbered_choice, order_antisymm, order_itself, packed, polygon_keys, polygons_along, renaming_of, same-symmetric, same-transitive, subst, sym, text_of, ℕ, ◌<◌, ◌∙◌, ◌≡◌}
 use Rattle.canonical_form.proofs.CanonicalLists.EachTidy.{read_arranges, read_makes, read_off}
-use Rattle.canonical_form.proofs.{Arrangements.ArrangedCounties.arranged_county, Arrangements.RepackedPolygons.arranged_list_is_packed}
-use Rattle.canonical_form.proofs.{Arrangements.ArrangedCounties.is_arranged, Arrangements.ArrangedPacking.packed_arranged}
-use Rattle.canonical_form.proofs.{Arrangements.Carrying.arrangement_carries, Choices.TidyChoices.numbered_is_choice}
-use Rattle.canonical_form.proofs.{Choices.Choosing.least_number, Choices.TidyChoices.choice_number, Packing.PackedCounty.packed_county}
+use Rattle.canonical_form.proofs.Arrangements.ArrangedCounties.{arranged_county, is_arranged}
+use Rattle.canonical_form.proofs.Arrangements.RepackedPolygons.{arranged_list_is_packed}
+use Rattle.canonical_form.proofs.Arrangements.ArrangedPacking.{packed_arranged}
+use Rattle.canonical_form.proofs.Arrangements.Carrying.{arrangement_carries}
+use Rattle.canonical_form.proofs.Choices.TidyChoices.{choice_number, numbered_is_choice}
+use Rattle.canonical_form.proofs.Choices.Choosing.{least_number}
+use Rattle.canonical_form.proofs.Packing.PackedCounty.{packed_county}
 
 pub tidy_of : (records : List Record) → IsCanonical records → IsTidyList records
 tidy_of records h = record { in_form = h.in_form; tidy = h.tidy }

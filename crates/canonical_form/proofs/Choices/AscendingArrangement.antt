@@ -1,10 +1,5 @@
 -- All chains in the order of their shapes and places are the ascending arrangement.
-use Rattle.canonical_form.proofs.Common.{AllByRecursion, AreInShapeOrder, Ordering, arrangement_of, get_or_from_slice_get, ordering_reverse}
-use Rattle.canonical_form.proofs.Common.{Bool, County, Equal, Option, ap₂, is_lt, length, nat_cmp, on_total, reverse, subst, tlid_at, tlids}
-use Rattle.canonical_form.proofs.Common.{Chain, along_from, along_shape, entry_shape, least_points, places_below, points_along, points_keys}
-use Rattle.canonical_form.proofs.Common.{DirectedChain, HasChainsOf, IsTotalOrder, comes_turned, directed_cmp, ordering_then, slice_get-map}
-use Rattle.canonical_form.proofs.Common.{Less, List, None, Some, [], ap, map, on, refl, sym, ℕ, ◌<◌, ◌∙◌, ◌∷◌, ◌≡◌}
-use Rattle.canonical_form.proofs.Common.{all_unmap, ascending, chain_at, in_order, option_cmp, option_map, points_cmp, points_of, slice_get}
+use Rattle.canonical_form.proofs.Common.{AllByRecursion, AreInShapeOrder, Bool, Chain, County, DirectedChain, Equal, HasChainsOf, IsTotalOrder, Less, List, None, Option, Ordering, Some, [], all_unmap, along_from, along_shape, ap, ap₂, arrangement_of, ascending, chain_at, comes_turned, directed_cmp, entry_shape, get_or_from_slice_get, in_order, is_lt, least_points, length, map, nat_cmp, on, on_total, option_cmp, option_map, ordering_reverse, ordering_then, places_below, points_along, points_cmp, points_keys, points_of, refl, reverse, slice_get, slice_get-map, subst, sym, tlid_at, tlids, ℕ, ◌<◌, ◌∙◌, ◌∷◌, ◌≡◌}
 use Rattle.canonical_form.proofs.Lists.SortedPlaces.{each_item, item_places, sorted_items}
 use Rattle.canonical_form.proofs.Choices.LesserDirections.{turned_same}
 

@@ -1,12 +1,5 @@
 -- Choices selected by numbers: each number selects a choice, and each choice has a number below the count of choices.
-use Rattle.canonical_form.proofs.Common.{AllByRecursion, IsInOrder, IsPermutation-sym, count-in_order, in_order-in_order, times-permutation}
-use Rattle.canonical_form.proofs.Common.{Bool, Ordering, all_drop, all_take, in_order, known_all, mod_below, nat_keys, times-yes, turned_by}
-use Rattle.canonical_form.proofs.Common.{IsKeyOrder, IsPermutation, IsTotalOrder, in_order-equal, mod-mul-add, order_antisymm, order_itself}
-use Rattle.canonical_form.proofs.Common.{IsPermutation-insert, IsPermutation-map, IsPermutation-trans, div-mul-add, in_order-is_permutation}
-use Rattle.canonical_form.proofs.Common.{Known, all_map, arith, chosen, false, insert, length, map-map, mul-le, nat_cmp, running, times-no}
-use Rattle.canonical_form.proofs.Common.{List, cond, drop, inl, inr, is_eq, is_gt, map, refl, stood, subst, take, times, true, upto, zero}
-use Rattle.canonical_form.proofs.Common.{[], ap, on, suc, sym, ◌%◌, ◌*◌, ◌+◌, ◌/◌, ◌<◌, ◌∙◌, ◌∷◌, ◌≡◌, ◌≤◌, ◌⊎◌}
-use Rattle.canonical_form.proofs.Common.{all_append, all_known, all_unmap, below_more, mul-add-lt, not_greater, same_or_not, tied_itself, ℕ}
+use Rattle.canonical_form.proofs.Common.{AllByRecursion, Bool, IsInOrder, IsKeyOrder, IsPermutation, IsPermutation-insert, IsPermutation-map, IsPermutation-sym, IsPermutation-trans, IsTotalOrder, Known, List, Ordering, [], all_append, all_drop, all_known, all_map, all_take, all_unmap, ap, arith, below_more, chosen, cond, count-in_order, div-mul-add, drop, false, in_order, in_order-equal, in_order-in_order, in_order-is_permutation, inl, inr, insert, is_eq, is_gt, known_all, length, map, map-map, mod-mul-add, mod_below, mul-add-lt, mul-le, nat_cmp, nat_keys, not_greater, on, order_antisymm, order_itself, refl, running, same_or_not, stood, subst, suc, sym, take, tied_itself, times, times-no, times-permutation, times-yes, true, turned_by, upto, zero, ℕ, ◌%◌, ◌*◌, ◌+◌, ◌/◌, ◌<◌, ◌∙◌, ◌∷◌, ◌≡◌, ◌≤◌, ◌⊎◌}
 
 -- keys that occur equally often in two lists
 pub permutation_of_times : {K : Type 0} {cmp : K → K → Ordering} (o : IsKeyOrder cmp) (xs ys : List K)

@@ -1,15 +1,10 @@
 -- Chains in the order of their shapes, moved at their open places, are the choice with a number.
-use Rattle.canonical_form.proofs.Common.{AgreeApart, AllByRecursion, AreInShapeOrder, ArePlacesInOrder, AreWithin, Bool, County}
-use Rattle.canonical_form.proofs.Common.{DirectedChain, HasChainsOf, IsCounty, IsKeyOrder, List, NamesEachOnce, OpenPlace, Ordering, []}
-use Rattle.canonical_form.proofs.Common.{alike_few, ap, arith, arranged_tlids, arrangement_of, chosen, cond, directed_shape, drop, drop-map}
-use Rattle.canonical_form.proofs.Common.{insert, is_either_way, length, length-map, map, map-append, moved, nat_keys, numbered_choice}
-use Rattle.canonical_form.proofs.Common.{open_place_at, open_places, other_way, points_along, points_cmp, points_keys, refl, rules, stood}
-use Rattle.canonical_form.proofs.Common.{subst, suc, sym, take, take-map, times, times-permutation, tlid_at, tlids, turned_by}
-use Rattle.canonical_form.proofs.Common.{turned_directed, zero, ℕ, ◌%◌, ◌++◌, ◌+◌, ◌/◌, ◌<◌, ◌∙◌, ◌∷◌, ◌≡◌, ◌≤◌}
+use Rattle.canonical_form.proofs.Common.{AgreeApart, AllByRecursion, AreInShapeOrder, ArePlacesInOrder, AreWithin, Bool, County, DirectedChain, HasChainsOf, IsCounty, IsKeyOrder, List, NamesEachOnce, OpenPlace, Ordering, [], alike_few, ap, arith, arranged_tlids, arrangement_of, chosen, cond, directed_shape, drop, drop-map, insert, is_either_way, length, length-map, map, map-append, moved, nat_keys, numbered_choice, open_place_at, open_places, other_way, points_along, points_cmp, points_keys, refl, rules, stood, subst, suc, sym, take, take-map, times, times-permutation, tlid_at, tlids, turned_by, turned_directed, zero, ℕ, ◌%◌, ◌++◌, ◌+◌, ◌/◌, ◌<◌, ◌∙◌, ◌∷◌, ◌≡◌, ◌≤◌}
 use Rattle.canonical_form.proofs.Choices.AscendingArrangement.{arrangement_ascend, arrangement_there, shapes_of_order}
 use Rattle.canonical_form.proofs.Choices.FixedPlaces.{insert_count, moved_apart, open_in_order}
 use Rattle.canonical_form.proofs.Choices.TidyChoices.{numbered_is_choice, shapes_ascending, stated_here}
-use Rattle.canonical_form.proofs.{Choices.Choosing.all_insert, Choices.MovedChoice.moved_is}
+use Rattle.canonical_form.proofs.Choices.Choosing.{all_insert}
+use Rattle.canonical_form.proofs.Choices.MovedChoice.{moved_is}
 use Rattle.canonical_form.specs.MovedChains.{IsWithin}
 
 -- a property of elements in either direction is a property of those chosen

@@ -1,9 +1,5 @@
 -- Moves at open places leave the elements at all other places as they are.
-use Rattle.canonical_form.proofs.Common.{AgreeApart, AllByRecursion, ArePlacesInOrder, AreWithin, Bool, Decides, IsPermutation-insert, List}
-use Rattle.canonical_form.proofs.Common.{None, OpenPlace, Ordering, Some, [], all_weaker, ap, arith, cond, drop, false, first_stood, insert}
-use Rattle.canonical_form.proofs.Common.{length, length_permutation, ltb-false, ltb-true, moved, nat_lt, open_places, refl, rules}
-use Rattle.canonical_form.proofs.Common.{slice_get, slice_get_past, suc, sym, take, true, turned_by, zero, ℕ, ◌%◌, ◌++◌, ◌+◌, ◌/◌, ◌<◌, ◌∙◌}
-use Rattle.canonical_form.proofs.Common.{◌∷◌, ◌≡◌, ◌≤◌}
+use Rattle.canonical_form.proofs.Common.{AgreeApart, AllByRecursion, ArePlacesInOrder, AreWithin, Bool, Decides, IsPermutation-insert, List, None, OpenPlace, Ordering, Some, [], all_weaker, ap, arith, cond, drop, false, first_stood, insert, length, length_permutation, ltb-false, ltb-true, moved, nat_lt, open_places, refl, rules, slice_get, slice_get_past, suc, sym, take, true, turned_by, zero, ℕ, ◌%◌, ◌++◌, ◌+◌, ◌/◌, ◌<◌, ◌∙◌, ◌∷◌, ◌≡◌, ◌≤◌}
 use Rattle.canonical_form.specs.MovedChains.{IsApart}
 
 pub nothing_left : {X : Type 0} (xs : List X) → length xs ≡ 0 → xs ≡ []

@@ -1,6 +1,5 @@
 -- The lesser direction of a chain.
-use Rattle.canonical_form.proofs.Common.{Bool, Chain, Coordinates, List, ap, comes_turned, entry_shape, false, is_gt, is_lt, lt_reversed}
-use Rattle.canonical_form.proofs.Common.{points_cmp, points_from, points_keys, refl, reverse, sym, true, turned_if, ℕ, ◌∙◌, ◌≡◌}
+use Rattle.canonical_form.proofs.Common.{Bool, Chain, Coordinates, List, ap, comes_turned, entry_shape, false, is_gt, is_lt, lt_reversed, points_cmp, points_from, points_keys, refl, reverse, sym, true, turned_if, ℕ, ◌∙◌, ◌≡◌}
 
 -- the reverse comes before the points exactly if the points come after it
 pub turned_same : (ps : List Coordinates) → is_lt (points_cmp (reverse ps) ps) ≡ is_gt (points_cmp ps (reverse ps))

@@ -1,8 +1,5 @@
 -- The choice with a number is reached by moving only the elements at open places, from the last place to the first.
-use Rattle.canonical_form.proofs.Common.{Bool, List, OpenPlace, Ordering, [], and_parts, ap, append_assoc, arith, chosen, cond, drop}
-use Rattle.canonical_form.proofs.Common.{drop-append_seam, eqb-true, false, first_stood, length, length-append, map, moved, moved_at, not}
-use Rattle.canonical_form.proofs.Common.{not-true, open_places, refl, stood, suc, sym, take, take-append_seam, times, true, ℕ, ◌&&◌, ◌*◌}
-use Rattle.canonical_form.proofs.Common.{◌++◌, ◌+◌, ◌==◌, ◌∙◌, ◌∷◌, ◌≡◌}
+use Rattle.canonical_form.proofs.Common.{Bool, List, OpenPlace, Ordering, [], and_parts, ap, append_assoc, arith, chosen, cond, drop, drop-append_seam, eqb-true, false, first_stood, length, length-append, map, moved, moved_at, not, not-true, open_places, refl, stood, suc, sym, take, take-append_seam, times, true, ℕ, ◌&&◌, ◌*◌, ◌++◌, ◌+◌, ◌==◌, ◌∙◌, ◌∷◌, ◌≡◌}
 use Rattle.canonical_form.proofs.Choices.Choosing.{stood-digits}
 
 -- the last place is moved first

@@ -1,8 +1,8 @@
 -- All choices of a county are the same map.
-use Rattle.canonical_form.proofs.Common.{AllKeysContained, AreSame, Arrangement, County, IsChoice, IsCounty, arranged, numbered_choice}
-use Rattle.canonical_form.proofs.Common.{polygon_keys, polygons_along, renaming_of, same-symmetric, same-transitive, ℕ}
-use Rattle.canonical_form.proofs.{Arrangements.ArrangedCounties.arranged_county, Arrangements.Carrying.arrangement_carries}
-use Rattle.canonical_form.proofs.{Choices.TidyChoices.numbered_is_choice}
+use Rattle.canonical_form.proofs.Common.{AllKeysContained, AreSame, Arrangement, County, IsChoice, IsCounty, arranged, numbered_choice, polygon_keys, polygons_along, renaming_of, same-symmetric, same-transitive, ℕ}
+use Rattle.canonical_form.proofs.Arrangements.ArrangedCounties.{arranged_county}
+use Rattle.canonical_form.proofs.Arrangements.Carrying.{arrangement_carries}
+use Rattle.canonical_form.proofs.Choices.TidyChoices.{numbered_is_choice}
 
 module _ (county : County) (is : IsCounty county) where
   -- the counties of two choices are the same

@@ -1,19 +1,10 @@
 -- The choices that make a county tidy are those selected by numbers.
-use Rattle.canonical_form.proofs.Common.{AllByRecursion, Among, Arrangement, Arranges, Bool, Chain, Coordinates, County, Equal, Greater}
-use Rattle.canonical_form.proofs.Common.{IsChoice, IsCounty, IsInOrder, IsPermutation, IsPermutation-map, IsPermutation-trans, IsTidy}
-use Rattle.canonical_form.proofs.Common.{Known, Less, List, Ordering, [], all_both, all_map, all_unmap, all_weaker, among-map, among_known}
-use Rattle.canonical_form.proofs.Common.{ap, append-nil, arranged, arranged_tlids, ascending, choices, choices_of_shapes, chosen}
-use Rattle.canonical_form.proofs.Common.{comes_turned, directed_shape, each_from, entries_of, entry_points, entry_shape, false, false≢true}
-use Rattle.canonical_form.proofs.Common.{flat_map, from_in_order, from_permutation, in_order, in_order-in_order, in_order-is_permutation}
-use Rattle.canonical_form.proofs.Common.{in_order-map, in_order-unmap, inl, inr, is_either_way, is_eq, is_gt, is_lt, least_points, map}
-use Rattle.canonical_form.proofs.Common.{map-map, map_agree_all, nat_cmp, nat_keys, not, on, on_total, order_antisymm, placed, points_cmp}
-use Rattle.canonical_form.proofs.Common.{points_from, points_keys, refl, renaming_of, reverse, reverse-reverse, rights-numbered_from}
-use Rattle.canonical_form.proofs.Common.{running, running-same, same-itself, same-true, shapes, subst, sym, times-permutation, tlids, true}
-use Rattle.canonical_form.proofs.Common.{turned_directed, turned_if, ℕ, ◌++◌, ◌<◌, ◌∙◌, ◌∷◌, ◌≡◌, ◌⊎◌}
+use Rattle.canonical_form.proofs.Common.{AllByRecursion, Among, Arrangement, Arranges, Bool, Chain, Coordinates, County, Equal, Greater, IsChoice, IsCounty, IsInOrder, IsPermutation, IsPermutation-map, IsPermutation-trans, IsTidy, Known, Less, List, Ordering, [], all_both, all_map, all_unmap, all_weaker, among-map, among_known, ap, append-nil, arranged, arranged_tlids, ascending, choices, choices_of_shapes, chosen, comes_turned, directed_shape, each_from, entries_of, entry_points, entry_shape, false, false≢true, flat_map, from_in_order, from_permutation, in_order, in_order-in_order, in_order-is_permutation, in_order-map, in_order-unmap, inl, inr, is_either_way, is_eq, is_gt, is_lt, least_points, map, map-map, map_agree_all, nat_cmp, nat_keys, not, on, on_total, order_antisymm, placed, points_cmp, points_from, points_keys, refl, renaming_of, reverse, reverse-reverse, rights-numbered_from, running, running-same, same-itself, same-true, shapes, subst, sym, times-permutation, tlids, true, turned_directed, turned_if, ℕ, ◌++◌, ◌<◌, ◌∙◌, ◌∷◌, ◌≡◌, ◌⊎◌}
 use Rattle.canonical_form.proofs.Choices.LesserDirections.{shape_turned, turned_same}
 use Rattle.canonical_form.proofs.Choices.Choosing.{IsChosen, choice_has_number, chosen_is_choice, first_stated, permutation_of_times}
 use Rattle.canonical_form.proofs.Arrangements.Placed.{arrangement_known, one_chain}
-use Rattle.canonical_form.proofs.{Arrangements.Carrying.chains_arranged, Unique.SameNumbers.kept_entry}
+use Rattle.canonical_form.proofs.Arrangements.Carrying.{chains_arranged}
+use Rattle.canonical_form.proofs.Unique.SameNumbers.{kept_entry}
 use Rattle.canonical_form.specs.Tidy.{numbered_choice}
 use Rattle.canonical_form.proofs.Views.DirectedChains.{alone_under}
 

@@ -1,18 +1,8 @@
 -- A renaming that carries keeps a county's limits: its contents fit, its lists fit into their records, and it takes as many records
 -- of each type.
-use Rattle.canonical_form.proofs.Common.{AllByRecursion, Body5, Body7, BodyP, Bool, Carries, Chain, ContentsFit, Coordinates, County}
-use Rattle.canonical_form.proofs.Common.{FitsChain, FitsLandmark, FitsLink, FitsNameBody, FitsPolygon, HasAsMany, HasWithin, IfSome}
-use Rattle.canonical_form.proofs.Common.{IsPermutation, IsPermutation-reverse, IsText, List, ListsFit, None, Option, PolygonKey}
-use Rattle.canonical_form.proofs.Common.{Renumbering, Some, [], all_map, all_weaker, ap, arith, body_turned_fits, carried_chain}
-use Rattle.canonical_form.proofs.Common.{carried_landmark, carried_link, carried_name, carried_polygon, common_steps, drop, false}
-use Rattle.canonical_form.proofs.Common.{filter_map, flat_map, image, image-keeps, in_pieces, inner_points, length, length-drop}
-use Rattle.canonical_form.proofs.Common.{length-in_order, length-map, length-numbered_from, length-reverse, length_permutation}
-use Rattle.canonical_form.proofs.Common.{link_content_turned, map, nat_cmp, packed_by_type, packed_five, packed_fours, packed_i, packed_one}
-use Rattle.canonical_form.proofs.Common.{packed_p, packed_sevens, packed_sixes, packed_twos, pieces, ranges_turned_fit, refl, renumbered}
-use Rattle.canonical_form.proofs.Common.{renumbered_polygon, reverse, rules, subst, suc, sum_by, sum_by-IsPermutation, sum_by-cons, sym}
-use Rattle.canonical_form.proofs.Common.{true, turned_if, turned_ranges, turns, without_last, zero, ℕ, ◌-◌, ◌∙◌, ◌∷◌, ◌≡◌, ◌≤◌}
+use Rattle.canonical_form.proofs.Common.{AllByRecursion, Body5, Body7, BodyP, Bool, Carries, Chain, ContentsFit, Coordinates, County, FitsChain, FitsLandmark, FitsLink, FitsNameBody, FitsPolygon, HasAsMany, HasWithin, IfSome, IsPermutation, IsPermutation-reverse, IsText, List, ListsFit, None, Option, PolygonKey, Renumbering, Some, [], all_map, all_permuted, all_weaker, ap, arith, body_turned_fits, carried_chain, carried_landmark, carried_link, carried_name, carried_polygon, common_steps, drop, false, filter_map, flat_map, image, image-keeps, in_pieces, inner_points, length, length-drop, length-in_order, length-map, length-numbered_from, length-reverse, length_permutation, link_content_turned, map, nat_cmp, packed_by_type, packed_five, packed_fours, packed_i, packed_one, packed_p, packed_sevens, packed_sixes, packed_twos, pieces, ranges_turned_fit, refl, renumbered, renumbered_polygon, reverse, rules, subst, suc, sum_by, sum_by-IsPermutation, sum_by-cons, sym, true, turned_if, turned_ranges, turns, without_last, zero, ℕ, ◌-◌, ◌∙◌, ◌∷◌, ◌≡◌, ◌≤◌}
 use Rattle.std.proofs.lemmas.List.Concat.{length-flat_map}
-use Rattle.canonical_form.proofs.{Common.all_permuted, Sameness.CarriedCounty.all_carried}
+use Rattle.canonical_form.proofs.Sameness.CarriedCounty.{all_carried}
 
 all_reversed : {X : Type 0} (Q : X → Type 0) (xs : List X) → AllByRecursion Q xs → AllByRecursion Q (reverse xs)
 all_reversed Q xs a = all_permuted Q xs (reverse xs) (IsPermutation-reverse xs) a

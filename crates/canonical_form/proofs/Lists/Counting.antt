@@ -1,10 +1,6 @@
 -- Lists that count from a number: they ascend, and lists with the same length are equal.
-use Rattle.canonical_form.proofs.Common.{AllByRecursion, AllWithin, Bool, Decides, Equal, Greater, HoldsAt, IsStrictlySortedBy, Less, List}
-use Rattle.canonical_form.proofs.Common.{MatchBool, Ordering, [], arith, false, false≢true, get_or-range_with_len, is_eq, is_gt, length}
-use Rattle.canonical_form.proofs.Common.{length-range_with_len, ltb-false, ltb-true, map, nat_cmp, nat_lt, range_strict, range_with_len}
-use Rattle.canonical_form.proofs.Common.{refl, subst, sym, true, true≢false, up_to, ℕ, ◌+◌, ◌-◌, ◌<◌, ◌∙◌, ◌∷◌, ◌≡◌, ◌≤◌}
+use Rattle.canonical_form.proofs.Common.{AllByRecursion, AllWithin, Bool, Decides, Equal, Greater, HoldsAt, IsStrictlySortedBy, Less, List, MatchBool, Ordering, [], arith, false, false≢true, get_or-range_with_len, is_eq, is_gt, length, length-range_with_len, ltb-false, ltb-true, map, nat_cmp, nat_lt, range_strict, range_with_len, refl, subst, sym, true, true≢false, up_to, ℕ, ◌+◌, ◌-◌, ◌<◌, ◌∙◌, ◌∷◌, ◌≡◌, ◌≤◌}
 use Rattle.ordered_lists.proofs.Lists.EntryLists.{entries-equal}
-pub use Rattle.ordered_lists.proofs.Lists.Elements.{flat_map-map}
 
 -- a comparison that finds neither greater nor equal
 pub less_from : (o : Ordering) → is_gt o ≡ false → is_eq o ≡ false → o ≡ Less

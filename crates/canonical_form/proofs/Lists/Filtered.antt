@@ -1,6 +1,5 @@
 -- The elements of a list that pass a test.
-use Rattle.canonical_form.proofs.Common.{AllByRecursion, Bool, List, [], ap, arith, cases_eq, common_steps, cond, eq-eqb, filter, inl, inr}
-use Rattle.canonical_form.proofs.Common.{map, ne_eqb, refl, sym, ℕ, ◌&&◌, ◌==◌, ◌∙◌, ◌∷◌, ◌≡◌, ◌⊎◌}
+use Rattle.canonical_form.proofs.Common.{AllByRecursion, Bool, List, [], ap, arith, cases_eq, common_steps, cond, eq-eqb, filter, inl, inr, map, ne_eqb, refl, sym, ℕ, ◌&&◌, ◌==◌, ◌∙◌, ◌∷◌, ◌≡◌, ◌⊎◌}
 
 -- of a mapped list
 pub filter-mapped : {X Y : Type 0} (p : Y → Bool) (f : X → Y) (xs : List X) → filter p (map f xs) ≡ map f (filter (λ x. p (f x)) xs)

@@ -1,12 +1,6 @@
 -- A list that ascends by a number is its elements number by number; and a list in pieces is joined again.
-use Rattle.canonical_form.proofs.Common.{AllByRecursion, AreFull, Equal, Greater, IsInOrder, Known, Less, List, MatchOrdering, Ordering, []}
-use Rattle.canonical_form.proofs.Common.{add-one, all_weaker, ap, append-nil, ap₂, arith, cond, drop, drop-append_seam, drop_all, eq-eqb}
-use Rattle.canonical_form.proofs.Common.{false, false≢true, flat_map, inl, inr, is_eq, is_gt, known_all, known_cases, length, length-append}
-use Rattle.canonical_form.proofs.Common.{map, nat_cmp, nat_cmp_total, nat_keys, ne_eqb, numbered_from, of_number, on, ordering_then, pieces}
-use Rattle.canonical_form.proofs.Common.{range_with_len, ranked, refl, subst, suc, sym, take, take-append_seam, take_all, tied_itself, zero}
-use Rattle.canonical_form.proofs.Common.{ℕ, ◌++◌, ◌+◌, ◌<◌, ◌∙◌, ◌∷◌, ◌≡◌, ◌≤◌, ◌⊎◌}
+use Rattle.canonical_form.proofs.Common.{AllByRecursion, AreFull, Equal, Greater, IsInOrder, Known, Less, List, MatchOrdering, Ordering, [], add-one, all_weaker, ap, append-nil, ap₂, arith, cond, drop, drop-append_seam, drop_all, eq-eqb, false, false≢true, flat_map, inl, inr, is_eq, is_gt, known_all, known_cases, length, length-append, map, nat_cmp, nat_cmp_total, nat_keys, ne_eqb, numbered_from, of_number, on, ordering_then, pieces, range_with_len, ranked, refl, subst, suc, sym, take, take-append_seam, take_all, tied_itself, zero, ℕ, ◌++◌, ◌+◌, ◌<◌, ◌∙◌, ◌∷◌, ◌≡◌, ◌≤◌, ◌⊎◌}
 use Rattle.std.specs.List.Sorted.{IsStrictlySortedBy}
-pub use Rattle.ordered_lists.proofs.ByKey.KeyedLists.{in_order-filter}
 
 below : (m n : ℕ) → nat_cmp m n ≡ Less → m < n
 below m n e = ranked m n Less (sym e)

@@ -1,7 +1,5 @@
 -- Lists read by place, and parts of lists.
-use Rattle.canonical_form.proofs.Common.{Equal, Greater, Less, List, None, Option, Ordering, Some, [], ap, arith, drop, length, length-drop}
-use Rattle.canonical_form.proofs.Common.{length-take, map, min, ordering_then, refl, slice_get, suc, sym, take, zero, ℕ, ◌++◌, ◌+◌, ◌<◌}
-use Rattle.canonical_form.proofs.Common.{◌∙◌, ◌∷◌, ◌≡◌, ◌≤◌}
+use Rattle.canonical_form.proofs.Common.{Equal, Greater, Less, List, None, Option, Ordering, Some, [], ap, arith, drop, length, length-drop, length-take, map, min, ordering_then, refl, slice_get, suc, sym, take, zero, ℕ, ◌++◌, ◌+◌, ◌<◌, ◌∙◌, ◌∷◌, ◌≡◌, ◌≤◌}
 
 pub some-same : {X : Type 0} (o : Option X) (x y : X) → Some x ≡ o → o ≡ Some y → x ≡ y
 some-same o x y e f = cc

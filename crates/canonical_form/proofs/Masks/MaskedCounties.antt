@@ -1,12 +1,9 @@
 -- Counties under a mask: a mask that leaves nothing out changes nothing, masking twice is masking once, and a county that a mask
 -- doesn't change is carried onto one that it doesn't change.
-use Rattle.canonical_form.proofs.Common.{AllByRecursion, Body7, Bool, Carries, Chain, County, List, Mask, Renumbering, [], all-in_order}
-use Rattle.canonical_form.proofs.Common.{all_everywhere, all_map, ap, carried_chain, carried_landmark, cond, false, in_order}
-use Rattle.canonical_form.proofs.Common.{in_order-in_order, in_order-itself, landmark_body_cmp, landmark_body_keys, map, map-id}
-use Rattle.canonical_form.proofs.Common.{map_agree_all, map_itself, map_values, masked, masked_bodies, masked_body_7, masked_chain, no_mask}
-use Rattle.canonical_form.proofs.Common.{refl, renumbered, rules, sym, true, turned_if, ℕ, ◌∙◌, ◌∙◌, ◌∷◌, ◌≡◌}
+use Rattle.canonical_form.proofs.Common.{AllByRecursion, Body7, Bool, Carries, Chain, County, List, Mask, Renumbering, [], all-in_order, all_everywhere, all_map, ap, carried_chain, carried_landmark, cond, false, in_order, in_order-in_order, in_order-itself, landmark_body_cmp, landmark_body_keys, map, map-id, map_agree_all, map_itself, map_values, masked, masked_bodies, masked_body_7, masked_chain, no_mask, refl, renumbered, rules, sym, true, turned_if, ℕ, ◌∙◌, ◌∷◌, ◌≡◌}
 use Rattle.tl_layout.specs.Laws.MaskLaws.{masked_twice_1, masked_twice_7, masked_twice_i}
-use Rattle.canonical_form.proofs.{Lists.Counting.map-equal_all, Sameness.CarriedCounty.all_carried}
+use Rattle.canonical_form.proofs.Lists.Counting.{map-equal_all}
+use Rattle.canonical_form.proofs.Sameness.CarriedCounty.{all_carried}
 
 -- a mask that leaves nothing out changes nothing
 pub masked_by_none : (county : County) → masked no_mask county ≡ county

@@ -1,12 +1,6 @@
 -- The profile and the order of chains by their shapes don't depend on anything that a mask leaves out.
-use Rattle.canonical_form.proofs.Common.{AreInShapeOrder, Chain, Coordinates, County, DirectedChain, IsInOrder, IsInProfile, IsPermutation}
-use Rattle.canonical_form.proofs.Common.{IsShapeOrder, List, Mask, Memory, OrderOfShapes, PolygonWithoutChain, ProfileFault, TooSymmetric}
-use Rattle.canonical_form.proofs.Common.{along_from, along_shape, along_shapes, ap, chain_count_masked, choices, choices_of_shapes}
-use Rattle.canonical_form.proofs.Common.{directed_cmp, has_body, is_clause_broken, is_either_way, key_cmp, least_points, length, map}
-use Rattle.canonical_form.proofs.Common.{map-map, masked, masked_chain, min, most_choices, nat_cmp, nat_lt, not, open_places, ordering_then}
-use Rattle.canonical_form.proofs.Common.{points_along, points_at, points_cmp, points_from, points_masked, range_with_len, refl, reverse}
-use Rattle.canonical_form.proofs.Common.{running, sides_masked, contains, subst, suc, sym, ℕ, ◌&&◌, ◌∙◌, ◌≡◌, ◌≤◌}
-use Rattle.ordered_lists.proofs.Common.{is_lt}
+use Rattle.canonical_form.proofs.Common.{AreInShapeOrder, Chain, Coordinates, County, DirectedChain, IsInOrder, IsInProfile, IsPermutation, IsShapeOrder, List, Mask, Memory, OrderOfShapes, PolygonWithoutChain, ProfileFault, TooSymmetric, along_from, along_shape, along_shapes, ap, chain_count_masked, choices, choices_of_shapes, contains, directed_cmp, has_body, is_clause_broken, is_either_way, key_cmp, least_points, length, map, map-map, masked, masked_chain, min, most_choices, nat_cmp, nat_lt, not, open_places, ordering_then, points_along, points_at, points_cmp, points_from, points_masked, range_with_len, refl, reverse, running, sides_masked, subst, suc, sym, ℕ, ◌&&◌, ◌∙◌, ◌≡◌, ◌≤◌}
+use Rattle.std.specs.Ordering.{is_lt}
 
 module _ (mask : Mask) (county : County) where
   abbrev mask_entry : ℕ × Chain → ℕ × Chain

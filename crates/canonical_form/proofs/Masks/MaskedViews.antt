@@ -1,7 +1,7 @@
 -- Each mask is a view, and never takes more records than the whole county.
-use Rattle.canonical_form.proofs.Common.{HasWithin, IsView, Mask, ShowsNoMore, arith, by_type_of, counts_masked, masked, packed, subst, ℕ}
-use Rattle.canonical_form.proofs.Common.{by_type_keeps, count_of_type, masked_is_county, masked_within_limits, packed_by_type, packed_keeps}
-use Rattle.canonical_form.proofs.Masks.{MaskedCounties.carried_masked, MaskedCounties.masked_twice, MaskedProfile.masked_in_profile}
+use Rattle.canonical_form.proofs.Common.{HasWithin, IsView, Mask, ShowsNoMore, arith, by_type_keeps, by_type_of, count_of_type, counts_masked, masked, masked_is_county, masked_within_limits, packed, packed_by_type, packed_keeps, subst, ℕ}
+use Rattle.canonical_form.proofs.Masks.MaskedCounties.{carried_masked, masked_twice}
+use Rattle.canonical_form.proofs.Masks.MaskedProfile.{masked_in_profile}
 
 pub masked_view : (mask : Mask) → IsView (masked mask)
 masked_view mask = record {

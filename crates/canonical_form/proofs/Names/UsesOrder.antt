@@ -1,8 +1,5 @@
 -- Uses of names: each occurs once in the list of all uses, and a name's uses are those under its FEAT.
-use Rattle.canonical_form.proofs.Common.{AllByRecursion, Among, Chain, IsKeyOrder, Less, List, Use, [], all_among, all_uses, among-map}
-use Rattle.canonical_form.proofs.Common.{among-unmap, ap, arith, eq-eqb, filter, less, map, nat_cmp, nat_cmp_total, nat_keys, of_number-all}
-use Rattle.canonical_form.proofs.Common.{of_number-among, ordering_then, pair_keys, refl, subst, suc, sym, tied_itself, to_filter, use_cmp}
-use Rattle.canonical_form.proofs.Common.{uses_from, uses_of_name, ℕ, ◌++◌, ◌<◌, ◌==◌, ◌∙◌, ◌∷◌, ◌≡◌}
+use Rattle.canonical_form.proofs.Common.{AllByRecursion, Among, Chain, IsKeyOrder, Less, List, Use, [], all_among, all_uses, among-map, among-unmap, ap, arith, eq-eqb, filter, less, map, nat_cmp, nat_cmp_total, nat_keys, of_number-all, of_number-among, ordering_then, pair_keys, refl, subst, suc, sym, tied_itself, to_filter, use_cmp, uses_from, uses_of_name, ℕ, ◌++◌, ◌<◌, ◌==◌, ◌∙◌, ◌∷◌, ◌≡◌}
 use Rattle.std.specs.List.Sorted.{IsStrictlySortedBy}
 
 pub use_keys : IsKeyOrder use_cmp

@@ -1,9 +1,5 @@
 -- Keys in the order of their first occurrence: each occurs once, the members are the same, and the numbers grow along the keys.
-use Rattle.canonical_form.proofs.Common.{Bool, Known, List, Ordering, arith, false, is_eq, lt-ltb, ltb-true, nat_lt, subst, times, times-no}
-use Rattle.canonical_form.proofs.Common.{Grows, any-contains, append_assoc, first_seen_after, known-append, length-append, position_or_len}
-use Rattle.canonical_form.proofs.Common.{GrowsFrom, append-nil, first_seen, known-here, known-left, length, ltb-false, contains, times-yes}
-use Rattle.canonical_form.proofs.Common.{IsApart, IsKeyOrder, known-later, known-right, known_cases, same-itself, same_or_not, times-append}
-use Rattle.canonical_form.proofs.Common.{[], ap, cond, inl, inr, map, max, not, refl, sym, true, ℕ, ◌++◌, ◌+◌, ◌<◌, ◌∙◌, ◌∷◌, ◌≡◌, ◌≤◌, ◌⊎◌}
+use Rattle.canonical_form.proofs.Common.{Bool, Grows, GrowsFrom, IsApart, IsKeyOrder, Known, List, Ordering, [], any-contains, ap, append-nil, append_assoc, arith, cond, contains, false, first_seen, first_seen_after, inl, inr, is_eq, known-append, known-here, known-later, known-left, known-right, known_cases, length, length-append, lt-ltb, ltb-false, ltb-true, map, max, nat_lt, not, position_or_len, refl, same-itself, same_or_not, subst, sym, times, times-append, times-no, times-yes, true, ℕ, ◌++◌, ◌+◌, ◌<◌, ◌∙◌, ◌∷◌, ◌≡◌, ◌≤◌, ◌⊎◌}
 use Rattle.canonical_form.proofs.Numbering.FoundPlaces.{any_within, first_stays, none_at_end, place_behind}
 
 module _ {K : Type 0} {cmp : K → K → Ordering} (o : IsKeyOrder cmp) where

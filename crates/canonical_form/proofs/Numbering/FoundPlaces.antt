@@ -1,7 +1,5 @@
 -- The place of the first element of a list that passes a test.
-use Rattle.canonical_form.proofs.Common.{Bool, List, None, Some, [], ap, arith, cond, cond_some, false, length, length-append, list_any}
-use Rattle.canonical_form.proofs.Common.{lt-ltb, ltb-true, nat_lt, not, position, position_or_len, refl, suc, sym, true, ℕ, ◌++◌, ◌+◌, ◌<◌}
-use Rattle.canonical_form.proofs.Common.{◌||◌, ◌∙◌, ◌∷◌, ◌≡◌, ◌≤◌}
+use Rattle.canonical_form.proofs.Common.{Bool, List, None, Some, [], ap, arith, cond, cond_some, false, length, length-append, list_any, lt-ltb, ltb-true, nat_lt, not, position, position_or_len, refl, suc, sym, true, ℕ, ◌++◌, ◌+◌, ◌<◌, ◌||◌, ◌∙◌, ◌∷◌, ◌≡◌, ◌≤◌}
 
 module _ {X : Type 0} (p : X → Bool) where
   pub first_stays : (xs ys : List X) → position_or_len p xs < length xs → position_or_len p (xs ++ ys) ≡ position_or_len p xs

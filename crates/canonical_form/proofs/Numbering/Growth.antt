@@ -1,6 +1,5 @@
 -- Numbers by first appearance are determined: two such numberings of one list of keys are equal if they distinguish the same keys.
-use Rattle.canonical_form.proofs.Common.{AllByRecursion, Grows, GrowsFrom, List, [], arith, cases_lt, inl, inr, map, max, subst, sym, ℕ}
-use Rattle.canonical_form.proofs.Common.{◌+◌, ◌<◌, ◌∙◌, ◌∷◌, ◌≡◌, ◌≤◌, ◌⊎◌}
+use Rattle.canonical_form.proofs.Common.{AllByRecursion, Grows, GrowsFrom, List, [], arith, cases_lt, inl, inr, map, max, subst, sym, ℕ, ◌+◌, ◌<◌, ◌∙◌, ◌∷◌, ◌≡◌, ◌≤◌, ◌⊎◌}
 
 module _ {K : Type 0} (f g : K → ℕ) (Dom : K → Type 0)
     (forth : (k j : K) → Dom k → Dom j → f k ≡ f j → g k ≡ g j)

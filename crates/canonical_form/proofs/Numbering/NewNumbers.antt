@@ -1,8 +1,5 @@
 -- The new number of a key is its place, counted from 1: images under numbered keys.
-use Rattle.canonical_form.proofs.Common.{Bool, IsKeyOrder, Known, List, None, Ordering, PolygonKey, Some, [], ap, ap₂, arith, cond}
-use Rattle.canonical_form.proofs.Common.{cond_some, false, image, is_eq, key_cmp, key_keys, length, ltb-false, ltb-true, map, map-map}
-use Rattle.canonical_form.proofs.Common.{nat_cmp, nat_keys, nat_lt, not, numbered, numbered_from, position, position_or_len, refl}
-use Rattle.canonical_form.proofs.Common.{same-true, suc, sym, true, under_cenid, ℕ, ◌+◌, ◌<◌, ◌∙◌, ◌∷◌, ◌≡◌, ◌≤◌}
+use Rattle.canonical_form.proofs.Common.{Bool, IsKeyOrder, Known, List, None, Ordering, PolygonKey, Some, [], ap, ap₂, arith, cond, cond_some, false, image, is_eq, key_cmp, key_keys, length, ltb-false, ltb-true, map, map-map, nat_cmp, nat_keys, nat_lt, not, numbered, numbered_from, position, position_or_len, refl, same-true, suc, sym, true, under_cenid, ℕ, ◌+◌, ◌<◌, ◌∙◌, ◌∷◌, ◌≡◌, ◌≤◌}
 use Rattle.canonical_form.proofs.Numbering.FirstSeen.{known_within, place_from}
 
 no_cond : {X : Type 0} (b : Bool) (x : X) → None ≡ cond b (Some x) None → b ≡ false

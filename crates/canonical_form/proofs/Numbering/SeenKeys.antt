@@ -1,7 +1,5 @@
 -- The place at which a key is found among others.
-use Rattle.canonical_form.proofs.Common.{Bool, IfSome, IsKeyOrder, List, None, Ordering, Some, [], ap, arith, cond, false, is_eq, length}
-use Rattle.canonical_form.proofs.Common.{ltb-true, nat_lt, not, position, position_or_len, refl, same-true, slice_get, suc, sym, true, ◌+◌}
-use Rattle.canonical_form.proofs.Common.{◌<◌, ◌∙◌, ◌∷◌, ◌≡◌}
+use Rattle.canonical_form.proofs.Common.{Bool, IfSome, IsKeyOrder, List, None, Ordering, Some, [], ap, arith, cond, false, is_eq, length, ltb-true, nat_lt, not, position, position_or_len, refl, same-true, slice_get, suc, sym, true, ◌+◌, ◌<◌, ◌∙◌, ◌∷◌, ◌≡◌}
 
 module _ {K : Type 0} (eq : K → K → Bool) (cmp : K → K → Ordering) (same : (x y : K) → eq x y ≡ is_eq (cmp x y)) where
   module _ (o : IsKeyOrder cmp) where

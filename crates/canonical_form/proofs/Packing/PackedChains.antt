@@ -1,13 +1,7 @@
 -- The records of a chain in a packed county: each belongs to a chain of the county, and no RTSQ occurs twice.
-use Rattle.canonical_form.proofs.Common.{AllByRecursion, Chain, County, IsCounty, Known, LinkedType, List, Ranges, SequencedType, []}
-use Rattle.canonical_form.proofs.Common.{all_everywhere, all_joined, all_map, all_weaker, among_known, ap, apart_from_sorted, each_from}
-use Rattle.canonical_form.proofs.Common.{false, flat_map, four_rtsq, four_tlid, has_repeat, has_repeat-apart, in_pieces, inner_points}
-use Rattle.canonical_form.proofs.Common.{keys_known, linked_tlids, map, nat_cmp, nat_keys, numbered_from, of_number, packed, packed_fours}
-use Rattle.canonical_form.proofs.Common.{packed_sixes, packed_twos, refl, rtsqs, rules, six_rtsq, six_tlid, subst, sym, tlids, two_rtsq}
-use Rattle.canonical_form.proofs.Common.{two_tlid, ℕ, ◌∙◌, ◌≡◌}
+use Rattle.canonical_form.proofs.Common.{AllByRecursion, Chain, County, IsCounty, Known, LinkedType, List, Ranges, SequencedType, [], all_everywhere, all_joined, all_map, all_weaker, among_known, ap, apart_from_sorted, each_from, false, flat_map, four_rtsq, four_tlid, has_repeat, has_repeat-apart, in_pieces, inner_points, keys_known, linked_tlids, map, nat_cmp, nat_keys, numbered_from, of_number, packed, packed_fours, packed_sixes, packed_twos, refl, rtsqs, rules, six_rtsq, six_tlid, subst, sym, tlids, two_rtsq, two_tlid, ℕ, ◌∙◌, ◌≡◌}
 use Rattle.canonical_form.proofs.Packing.PackedGroups.{group_holds}
-use Rattle.canonical_form.proofs.Packing.PackedNumbers.{four_own, fours, link_numbers, numbered_strict, rtsqs_made, six_own, sixes}
-use Rattle.canonical_form.proofs.Packing.PackedNumbers.{tlids_apart, two_own, twos}
+use Rattle.canonical_form.proofs.Packing.PackedNumbers.{four_own, fours, link_numbers, numbered_strict, rtsqs_made, six_own, sixes, tlids_apart, two_own, twos}
 use Rattle.county_chart.specs.declared.fault.LinkedType.TheVariants.{Four, I, Six, Two}
 use Rattle.county_chart.specs.declared.fault.SequencedType.TheVariants as sequenced
 

@@ -1,25 +1,9 @@
 -- The county of the packing of a county is that county.
-use Rattle.canonical_form.proofs.Common.{AllByRecursion, Among, Body7, BodyP, Chain, Coordinates, County, Fields1, Fields2, Fields4}
-use Rattle.canonical_form.proofs.Common.{Fields5, Fields6, Fields7, FieldsP, IsCounty, IsInOrder, IsStrictlySortedBy, IsTrue, Known, List}
-use Rattle.canonical_form.proofs.Common.{None, Option, PolygonKey, Ranges, Some, [], all_among, all_joined, all_themselves, among-map}
-use Rattle.canonical_form.proofs.Common.{among-unmap, among-unpieces, among_known, ap, apart_from_sorted, arith, chain_of, chains_of}
-use Rattle.canonical_form.proofs.Common.{common_steps, contains, county_of, distinct, distinct-strict, drop, each_from, filter_map}
-use Rattle.canonical_form.proofs.Common.{first_point, five_feat, flat_map, flat_map-map, four_rtsq, four_tlid, from_in_order, further_names}
-use Rattle.canonical_form.proofs.Common.{further_ranges, i_tlid, in_filter_map, in_order, in_order-from_strict, in_order-itself, in_pieces}
-use Rattle.canonical_form.proofs.Common.{inl, inner_points, inr, key_cmp, key_keys, known-append, known-distinct, known_all}
-use Rattle.canonical_form.proofs.Common.{known_from_distinct, known_is_among, landmark_body_cmp, landmarks_of, lands, last_point, length}
-use Rattle.canonical_form.proofs.Common.{length-drop, ltb-true, map, map-id, map-map, map_agree_all, names_of, nat_cmp, nat_keys}
-use Rattle.canonical_form.proofs.Common.{numbered_from, of_number, of_type_7, of_type_i, of_type_p, on, one_entry, one_tlid, p_key, packed}
-use Rattle.canonical_form.proofs.Common.{packed_body, packed_five, packed_fours, packed_i, packed_one, packed_p, packed_sevens}
-use Rattle.canonical_form.proofs.Common.{packed_sixes, packed_twos, pieces, polygon_body, polygon_keys, polygons_along, polygons_of, refl}
-use Rattle.canonical_form.proofs.Common.{rules, seven_land, shape_points, side_keys, six_rtsq, six_tlid, strict-equal, subst, suc, sym}
-use Rattle.canonical_form.proofs.Common.{take, take-append-drop, times, to_filter_map, to_in_order, two_rtsq, two_tlid, without_last, zero}
-use Rattle.canonical_form.proofs.Common.{ℕ, ◌++◌, ◌∙◌, ◌∷◌, ◌≡◌, ◌≤◌, ◌⊎◌}
-use Rattle.canonical_form.proofs.Packing.PackedNumbers.{contents_made, eights, fives, four_own, fours, links_of_chains, ones}
-use Rattle.canonical_form.proofs.Packing.PackedNumbers.{polygons_packed, rtsqs_ordered, seven_own, sevens, six_own, sixes, tlids_apart}
-use Rattle.canonical_form.proofs.Packing.PackedNumbers.{two_own, twos}
+use Rattle.canonical_form.proofs.Common.{AllByRecursion, Among, Body7, BodyP, Chain, Coordinates, County, Fields1, Fields2, Fields4, Fields5, Fields6, Fields7, FieldsP, IsCounty, IsInOrder, IsStrictlySortedBy, IsTrue, Known, List, None, Option, PolygonKey, Ranges, Some, [], all_among, all_joined, all_themselves, among-map, among-unmap, among-unpieces, among_known, ap, apart_from_sorted, arith, chain_of, chains_of, common_steps, contains, county_of, distinct, distinct-strict, drop, each_from, filter_map, first_point, five_feat, flat_map, flat_map-map, four_rtsq, four_tlid, from_in_order, further_names, further_ranges, i_tlid, in_filter_map, in_order, in_order-from_strict, in_order-itself, in_pieces, inl, inner_points, inr, key_cmp, key_keys, known-append, known-distinct, known_all, known_from_distinct, known_is_among, landmark_body_cmp, landmarks_of, lands, last_point, length, length-drop, ltb-true, map, map-id, map-map, map_agree_all, names_of, nat_cmp, nat_keys, numbered_from, of_number, of_type_7, of_type_i, of_type_p, on, one_entry, one_tlid, p_key, packed, packed_body, packed_five, packed_fours, packed_i, packed_one, packed_p, packed_sevens, packed_sixes, packed_twos, pieces, polygon_body, polygon_keys, polygons_along, polygons_of, refl, rules, seven_land, shape_points, side_keys, six_rtsq, six_tlid, strict-equal, subst, suc, sym, take, take-append-drop, times, to_filter_map, to_in_order, two_rtsq, two_tlid, without_last, zero, ℕ, ◌++◌, ◌∙◌, ◌∷◌, ◌≡◌, ◌≤◌, ◌⊎◌}
+use Rattle.canonical_form.proofs.Packing.PackedNumbers.{contents_made, eights, fives, four_own, fours, links_of_chains, ones, polygons_packed, rtsqs_ordered, seven_own, sevens, six_own, sixes, tlids_apart, two_own, twos}
 use Rattle.canonical_form.proofs.Packing.PackedNamed.{few_polygons, key_contained, land_contained, sides_along}
-use Rattle.canonical_form.proofs.{Packing.PackedGroups.group_of, Packing.PolygonBodies.body_found, Packing.PolygonBodies.first_body}
+use Rattle.canonical_form.proofs.Packing.PackedGroups.{group_of}
+use Rattle.canonical_form.proofs.Packing.PolygonBodies.{body_found, first_body}
 use Rattle.std.proofs.lemmas.List.Concat.{flat_map_single}
 
 -- a list of at least two points is its first point, those between and its last point

@@ -1,9 +1,5 @@
 -- Records made entry by entry: the records with one number come from one entry, and they are in order.
-use Rattle.canonical_form.proofs.Common.{AllByRecursion, Among, IsApart, IsInOrder, Less, List, Ordering, [], all_append, all_weaker}
-use Rattle.canonical_form.proofs.Common.{among-map, among_known, ap, apart_tail, append-nil, ap₂, arith, common_steps, cond, differ_apart}
-use Rattle.canonical_form.proofs.Common.{eq-eqb, false, filter-append, filter_all, flat_map, inl, inr, is_eq, is_gt, map, nat_cmp}
-use Rattle.canonical_form.proofs.Common.{nat_cmp_total, nat_keys, ne_eqb, of_number, ordering_then, refl, rules, same_or_not, subst, sym}
-use Rattle.canonical_form.proofs.Common.{tied_itself, times, times-no, times-yes, ℕ, ◌++◌, ◌<◌, ◌∙◌, ◌∷◌, ◌≡◌, ◌≤◌, ◌⊎◌}
+use Rattle.canonical_form.proofs.Common.{AllByRecursion, Among, IsApart, IsInOrder, Less, List, Ordering, [], all_append, all_weaker, among-map, among_known, ap, apart_tail, append-nil, ap₂, arith, common_steps, cond, differ_apart, eq-eqb, false, filter-append, filter_all, flat_map, inl, inr, is_eq, is_gt, map, nat_cmp, nat_cmp_total, nat_keys, ne_eqb, of_number, ordering_then, refl, rules, same_or_not, subst, sym, tied_itself, times, times-no, times-yes, ℕ, ◌++◌, ◌<◌, ◌∙◌, ◌∷◌, ◌≡◌, ◌≤◌, ◌⊎◌}
 use Rattle.std.specs.List.Sorted.{IsStrictlySortedBy}
 
 -- two joined lists in order are in order if nothing in the first is greater than anything in the second

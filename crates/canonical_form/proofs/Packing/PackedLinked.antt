@@ -1,10 +1,5 @@
 -- The packing of a county is linked.
-use Rattle.canonical_form.proofs.Common.{Bool, County, IsApart, IsCounty, IsLinked, IsTrue, Known, LandUnknown, LinkMissing, LinkTwice}
-use Rattle.canonical_form.proofs.Common.{List, NameTwice, NameUnknown, NoChain, PolygonTwice, PolygonUnknown, SequenceBroken, all_map, ap}
-use Rattle.canonical_form.proofs.Common.{apart_from_sorted, chain_tlids, eight_land, false, false≢true, flat_map, i_tlid, key_cmp, key_keys}
-use Rattle.canonical_form.proofs.Common.{known_all, lands, le-ltb, link_key, lt-ltb, ltb-true, map, nat_cmp, nat_keys, nat_lt, not}
-use Rattle.canonical_form.proofs.Common.{of_type_7, of_type_8, of_type_i, of_type_p, p_key, packed, polygon_keys, refl, rules, seven_land}
-use Rattle.canonical_form.proofs.Common.{side_keys, contains, times, tlids, true, ℕ, ◌&&◌, ◌++◌, ◌∙◌, ◌≡◌}
+use Rattle.canonical_form.proofs.Common.{Bool, County, IsApart, IsCounty, IsLinked, IsTrue, Known, LandUnknown, LinkMissing, LinkTwice, List, NameTwice, NameUnknown, NoChain, PolygonTwice, PolygonUnknown, SequenceBroken, all_map, ap, apart_from_sorted, chain_tlids, contains, eight_land, false, false≢true, flat_map, i_tlid, key_cmp, key_keys, known_all, lands, le-ltb, link_key, lt-ltb, ltb-true, map, nat_cmp, nat_keys, nat_lt, not, of_type_7, of_type_8, of_type_i, of_type_p, p_key, packed, polygon_keys, refl, rules, seven_land, side_keys, times, tlids, true, ℕ, ◌&&◌, ◌++◌, ◌∙◌, ◌≡◌}
 use Rattle.canonical_form.proofs.Packing.PackedNumbers.{chain_numbers, eights, link_numbers, name_numbers, tlids_apart}
 use Rattle.canonical_form.proofs.Packing.PackedChains.{all_linked, sequence}
 use Rattle.canonical_form.proofs.Packing.PackedNamed.{few_polygons, key_contained, land_contained, named}

@@ -1,14 +1,5 @@
 -- The FEATs, LANDs and polygons that the records of a packed county name are in the county.
-use Rattle.canonical_form.proofs.Common.{AllByRecursion, AllContained, Among, Body7, BodyP, Chain, County, Fields4, Fields7, FieldsP}
-use Rattle.canonical_form.proofs.Common.{IsApart, IsCounty, IsTrue, Known, List, None, Option, PolygonKey, Some, [], all_among}
-use Rattle.canonical_form.proofs.Common.{all_in_pieces, all_joined, all_map, all_numbered_from, all_weaker, among-map, among-pieces}
-use Rattle.canonical_form.proofs.Common.{among-unmap, among_known, ap, apart_from_sorted, arith, common_steps, contains, false≢true, feats}
-use Rattle.canonical_form.proofs.Common.{filter_map, flat_map, four_tlid, in_pieces, inl, inr, is_some, key_cmp, key_keys, known-left}
-use Rattle.canonical_form.proofs.Common.{known-right, known_is_among, lands, length, ltb-true, map, named_feats, nat_cmp, nat_keys}
-use Rattle.canonical_form.proofs.Common.{numbered_from, of_number, of_type_7, of_type_i, of_type_p, or_cases, p_key, packed, packed_body}
-use Rattle.canonical_form.proofs.Common.{packed_fours, packed_i, packed_p, packed_sevens, polygon_keys, polygons_along, refl, rules}
-use Rattle.canonical_form.proofs.Common.{same_or_not, seven_land, side_keys, subst, sym, times, times-cons, times-in_order, times-no}
-use Rattle.canonical_form.proofs.Common.{times-yes, to_filter_map, to_in_order, true, ℕ, ◌++◌, ◌+◌, ◌<◌, ◌||◌, ◌∙◌, ◌∷◌, ◌≡◌, ◌≤◌, ◌⊎◌}
+use Rattle.canonical_form.proofs.Common.{AllByRecursion, AllContained, Among, Body7, BodyP, Chain, County, Fields4, Fields7, FieldsP, IsApart, IsCounty, IsTrue, Known, List, None, Option, PolygonKey, Some, [], all_among, all_in_pieces, all_joined, all_map, all_numbered_from, all_weaker, among-map, among-pieces, among-unmap, among_known, ap, apart_from_sorted, arith, common_steps, contains, false≢true, feats, filter_map, flat_map, four_tlid, in_pieces, inl, inr, is_some, key_cmp, key_keys, known-left, known-right, known_is_among, lands, length, ltb-true, map, named_feats, nat_cmp, nat_keys, numbered_from, of_number, of_type_7, of_type_i, of_type_p, or_cases, p_key, packed, packed_body, packed_fours, packed_i, packed_p, packed_sevens, polygon_keys, polygons_along, refl, rules, same_or_not, seven_land, side_keys, subst, sym, times, times-cons, times-in_order, times-no, times-yes, to_filter_map, to_in_order, true, ℕ, ◌++◌, ◌+◌, ◌<◌, ◌||◌, ◌∙◌, ◌∷◌, ◌≡◌, ◌≤◌, ◌⊎◌}
 use Rattle.canonical_form.proofs.Packing.PackedGroups.{group_holds}
 use Rattle.canonical_form.proofs.Packing.PackedNumbers.{four_own, fours, links_of_chains, polygons_packed, sevens, tlids_apart}
 

@@ -1,13 +1,5 @@
 -- The records of each type of a packed county, and their numbers.
-use Rattle.canonical_form.proofs.Common.{AllByRecursion, Body7, Chain, County, IsApart, IsCounty, IsInOrder, Less, List, Type1, Type2}
-use Rattle.canonical_form.proofs.Common.{Type4, Type5, Type6, Type7, Type8, TypeI, TypeP, [], all_everywhere, all_map, ap}
-use Rattle.canonical_form.proofs.Common.{apart_from_sorted, arith, chain_tlids, feats, filter_map, five_feat, flat_map, four_tlid, i_tlid}
-use Rattle.canonical_form.proofs.Common.{in_order, in_order-from_strict, lefts-numbered_from, length, length-map, length-numbered_from, map}
-use Rattle.canonical_form.proofs.Common.{map-map, map_agree_everywhere, nat_cmp, nat_keys, numbered_from, of_its_type, of_type_1, of_type_2}
-use Rattle.canonical_form.proofs.Common.{of_type_4, of_type_5, of_type_6, of_type_7, of_type_8, of_type_i, of_type_p, on, one_tlid}
-use Rattle.canonical_form.proofs.Common.{p_polyid, packed, packed_by_type, packed_five, packed_fours, packed_i, packed_one, packed_p}
-use Rattle.canonical_form.proofs.Common.{packed_sevens, packed_sixes, packed_twos, refl, rights-numbered_from, rules, seven_land, six_tlid}
-use Rattle.canonical_form.proofs.Common.{subst, suc, sym, tlids, two_tlid, up_to, ℕ, ◌<◌, ◌∙◌, ◌∷◌, ◌≡◌}
+use Rattle.canonical_form.proofs.Common.{AllByRecursion, Body7, Chain, County, IsApart, IsCounty, IsInOrder, Less, List, Type1, Type2, Type4, Type5, Type6, Type7, Type8, TypeI, TypeP, [], all_everywhere, all_map, ap, apart_from_sorted, arith, chain_tlids, feats, filter_map, five_feat, flat_map, four_tlid, i_tlid, in_order, in_order-from_strict, lefts-numbered_from, length, length-map, length-numbered_from, map, map-map, map_agree_everywhere, nat_cmp, nat_keys, numbered_from, of_its_type, of_type_1, of_type_2, of_type_4, of_type_5, of_type_6, of_type_7, of_type_8, of_type_i, of_type_p, on, one_tlid, p_polyid, packed, packed_by_type, packed_five, packed_fours, packed_i, packed_one, packed_p, packed_sevens, packed_sixes, packed_twos, refl, rights-numbered_from, rules, seven_land, six_tlid, subst, suc, sym, tlids, two_tlid, up_to, ℕ, ◌<◌, ◌∙◌, ◌∷◌, ◌≡◌}
 use Rattle.std.specs.List.Sorted.{IsStrictlySortedBy}
 use Rattle.county_chart.proofs.Lists.Compared.{less}
 

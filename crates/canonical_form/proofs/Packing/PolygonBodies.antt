@@ -1,8 +1,6 @@
 -- A polygon has the content of its type P record.
-use Rattle.std.proofs.Common.{rules, ◌≡◌, ◌⊎◌, ◌≤◌, suc, List, [], ◌∷◌, map, filter, Bool, true, false, cond, Some, is_eq, sym, refl, ap}
-use Rattle.std.proofs.Common.{◌∙◌, subst, inl, inr, arith}
-use Rattle.canonical_form.proofs.Common.{Among, BodyP, FieldsP, IsApart, Known, PolygonKey, among-map, among_known, apart_tail, first}
-use Rattle.canonical_form.proofs.Common.{key_cmp, key_keys, p_key, same-itself, same-true, same_or_not, times, times-yes}
+use Rattle.std.proofs.Common.{Bool, List, Some, [], ap, arith, cond, false, filter, inl, inr, is_eq, map, refl, rules, subst, suc, sym, true, ◌∙◌, ◌∷◌, ◌≡◌, ◌≤◌, ◌⊎◌}
+use Rattle.canonical_form.proofs.Common.{Among, BodyP, FieldsP, IsApart, Known, PolygonKey, among-map, among_known, apart_tail, first, key_cmp, key_keys, p_key, same-itself, same-true, same_or_not, times, times-yes}
 
 pub first_body : (key : PolygonKey) (b : BodyP) (rs : List FieldsP)
     → first (map (λ (r : FieldsP). r.body) (filter (λ r. is_eq (key_cmp key (p_key r))) rs)) ≡ Some b

@@ -1,7 +1,5 @@
 -- A list whose records stand type after type, by the list of all types and by the lists of the records of each type.
-use Rattle.canonical_form.proofs.Common.{FieldsOf, List, None, Option, Record, RecordType, Some, Type1, Type2, Type4, Type5, Type6, Type7}
-use Rattle.canonical_form.proofs.Common.{Type8, TypeI, TypeP, [], append-nil, ap₂, as_type, by_type, cond, cons_option, filter, flat_map}
-use Rattle.canonical_form.proofs.Common.{is_some, map, of_type, record_of, refl, sym, type_after_type, types, ◌++◌, ◌∙◌, ◌∷◌, ◌≡◌}
+use Rattle.canonical_form.proofs.Common.{FieldsOf, List, None, Option, Record, RecordType, Some, Type1, Type2, Type4, Type5, Type6, Type7, Type8, TypeI, TypeP, [], append-nil, ap₂, as_type, by_type, cond, cons_option, filter, flat_map, is_some, map, of_type, record_of, refl, sym, type_after_type, types, ◌++◌, ◌∙◌, ◌∷◌, ◌≡◌}
 use Rattle.tl_layout.specs.Laws.RecordTypeLaws.{record_selected}
 
 -- the records of a type, as records of any type

@@ -1,14 +1,5 @@
 -- A renaming that carries takes a closed county to a closed one, and a whole one to a whole one.
-use Rattle.canonical_form.proofs.Common.{AllByRecursion, AllContained, AllKeysContained, Among, ArePaired, Body7, BodyP, Bool, Carries}
-use Rattle.canonical_form.proofs.Common.{Chain, County, Fields8, IsClosed, IsKeyOrder, IsPermutation, IsTrue, IsWhole, Known, List, Option}
-use Rattle.canonical_form.proofs.Common.{Ordering, PolygonKey, Renumbering, all_among, all_map, all_permuted, all_weaker, among-map}
-use Rattle.canonical_form.proofs.Common.{among-permutation, among-pieces, among-swapped, among-turned, among-unmap, among-unpieces}
-use Rattle.canonical_form.proofs.Common.{among_known, carried_chain, carried_landmark, carried_link, carried_polygon, chain_nodes}
-use Rattle.canonical_form.proofs.Common.{chain_polygons, chain_polygons-renumbered, contains, each_from, false, feats, image, image-known}
-use Rattle.canonical_form.proofs.Common.{is_some, key_cmp, key_keys, key_on, known-permutation, known-permutation_to, known_is_among, lands}
-use Rattle.canonical_form.proofs.Common.{length, length-reverse, link_key, lt-ltb, ltb-true, map, nat_cmp, nat_keys, option_to_list}
-use Rattle.canonical_form.proofs.Common.{or_cases, or_left, or_right, polygon_keys, polygons_along, refl, rules, subst, sym, true}
-use Rattle.canonical_form.proofs.Common.{turned_if, turns, ℕ, ◌||◌, ◌≡◌, ◌≤◌}
+use Rattle.canonical_form.proofs.Common.{AllByRecursion, AllContained, AllKeysContained, Among, ArePaired, Body7, BodyP, Bool, Carries, Chain, County, Fields8, IsClosed, IsKeyOrder, IsPermutation, IsTrue, IsWhole, Known, List, Option, Ordering, PolygonKey, Renumbering, all_among, all_map, all_permuted, all_weaker, among-map, among-permutation, among-pieces, among-swapped, among-turned, among-unmap, among-unpieces, among_known, carried_chain, carried_landmark, carried_link, carried_polygon, chain_nodes, chain_polygons, chain_polygons-renumbered, contains, each_from, false, feats, image, image-known, is_some, key_cmp, key_keys, key_on, known-permutation, known-permutation_to, known_is_among, lands, length, length-reverse, link_key, lt-ltb, ltb-true, map, nat_cmp, nat_keys, option_to_list, or_cases, or_left, or_right, polygon_keys, polygons_along, refl, rules, subst, sym, true, turned_if, turns, ℕ, ◌||◌, ◌≡◌, ◌≤◌}
 
 -- a turn keeps the nodes and polygons of a chain, in both directions
 pub nodes-turned : (n : ℕ) (b : Bool) (c : Chain) → Among n (chain_nodes c) → Among n (chain_nodes (turned_if b c))

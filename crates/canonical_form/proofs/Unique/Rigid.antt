@@ -1,11 +1,5 @@
 -- Two arranged counties are equal if a renaming carries one onto another, keeps every TLID and turns nothing.
-use Rattle.canonical_form.proofs.Common.{AllByRecursion, BodyP, Carries, Chain, County, IsArranged, IsCounty, IsPermutation}
-use Rattle.canonical_form.proofs.Common.{IsStrictlySortedBy, IsTrue, Known, List, None, Option, PolygonKey, Renumbering, Some, all_both}
-use Rattle.canonical_form.proofs.Common.{all_left, all_pieces, all_right, ap, carried_chain, carried_polygon, chain_nodes, chain_polygons}
-use Rattle.canonical_form.proofs.Common.{false, image, key_cmp, key_keys, key_on, key_under, keys_known, known_all, ltb-true, map, map-id}
-use Rattle.canonical_form.proofs.Common.{map-map, map_agree_all, nat_cmp, nat_cmp_total, nat_keys, option_map, option_to_list, polygon_keys}
-use Rattle.canonical_form.proofs.Common.{polygons_along, refl, renumbered, renumbered_polygon, contains, strict-map, strict-permutation}
-use Rattle.canonical_form.proofs.Common.{subst, sym, times, tlids, turned_if, turns, ℕ, ◌∙◌, ◌≡◌}
+use Rattle.canonical_form.proofs.Common.{AllByRecursion, BodyP, Carries, Chain, County, IsArranged, IsCounty, IsPermutation, IsStrictlySortedBy, IsTrue, Known, List, None, Option, PolygonKey, Renumbering, Some, all_both, all_left, all_pieces, all_right, ap, carried_chain, carried_polygon, chain_nodes, chain_polygons, contains, false, image, key_cmp, key_keys, key_on, key_under, keys_known, known_all, ltb-true, map, map-id, map-map, map_agree_all, nat_cmp, nat_cmp_total, nat_keys, option_map, option_to_list, polygon_keys, polygons_along, refl, renumbered, renumbered_polygon, strict-map, strict-permutation, subst, sym, times, tlids, turned_if, turns, ℕ, ◌∙◌, ◌≡◌}
 use Rattle.canonical_form.proofs.Unique.SameNumbers.{KeepsChains, kept_entry, nodes_kept, polygons_kept}
 use Rattle.canonical_form.proofs.Unique.SameNames.{feats_kept, names_equal}
 use Rattle.canonical_form.proofs.Unique.SameLandmarks.{landmarks_equal, links_equal}

@@ -1,8 +1,6 @@
 -- Names, or landmarks, of two counties that are in the order of their keys. A key is a content with a part that depends on the number,
 -- as the uses of a name. If a renaming keeps contents and parts, the entries are equal.
-use Rattle.canonical_form.proofs.Common.{AllByRecursion, IsInOrder, IsKeyOrder, IsPermutation, IsPermutation-map, Known, List, Ordering}
-use Rattle.canonical_form.proofs.Common.{all_map, all_weaker, ap, in_order-map, in_order-permutation, keys_known, known_all, length}
-use Rattle.canonical_form.proofs.Common.{length-map, map, map-map, map_agree_all, nat_cmp, nat_keys, on, subst, sym, up_to, ℕ, ◌∙◌, ◌≡◌}
+use Rattle.canonical_form.proofs.Common.{AllByRecursion, IsInOrder, IsKeyOrder, IsPermutation, IsPermutation-map, Known, List, Ordering, all_map, all_weaker, ap, in_order-map, in_order-permutation, keys_known, known_all, length, length-map, map, map-map, map_agree_all, nat_cmp, nat_keys, on, subst, sym, up_to, ℕ, ◌∙◌, ◌≡◌}
 use Rattle.canonical_form.proofs.Lists.Counting.{entries_equal, map-equal_all}
 
 abbrev pub key_with : {V P : Type 0} → (ℕ → P) → ℕ × V → V × P

@@ -1,17 +1,11 @@
 -- If a renaming carries one arranged county onto another, keeps each TLID and turns no chain, the landmarks and their links are
 -- equal: landmarks are in the order of their bodies and links.
-use Rattle.canonical_form.proofs.Common.{AllByRecursion, Body7, Bool, Carries, County, Fields8, IsArranged, IsAscending, IsClosed}
-use Rattle.canonical_form.proofs.Common.{IsInOrder, IsKeyOrder, IsPermutation, IsPermutation-refl, IsStrictlySortedBy, IsTrue, Known}
-use Rattle.canonical_form.proofs.Common.{LinkPart, List, PolygonKey, Renumbering, [], all_known, all_weaker, ap, carried_link, cond}
-use Rattle.canonical_form.proofs.Common.{contains, eight_land, filter, flat_map, flat_map_agree, image, in_order-equal, is_eq, key_cmp}
-use Rattle.canonical_form.proofs.Common.{landmark_body_keys, landmark_key_cmp, lands, length, length-filter, length-map, link_cmp, link_key}
-use Rattle.canonical_form.proofs.Common.{link_part, link_part_cmp, link_part_keys, links_of, lists_keys, ltb-true, map, map-id, map-map}
-use Rattle.canonical_form.proofs.Common.{map_agree_all, nat_cmp, nat_keys, of_number, of_number-all, on, pair_keys, polygon_keys, refl}
-use Rattle.canonical_form.proofs.Common.{subst, sum_by-IsPermutation, sym, times, ℕ, ◌&&◌, ◌++◌, ◌==◌, ◌∙◌, ◌∷◌, ◌≡◌}
+use Rattle.canonical_form.proofs.Common.{AllByRecursion, Body7, Bool, Carries, County, Fields8, IsArranged, IsAscending, IsClosed, IsInOrder, IsKeyOrder, IsPermutation, IsPermutation-refl, IsStrictlySortedBy, IsTrue, Known, LinkPart, List, PolygonKey, Renumbering, [], all_known, all_weaker, ap, carried_link, cond, contains, eight_land, filter, flat_map, flat_map_agree, image, in_order-equal, is_eq, key_cmp, landmark_body_keys, landmark_key_cmp, lands, length, length-filter, length-map, link_cmp, link_key, link_part, link_part_cmp, link_part_keys, links_of, lists_keys, ltb-true, map, map-id, map-map, map_agree_all, nat_cmp, nat_keys, of_number, of_number-all, on, pair_keys, polygon_keys, refl, subst, sum_by-IsPermutation, sym, times, ℕ, ◌&&◌, ◌++◌, ◌==◌, ◌∙◌, ◌∷◌, ◌≡◌}
 use Rattle.canonical_form.proofs.Lists.Filtered.{filter-agree_all, filter-filtered, filter-mapped, same_after}
-use Rattle.canonical_form.proofs.{Lists.Grouping.in_order-filter, Lists.Grouping.parts_in_order, Unique.SameKeys.entries_same}
-use Rattle.canonical_form.proofs.{Unique.SameKeys.parts_same, Unique.SameNumbers.counted_injective}
-use Rattle.canonical_form.proofs.Lists.Grouping.{grouped, in_order-weaker, then-first}
+use Rattle.ordered_lists.proofs.ByKey.KeyedLists.{in_order-filter}
+use Rattle.canonical_form.proofs.Lists.Grouping.{grouped, in_order-weaker, parts_in_order, then-first}
+use Rattle.canonical_form.proofs.Unique.SameKeys.{entries_same, parts_same}
+use Rattle.canonical_form.proofs.Unique.SameNumbers.{counted_injective}
 
 pub landmark_key_keys : IsKeyOrder landmark_key_cmp
 landmark_key_keys = pair_keys (lists_keys landmark_body_keys) (lists_keys link_part_keys)

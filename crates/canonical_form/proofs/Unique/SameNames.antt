@@ -1,15 +1,11 @@
 -- If a renaming carries one arranged county onto another, keeps each TLID and turns no chain, the names and the FEATs of chains are
 -- equal: names are in the order of content and uses, and their uses determine the chains' lists.
-use Rattle.canonical_form.proofs.Common.{AllByRecursion, AllContained, Among, Carries, Chain, County, IsApart, IsArranged, IsClosed}
-use Rattle.canonical_form.proofs.Common.{IsKeyOrder, IsStrictlySortedBy, IsTrue, Known, List, Renumbering, Use, [], all_append, all_left}
-use Rattle.canonical_form.proofs.Common.{all_right, all_themselves, all_uses, all_weaker, among-unmap, ap, apart_from_sorted, ap₂, contains}
-use Rattle.canonical_form.proofs.Common.{feats, filter, image, length, lists_keys, ltb-true, map, map-append, map-map, name_body_keys}
-use Rattle.canonical_form.proofs.Common.{name_key_cmp, nat_cmp, one_entry, pair_keys, refl, subst, suc, sym, times, use_cmp, uses_from}
-use Rattle.canonical_form.proofs.Common.{uses_of_name, ℕ, ◌++◌, ◌==◌, ◌∙◌, ◌∷◌, ◌≡◌}
+use Rattle.canonical_form.proofs.Common.{AllByRecursion, AllContained, Among, Carries, Chain, County, IsApart, IsArranged, IsClosed, IsKeyOrder, IsStrictlySortedBy, IsTrue, Known, List, Renumbering, Use, [], all_append, all_left, all_right, all_themselves, all_uses, all_weaker, among-unmap, ap, apart_from_sorted, ap₂, contains, feats, filter, image, length, lists_keys, ltb-true, map, map-append, map-map, name_body_keys, name_key_cmp, nat_cmp, one_entry, pair_keys, refl, subst, suc, sym, times, use_cmp, uses_from, uses_of_name, ℕ, ◌++◌, ◌==◌, ◌∙◌, ◌∷◌, ◌≡◌}
 use Rattle.canonical_form.proofs.Lists.Filtered.{filter-agree_all, filter-mapped, same_after}
 use Rattle.canonical_form.proofs.Unique.SameNumbers.{KeepsChains, counted_injective, kept_entry}
 use Rattle.canonical_form.proofs.Names.UsesOrder.{all_uses-strict, under_use, use_keys, use_under}
-use Rattle.canonical_form.proofs.{Lists.Counting.up_to-strict, Unique.SameKeys.entries_same, Unique.SameKeys.parts_same}
+use Rattle.canonical_form.proofs.Lists.Counting.{up_to-strict}
+use Rattle.canonical_form.proofs.Unique.SameKeys.{entries_same, parts_same}
 
 pub name_key_keys : IsKeyOrder name_key_cmp
 name_key_keys = pair_keys name_body_keys (lists_keys use_keys)

@@ -1,13 +1,8 @@
 -- If a renaming carries one arranged county onto another, keeps each TLID and turns no chain, the nodes and the polygons on sides
 -- have equal numbers: they are numbered by first appearance along the same chains.
-use Rattle.canonical_form.proofs.Common.{AllByRecursion, Among, Carries, Chain, County, Grows, IsApart, IsArranged, IsAscending, IsClosed}
-use Rattle.canonical_form.proofs.Common.{IsPermutation, IsTrue, Known, List, PolygonKey, Renumbering, [], all_among, all_joined, all_known}
-use Rattle.canonical_form.proofs.Common.{all_themselves, all_weaker, among-map, ap, apart-distinct, apart-permutation, apart_from_sorted}
-use Rattle.canonical_form.proofs.Common.{ap₂, chain_nodes, chain_nodes-renumbered, chain_polygons, chain_polygons-renumbered, contains}
-use Rattle.canonical_form.proofs.Common.{image, image-injective, image-keeps, key_cmp, key_keys, known-distinct, known-permutation, lefts}
-use Rattle.canonical_form.proofs.Common.{ltb-true, map, map-append, map-id, map-map, nat_cmp, nat_keys, nodes, nodes_along, polygon_keys}
-use Rattle.canonical_form.proofs.Common.{polygons_along, refl, renumbered, rights, subst, sym, times, up_to, ℕ, ◌++◌, ◌∙◌, ◌∷◌, ◌≡◌}
-use Rattle.canonical_form.proofs.{Lists.Counting.up_to-strict, Numbering.Growth.grown}
+use Rattle.canonical_form.proofs.Common.{AllByRecursion, Among, Carries, Chain, County, Grows, IsApart, IsArranged, IsAscending, IsClosed, IsPermutation, IsTrue, Known, List, PolygonKey, Renumbering, [], all_among, all_joined, all_known, all_themselves, all_weaker, among-map, ap, apart-distinct, apart-permutation, apart_from_sorted, ap₂, chain_nodes, chain_nodes-renumbered, chain_polygons, chain_polygons-renumbered, contains, image, image-injective, image-keeps, key_cmp, key_keys, known-distinct, known-permutation, lefts, ltb-true, map, map-append, map-id, map-map, nat_cmp, nat_keys, nodes, nodes_along, polygon_keys, polygons_along, refl, renumbered, rights, subst, sym, times, up_to, ℕ, ◌++◌, ◌∙◌, ◌∷◌, ◌≡◌}
+use Rattle.canonical_form.proofs.Lists.Counting.{up_to-strict}
+use Rattle.canonical_form.proofs.Numbering.Growth.{grown}
 
 -- A renaming onto numbers that count from 1 gives different numbers to different ones.
 pub counted_injective : (pairs : List (ℕ × ℕ)) (olds news : List ℕ) (count : ℕ) → IsPermutation (lefts pairs) olds

@@ -1,7 +1,7 @@
 -- Two lists in the canonical order, packing and numbering are equal if a renaming keeps the choice of TLIDs and directions.
-use Rattle.canonical_form.proofs.Common.{Carries, IsArrangedList, KeepsChainNumbers, List, Record, Renumbering, ap, county-is_county}
-use Rattle.canonical_form.proofs.Common.{county_of, image, known_all, nat_cmp, nat_keys, packed, contains, sym, tlids, ◌∙◌, ◌≡◌}
-use Rattle.canonical_form.proofs.{Arrangements.RepackedPolygons.arranged_list_is_packed, Unique.Rigid.rigid}
+use Rattle.canonical_form.proofs.Common.{Carries, IsArrangedList, KeepsChainNumbers, List, Record, Renumbering, ap, contains, county-is_county, county_of, image, known_all, nat_cmp, nat_keys, packed, sym, tlids, ◌∙◌, ◌≡◌}
+use Rattle.canonical_form.proofs.Arrangements.RepackedPolygons.{arranged_list_is_packed}
+use Rattle.canonical_form.proofs.Unique.Rigid.{rigid}
 
 one_county_one_list : (xs ys : List Record) → IsArrangedList xs → IsArrangedList ys → county_of xs ≡ county_of ys → xs ≡ ys
 one_county_one_list xs ys g h e = arranged_list_is_packed xs g ∙ ap packed e ∙ sym (arranged_list_is_packed ys h)

@@ -1,9 +1,7 @@
 -- Directed chains that name each chain once turn a county into a county.
-use Rattle.canonical_form.proofs.Common.{AllKeysContained, AreWhole, Arrangement, Arranges, County, DirectedChain, HasChainsOf, IsApart}
-use Rattle.canonical_form.proofs.Common.{IsCounty, IsWithinLimits, List, NamesEachOnce, apart-permutation_of, apart_from_sorted, arith}
-use Rattle.canonical_form.proofs.Common.{arranged_tlids, arrangement_of, length, most_records, nat_cmp, nat_keys, polygon_keys}
-use Rattle.canonical_form.proofs.Common.{polygons_along, tlids, ◌<◌, ◌^◌}
-use Rattle.canonical_form.proofs.{Arrangements.ArrangedCounties.arranged_county, Arrangements.ArrangedNumbers.arrangement_within}
+use Rattle.canonical_form.proofs.Common.{AllKeysContained, AreWhole, Arrangement, Arranges, County, DirectedChain, HasChainsOf, IsApart, IsCounty, IsWithinLimits, List, NamesEachOnce, apart-permutation_of, apart_from_sorted, arith, arranged_tlids, arrangement_of, length, most_records, nat_cmp, nat_keys, polygon_keys, polygons_along, tlids, ◌<◌, ◌^◌}
+use Rattle.canonical_form.proofs.Arrangements.ArrangedCounties.{arranged_county}
+use Rattle.canonical_form.proofs.Arrangements.ArrangedNumbers.{arrangement_within}
 
 pub arranges_once : (county : County) (order : Arrangement) → IsCounty county → NamesEachOnce county order → Arranges order county
 arranges_once county order is once =

@@ -1,8 +1,5 @@
 -- The chain at a place of a county within its limits.
-use Rattle.canonical_form.proofs.Common.{AllByRecursion, IsNumberOrNone, IsWithinLimits, [], inner_points, most_shape_points, slice_get-map}
-use Rattle.canonical_form.proofs.Common.{Chain, IfSome, IsCounty, IsNumber, ListsFit, Option, arith, chain_at, length, points_of, slice_get}
-use Rattle.canonical_form.proofs.Common.{Coordinates, County, FitsNumbers, first_point, last_point, most_records, option_map, without_last}
-use Rattle.canonical_form.proofs.Common.{List, None, Some, ap, refl, subst, suc, sym, tlids, zero, ℕ, ◌+◌, ◌-◌, ◌<◌, ◌∙◌, ◌∷◌, ◌≡◌, ◌≤◌}
+use Rattle.canonical_form.proofs.Common.{AllByRecursion, Chain, Coordinates, County, FitsNumbers, IfSome, IsCounty, IsNumber, IsNumberOrNone, IsWithinLimits, List, ListsFit, None, Option, Some, [], ap, arith, chain_at, first_point, inner_points, last_point, length, most_records, most_shape_points, option_map, points_of, refl, slice_get, slice_get-map, subst, suc, sym, tlids, without_last, zero, ℕ, ◌+◌, ◌-◌, ◌<◌, ◌∙◌, ◌∷◌, ◌≡◌, ◌≤◌}
 use Rattle.canonical_form.proofs.Lists.ListPlaces.{some-same}
 
 -- a property of all elements of a list is a property of the element at a place

@@ -1,12 +1,8 @@
 -- The chains of a county in an arrangement, read at the places of its directed chains.
-use Rattle.canonical_form.proofs.Common.{AreWhole, Arrangement, Arranges, Chain, County, DirectedChain, HasChainsOf, IsApart, IsCounty}
-use Rattle.canonical_form.proofs.Common.{List, None, Option, Some, [], ap, apart-permutation_of, apart_from_sorted, arith, arranged_by}
-use Rattle.canonical_form.proofs.Common.{arranged_tlids, arrangement_of, chain_at, directed_chain, entries_of, entry_values, flat_map}
-use Rattle.canonical_form.proofs.Common.{length, length-map, map, map-map, nat_cmp, nat_keys, option_map, placed, refl, renaming_of}
-use Rattle.canonical_form.proofs.Common.{renumbered, rights-numbered_from, slice_get, slice_get-map, slice_get_past, suc, sym, tlid_at}
-use Rattle.canonical_form.proofs.Common.{tlids, turned_if, up_to, zero, ℕ, ◌++◌, ◌∙◌, ◌∷◌, ◌≡◌, ◌≤◌}
+use Rattle.canonical_form.proofs.Common.{AreWhole, Arrangement, Arranges, Chain, County, DirectedChain, HasChainsOf, IsApart, IsCounty, List, None, Option, Some, [], ap, apart-permutation_of, apart_from_sorted, arith, arranged_by, arranged_tlids, arrangement_of, chain_at, directed_chain, entries_of, entry_values, flat_map, length, length-map, map, map-map, nat_cmp, nat_keys, option_map, placed, refl, renaming_of, renumbered, rights-numbered_from, slice_get, slice_get-map, slice_get_past, suc, sym, tlid_at, tlids, turned_if, up_to, zero, ℕ, ◌++◌, ◌∙◌, ◌∷◌, ◌≡◌, ◌≤◌}
 use Rattle.canonical_form.proofs.Arrangements.Carrying.{chains_arranged, tlids_arranged}
-use Rattle.canonical_form.proofs.{Unique.SameNumbers.kept_entry, Views.DirectedChains.one_here}
+use Rattle.canonical_form.proofs.Unique.SameNumbers.{kept_entry}
+use Rattle.canonical_form.proofs.Views.DirectedChains.{one_here}
 
 -- a list read through a function of another list's elements
 pub read_there : {X Y : Type 0} (f : X → Option Y) (xs : List X) (ys : List Y) → map f xs ≡ map Some ys → (i : ℕ) (x : X)

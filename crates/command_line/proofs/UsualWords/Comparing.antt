@@ -1,8 +1,8 @@
 -- The usual arguments of compare are parsed as intended.
-use Rattle.command_line.proofs.Common.{Bool, None, Some, Text, [], codes, false, refl, reserved_words, source_words, stem_words, true, ◌++◌}
-use Rattle.command_line.proofs.Common.{◌∷◌}
-use Rattle.command_line.proofs.UsualWords.{Flags.after_flags, Flags.found, Flags.map_job, Walking.Reads, Walking.Steps, Walking.before_word}
-use Rattle.command_line.proofs.UsualWords.{Walking.plain_step, Walking.step_then, Words.IsNoFlag, Words.Read, Words.flag, Words.value_rows}
+use Rattle.command_line.proofs.Common.{Bool, None, Some, Text, [], codes, false, refl, reserved_words, source_words, stem_words, true, ◌++◌, ◌∷◌}
+use Rattle.command_line.proofs.UsualWords.Flags.{after_flags, found, map_job}
+use Rattle.command_line.proofs.UsualWords.Walking.{Reads, Steps, before_word, plain_step, step_then}
+use Rattle.command_line.proofs.UsualWords.Words.{IsNoFlag, Read, flag, value_rows}
 use Rattle.clap.proofs.OnLiterals.{clap_on_literals}
 
 -- what the parser reads from the arguments of compare

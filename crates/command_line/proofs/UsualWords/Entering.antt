@@ -1,8 +1,5 @@
 -- The words after the name of a job are left to the job's subcommand.
-use Rattle.command_line.proofs.Common.{App, Check, Compare, Fingerprint, Job, Kinds, List, Normalise, Respell, Shape, Some, Text, []}
-use Rattle.command_line.proofs.Common.{answers_to, ap, built_fault, codes, false, fault_of, find, finished, level_fault, nothing_held}
-use Rattle.command_line.proofs.Common.{or_else, over_one_set, over_two_sets, refl, rows_after, settled, stopped_fault, subcommand_of, sym}
-use Rattle.command_line.proofs.Common.{true, understood, walk, walk_from, walk_stopped, walked, with_mask, word_of, ◌∷◌, ◌≡◌}
+use Rattle.command_line.proofs.Common.{App, Check, Compare, Fingerprint, Job, Kinds, List, Normalise, Respell, Shape, Some, Text, [], answers_to, ap, built_fault, codes, false, fault_of, find, finished, level_fault, nothing_held, or_else, over_one_set, over_two_sets, refl, rows_after, settled, stopped_fault, subcommand_of, sym, true, understood, walk, walk_from, walk_stopped, walked, with_mask, word_of, ◌∷◌, ◌≡◌}
 use Rattle.clap.proofs.OnLiterals.{clap_on_literals}
 use Rattle.clap.specs.Faults.{check_fault, defaults_fault, settle_fault, turn_fault, walk_fault}
 use Rattle.clap.specs.Simple.{built, built_leaf, entered, inherited, label_of, marked_built, names_of, with_leaf_noted}

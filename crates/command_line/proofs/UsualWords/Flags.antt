@@ -1,8 +1,8 @@
 -- The flags of a subcommand that prints or compares maps.
-use Rattle.command_line.proofs.Common.{App, Bool, List, None, Row, Shape, Text, [], codes, false, over_one_set, over_two_sets, refl}
-use Rattle.command_line.proofs.Common.{reserved_words, source_words, stem_words, true, with_mask, ◌++◌}
+use Rattle.command_line.proofs.Common.{App, Bool, List, None, Row, Shape, Text, [], codes, false, over_one_set, over_two_sets, refl, reserved_words, source_words, stem_words, true, with_mask, ◌++◌}
 use Rattle.command_line.proofs.UsualWords.Walking.{Reads, Steps, before_word, step_then}
-use Rattle.command_line.proofs.{UsualWords.Entering.prepared, UsualWords.Words.Read, UsualWords.Words.flag_rows}
+use Rattle.command_line.proofs.UsualWords.Entering.{prepared}
+use Rattle.command_line.proofs.UsualWords.Words.{Read, flag_rows}
 use Rattle.clap.proofs.OnLiterals.{clap_on_literals}
 
 -- a subcommand over two sets, or over one

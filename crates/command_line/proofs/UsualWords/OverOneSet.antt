@@ -1,9 +1,9 @@
 -- The usual arguments of the jobs over one set are parsed as intended.
-use Rattle.command_line.proofs.Common.{Bool, None, Shape, Some, Text, [], codes, false, over_one_set, refl, reserved_words, source_words}
-use Rattle.command_line.proofs.Common.{stem_words, true, ◌++◌, ◌∷◌}
+use Rattle.command_line.proofs.Common.{Bool, None, Shape, Some, Text, [], codes, false, over_one_set, refl, reserved_words, source_words, stem_words, true, ◌++◌, ◌∷◌}
 use Rattle.command_line.proofs.UsualWords.Walking.{Reads, Steps, before_word, plain_step, step_then}
 use Rattle.command_line.proofs.UsualWords.Words.{IsNoFlag, Read, flag, flag_rows}
-use Rattle.command_line.proofs.UsualWords.{Entering.prepared, Flags.after_flags, Flags.found, Flags.map_job}
+use Rattle.command_line.proofs.UsualWords.Entering.{prepared}
+use Rattle.command_line.proofs.UsualWords.Flags.{after_flags, found, map_job}
 use Rattle.clap.proofs.OnLiterals.{clap_on_literals}
 
 abbrev pub set_job : Text → Shape

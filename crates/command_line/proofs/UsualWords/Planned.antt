@@ -1,11 +1,10 @@
 -- The usual command lines are valid, and their plans are as they describe them.
-use Rattle.command_line.proofs.Common.{AreSecondOf, AreUsualWordsPlanned, Fingerprint, HasFilesOf, NamesItsSets, second_files, string_bytes}
-use Rattle.command_line.proofs.Common.{Bool, Job, List, Mask, None, Plan, Row, Some, Text, ap, map, refl, sym, true, ◌++◌, ◌∙◌, ◌≡◌}
-use Rattle.command_line.proofs.Common.{Check, Compare, IsPlanOf, Option, Respell, arith, codes, false, first_of, one_of, subst, unwrap_or}
-use Rattle.command_line.proofs.Common.{IsFlagGiven, IsMaskGiven, MayLeaveOut, Normalise, [], mask_words, set_words, slice_index, stem_words}
+use Rattle.command_line.proofs.Common.{AreSecondOf, AreUsualWordsPlanned, Bool, Check, Compare, Fingerprint, HasFilesOf, IsFlagGiven, IsMaskGiven, IsPlanOf, Job, List, Mask, MayLeaveOut, NamesItsSets, None, Normalise, Option, Plan, Respell, Row, Some, Text, [], ap, arith, codes, false, first_of, map, mask_words, one_of, refl, second_files, set_words, slice_index, stem_words, string_bytes, subst, sym, true, unwrap_or, ◌++◌, ◌∙◌, ◌≡◌}
 use Rattle.command_line.proofs.UsualWords.Words.{IsNoFlag, Read, flag, mask_flag, no_flag, read, second_of}
-use Rattle.command_line.proofs.UsualWords.{Comparing.maps_are_read, Entering.job_subcommand, OverOneSet.map_is_read, OverOneSet.set_is_read}
-use Rattle.command_line.proofs.UsualWords.{Entering.grammar_of, Entering.job_fault, Entering.prepared, Walking.Reads, Walking.before_word}
+use Rattle.command_line.proofs.UsualWords.Comparing.{maps_are_read}
+use Rattle.command_line.proofs.UsualWords.Entering.{grammar_of, job_fault, job_subcommand, prepared}
+use Rattle.command_line.proofs.UsualWords.OverOneSet.{map_is_read, set_is_read}
+use Rattle.command_line.proofs.UsualWords.Walking.{Reads, before_word}
 
 -- a flag that was given and one that wasn't have different values
 values_apart : Some (codes "true") ≡ Some (codes "false") → ⊥

@@ -1,8 +1,8 @@
 -- A subcommand's walk over its words, one word at a time.
-use Rattle.command_line.proofs.Common.{ErrorKind, Held, Kinds, List, None, Option, Row, Shape, Text, Walk, [], ap, ap₂, arg_by_index, false}
-use Rattle.command_line.proofs.Common.{finished, fold, idle, or_else, settled, step_fault, sym, to_positional, value, ℕ, ◌∙◌, ◌∷◌, ◌≡◌}
+use Rattle.command_line.proofs.Common.{ErrorKind, Held, Kinds, List, None, Option, Row, Shape, Text, Walk, [], ap, ap₂, arg_by_index, false, finished, fold, idle, or_else, settled, step_fault, sym, to_positional, value, ℕ, ◌∙◌, ◌∷◌, ◌≡◌}
 use Rattle.command_line.proofs.UsualWords.Words.{IsNoFlag, Read, read}
-use Rattle.clap.specs.{Faults.check_fault, Faults.defaults_fault, Faults.settle_fault, Faults.turn_fault, Faults.walk_fault, Walk.walked}
+use Rattle.clap.specs.Faults.{check_fault, defaults_fault, settle_fault, turn_fault, walk_fault}
+use Rattle.clap.specs.Walk.{walked}
 
 -- the state of the walk before a word: what was found so far, the argument that is still pending, and the next argument's position
 abbrev pub before_word : List Row → Option (Text × List Text) → ℕ → Walk

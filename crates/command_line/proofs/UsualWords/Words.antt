@@ -1,7 +1,5 @@
 -- The parsed form of the arguments after a subcommand.
-use Rattle.command_line.proofs.Common.{Bool, Check, CommandLine, Compare, IsPlain, Job, List, None, Option, Respell, Row, Some, Text, []}
-use Rattle.command_line.proofs.Common.{bytes_eq, codes, false, first_of, long_of, ne_eqb, one_of, reading_of, refl, short_of, true, ◌==◌}
-use Rattle.command_line.proofs.Common.{◌∷◌, ◌≡◌}
+use Rattle.command_line.proofs.Common.{Bool, Check, CommandLine, Compare, IsPlain, Job, List, None, Option, Respell, Row, Some, Text, [], bytes_eq, codes, false, first_of, long_of, ne_eqb, one_of, reading_of, refl, short_of, true, ◌==◌, ◌∷◌, ◌≡◌}
 use Rattle.clap.specs.declared.builder.value_parser.ValueParser.TheVariants as parser
 
 -- a text that isn't a flag, as clap tests it

@@ -1,6 +1,5 @@
 -- The CENID that a look-up finds at a place.
-use Rattle.county_chart.proofs.Common.{IfSome, IsKeyOrder, Option, Ordering, false≢true, is_some, option_eq, slice_get, slice_get_read, suc}
-use Rattle.county_chart.proofs.Common.{Known, List, None, Some, [], get_or, length, nat_eq, rules, subst, sym, true, zero, ℕ, ◌<◌, ◌∷◌, ◌≡◌}
+use Rattle.county_chart.proofs.Common.{IfSome, IsKeyOrder, Known, List, None, Option, Ordering, Some, [], false≢true, get_or, is_some, length, nat_eq, option_eq, rules, slice_get, slice_get_read, subst, suc, sym, true, zero, ℕ, ◌<◌, ◌∷◌, ◌≡◌}
 use Rattle.ordered_lists.proofs.ByKey.Keys.{known-here, known-later}
 use lib.Pointwise.{pointwise}
 

@@ -1,6 +1,5 @@
 -- A county within its limits has few enough chains for 32-bit places.
-use Rattle.county_chart.proofs.Common.{County, HasAtMost, IsWithinLimits, arith, by_type_of, by_type_within, length, length-map, map}
-use Rattle.county_chart.proofs.Common.{most_records, subst, ◌<◌, ◌^◌, ◌≤◌}
+use Rattle.county_chart.proofs.Common.{County, HasAtMost, IsWithinLimits, arith, by_type_of, by_type_within, length, length-map, map, most_records, subst, ◌<◌, ◌^◌, ◌≤◌}
 use Rattle.county_chart.specs.Packing.{packed, packed_by_type, packed_one}
 
 pub few_chains : (county : County) → IsWithinLimits most_records county → length county.chains < 2 ^ 32

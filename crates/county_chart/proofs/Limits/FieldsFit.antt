@@ -1,10 +1,9 @@
 -- The fact that a record fits its columns, split by name: its numbers and its content.
-use Rattle.county_chart.proofs.Common.{AllByRecursion, BodyP, Fields1, Fields2, Fields4, Fields5, Fields6, Fields7, Fields8, FieldsI}
-use Rattle.county_chart.proofs.Common.{FieldsOf, FieldsP, FitsBody1, FitsLandmark, FitsLinkContent, FitsNameBody, FitsPolygon, FitsRanges}
-use Rattle.county_chart.proofs.Common.{IsNumber, IsNumberOrNone, IsOnMap, IsText, List, Record, RecordType, Some, Type1, Type2, Type4}
-use Rattle.county_chart.proofs.Common.{Type5, Type6, Type7, Type8, TypeI, TypeP, arith, as_type, length, lit<, record_of, rules, subst}
-use Rattle.county_chart.proofs.Common.{type_1_fits, ℕ, ◌≡◌, ◌≤◌}
-use Rattle.tl_layout.specs.{Laws.RecordTypeLaws.record_selected, RecordText.FitsRecord, RecordTypes.FitsFields, declared.type_i.BodyI.BodyI}
+use Rattle.county_chart.proofs.Common.{AllByRecursion, BodyP, Fields1, Fields2, Fields4, Fields5, Fields6, Fields7, Fields8, FieldsI, FieldsOf, FieldsP, FitsBody1, FitsLandmark, FitsLinkContent, FitsNameBody, FitsPolygon, FitsRanges, IsNumber, IsNumberOrNone, IsOnMap, IsText, List, Record, RecordType, Some, Type1, Type2, Type4, Type5, Type6, Type7, Type8, TypeI, TypeP, arith, as_type, length, lit<, record_of, rules, subst, type_1_fits, ℕ, ◌≡◌, ◌≤◌}
+use Rattle.tl_layout.specs.Laws.RecordTypeLaws.{record_selected}
+use Rattle.tl_layout.specs.RecordText.{FitsRecord}
+use Rattle.tl_layout.specs.RecordTypes.{FitsFields}
+use Rattle.tl_layout.specs.declared.type_i.BodyI.{BodyI}
 
 pub record Fit1 (r : Fields1) : Type 0 where
   pub tlid : IsNumber 10 r.tlid

@@ -1,27 +1,9 @@
 -- Linked records that fit, and aren't too many of any type, have a county within its limits.
-use Rattle.county_chart.proofs.Common.{AllByRecursion, Bool, IsNumberOrNone, IsWithinLimits, SequenceBroken, all_everywhere, apart-distinct}
-use Rattle.county_chart.proofs.Common.{Body5, Body7, BodyP, Chain, Known, Type1, Type2, Type4, Type5, Type6, Type7, Type8, TypeI, TypeP, ap}
-use Rattle.county_chart.proofs.Common.{ContentsFit, Coordinates, List, differ_apart, filter-agree, flat_map-map, polygon_body, shape_points}
-use Rattle.county_chart.proofs.Common.{Fields1, IsWithinLimit, by_type_within, few_in_groups, further_names, further_ranges, shorter_pieces}
-use Rattle.county_chart.proofs.Common.{Fields2, HasWithin, all_among, all_known, all_weaker, filter_map, has_repeat, length-map, seven_land}
-use Rattle.county_chart.proofs.Common.{Fields4, Fields5, Fields6, Fields7, FieldsI, FieldsP, IsApart, IsOnMap, all_map, two_rtsq, two_tlid}
-use Rattle.county_chart.proofs.Common.{FitsChain, FitsNumbers, FitsPolygon, among_known, chain_tlids, cons_option, few_numbers, same_or_not}
-use Rattle.county_chart.proofs.Common.{FitsLandmark, FitsNameBody, all-in_order, all_selected, greatest_rtsq, length-append, packed_within}
-use Rattle.county_chart.proofs.Common.{FitsLink, IfSome, IsLinked, IsNumber, ListsFit, Ordering, of_type_i, of_type_p, same-true, side_keys}
-use Rattle.county_chart.proofs.Common.{FitsRanges, FitsRecord, None, NumbersFit, PolygonKey, RecordType, all_append, all_filter, all_joined}
-use Rattle.county_chart.proofs.Common.{IsText, Option, Record, as_type, by_type, differ, filter, i_tlid, key_cmp, length, nat_cmp, of_type}
-use Rattle.county_chart.proofs.Common.{Some, arith, cond, false, first, inl, inr, is_eq, p_key, refl, rules, subst, tlids, true, ◌++◌, ◌==◌}
-use Rattle.county_chart.proofs.Common.{[], apart_from_no_repeat, apart_from_sorted, known_from_distinct, landmark_body_cmp, length-in_order}
-use Rattle.county_chart.proofs.Common.{among-map, chains_of, count-map, county_of, five_feat, four_rtsq, four_tlid, hits_once, key_under, ℕ}
-use Rattle.county_chart.proofs.Common.{chain_of, distinct, flat_map, in_order, key_keys, link_cmp, nat_keys, one_tlid, six_rtsq, six_tlid}
-use Rattle.county_chart.proofs.Common.{known_all, of_number, of_type_1, of_type_2, of_type_4, of_type_5, of_type_6, of_type_7, of_type_8}
-use Rattle.county_chart.proofs.Common.{map, on, sym, ◌*◌, ◌+◌, ◌-◌, ◌<◌, ◌∙◌, ◌∷◌, ◌≡◌, ◌≤◌, ◌⊎◌}
+use Rattle.county_chart.proofs.Common.{AllByRecursion, Body5, Body7, BodyP, Bool, Chain, ContentsFit, Coordinates, Fields1, Fields2, Fields4, Fields5, Fields6, Fields7, FieldsI, FieldsP, FitsChain, FitsLandmark, FitsLink, FitsNameBody, FitsNumbers, FitsPolygon, FitsRanges, FitsRecord, HasWithin, IfSome, IsApart, IsLinked, IsNumber, IsNumberOrNone, IsOnMap, IsText, IsWithinLimit, IsWithinLimits, Known, List, ListsFit, None, NumbersFit, Option, Ordering, PolygonKey, Record, RecordType, SequenceBroken, Some, Type1, Type2, Type4, Type5, Type6, Type7, Type8, TypeI, TypeP, [], all-in_order, all_among, all_append, all_everywhere, all_filter, all_joined, all_known, all_map, all_selected, all_weaker, among-map, among_known, ap, apart-distinct, apart_from_no_repeat, apart_from_sorted, arith, as_type, by_type, by_type_within, chain_of, chain_tlids, chains_of, cond, cons_option, count-map, county_of, differ, differ_apart, distinct, false, few_in_groups, few_numbers, filter, filter-agree, filter_map, first, five_feat, flat_map, flat_map-map, four_rtsq, four_tlid, further_names, further_ranges, greatest_rtsq, has_repeat, hits_once, i_tlid, in_order, inl, inr, is_eq, key_cmp, key_keys, key_under, known_all, known_from_distinct, landmark_body_cmp, length, length-append, length-in_order, length-map, link_cmp, map, nat_cmp, nat_keys, of_number, of_type, of_type_1, of_type_2, of_type_4, of_type_5, of_type_6, of_type_7, of_type_8, of_type_i, of_type_p, on, one_tlid, p_key, packed_within, polygon_body, refl, rules, same-true, same_or_not, seven_land, shape_points, shorter_pieces, side_keys, six_rtsq, six_tlid, subst, sym, tlids, true, two_rtsq, two_tlid, ℕ, ◌*◌, ◌++◌, ◌+◌, ◌-◌, ◌<◌, ◌==◌, ◌∙◌, ◌∷◌, ◌≡◌, ◌≤◌, ◌⊎◌}
 use Rattle.county_chart.proofs.Packing.Pieces.{few_pieces, length-numbered_from}
-use Rattle.county_chart.proofs.Limits.FieldsFit.{Fit, Fit1, Fit2, Fit4, Fit5, Fit6, Fit7, Fit8, FitI, FitP, left_cenid_fits}
-use Rattle.county_chart.proofs.Limits.FieldsFit.{polygon_cenid_fits, right_cenid_fits, selected_fit}
+use Rattle.county_chart.proofs.Limits.FieldsFit.{Fit, Fit1, Fit2, Fit4, Fit5, Fit6, Fit7, Fit8, FitI, FitP, left_cenid_fits, polygon_cenid_fits, right_cenid_fits, selected_fit}
 use Rattle.county_chart.proofs.Rules.LinkedCounty.{chains_all, county-is_county, the_link, tlids-county}
-use Rattle.county_chart.specs.Packing.{in_pieces, inner_points, numbered_from, p_polyid, packed_body, packed_by_type, packed_five}
-use Rattle.county_chart.specs.Packing.{packed_fours, packed_i, packed_one, packed_p, packed_sevens, packed_sixes, packed_twos, without_last}
+use Rattle.county_chart.specs.Packing.{in_pieces, inner_points, numbered_from, p_polyid, packed_body, packed_by_type, packed_five, packed_fours, packed_i, packed_one, packed_p, packed_sevens, packed_sixes, packed_twos, without_last}
 use Rattle.county_chart.specs.declared.fault.SequencedType.TheVariants as sequenced
 
 flat_map-one : {X Y : Type 0} (f : X → Y) (xs : List X) → flat_map (λ x. f x ∷ []) xs ≡ map f xs

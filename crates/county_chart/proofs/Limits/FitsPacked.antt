@@ -1,15 +1,8 @@
 -- A whole county whose contents and numbers fit, and whose chains' lists fit into their records, is packed into records that fit.
-use Rattle.county_chart.proofs.Common.{AllByRecursion, Body5, Body7, BodyP, Chain, ContentsFit, Coordinates, County, Fields8, FieldsP}
-use Rattle.county_chart.proofs.Common.{FitsChain, FitsLandmark, FitsLink, FitsNameBody, FitsNumbers, FitsPolygon, FitsRecord, IfSome}
-use Rattle.county_chart.proofs.Common.{IsNumber, IsOnMap, IsWhole, List, ListsByType, ListsFit, None, NumbersFit, Option, PolygonKey}
-use Rattle.county_chart.proofs.Common.{Record, RecordType, Some, Type1, Type2, Type4, Type5, Type6, Type7, Type8, TypeI, TypeP, []}
-use Rattle.county_chart.proofs.Common.{all-in_order, all_append, all_both, all_joined, all_map, all_selected, all_weaker, arith, filter_map}
-use Rattle.county_chart.proofs.Common.{first_point, flat_map, greatest_rtsq, in_order, last_point, later_types, length, listed_by_type}
-use Rattle.county_chart.proofs.Common.{lists_of, map, nat_cmp, on, record_of, rules, ℕ, ◌*◌, ◌+◌, ◌<◌, ◌∷◌, ◌≡◌, ◌≤◌}
+use Rattle.county_chart.proofs.Common.{AllByRecursion, Body5, Body7, BodyP, Chain, ContentsFit, Coordinates, County, Fields8, FieldsP, FitsChain, FitsLandmark, FitsLink, FitsNameBody, FitsNumbers, FitsPolygon, FitsRecord, IfSome, IsNumber, IsOnMap, IsWhole, List, ListsByType, ListsFit, None, NumbersFit, Option, PolygonKey, Record, RecordType, Some, Type1, Type2, Type4, Type5, Type6, Type7, Type8, TypeI, TypeP, [], all-in_order, all_append, all_both, all_joined, all_map, all_selected, all_weaker, arith, filter_map, first_point, flat_map, greatest_rtsq, in_order, last_point, later_types, length, listed_by_type, lists_of, map, nat_cmp, on, record_of, rules, ℕ, ◌*◌, ◌+◌, ◌<◌, ◌∷◌, ◌≡◌, ◌≤◌}
 use Rattle.county_chart.proofs.Packing.Pieces.{all_in_pieces, all_numbered_from, few_pieces, short_pieces}
 use Rattle.county_chart.proofs.Limits.FieldsFit.{Fit, Fit1, Fit2, Fit4, Fit5, Fit6, Fit7, Fit8, FitI, FitP, columns}
-use Rattle.county_chart.specs.Packing.{in_pieces, inner_points, numbered_from, p_polyid, packed, packed_body, packed_by_type, packed_five}
-use Rattle.county_chart.specs.Packing.{packed_fours, packed_i, packed_one, packed_p, packed_sevens, packed_sixes, packed_twos, without_last}
+use Rattle.county_chart.specs.Packing.{in_pieces, inner_points, numbered_from, p_polyid, packed, packed_body, packed_by_type, packed_five, packed_fours, packed_i, packed_one, packed_p, packed_sevens, packed_sixes, packed_twos, without_last}
 
 -- records type after type have a property that the records of each type have
 all_by_type : (P : Record → Type 0) (lists : ListsByType) (t : RecordType) (us : List RecordType)

@@ -1,7 +1,5 @@
 -- Two numbers compared, and two lists from a place on.
-use Rattle.county_chart.proofs.Common.{Equal, Greater, Less, List, MatchOrdering, Ordering, Some, [], add-one, ap, arith, cond, drop, inl}
-use Rattle.county_chart.proofs.Common.{inr, length, lt-ltb, nat_cmp, nat_cmp_is, nat_cmp_total, ordering_reverse, ordering_then, refl}
-use Rattle.county_chart.proofs.Common.{rules, slice_cmp, slice_get, suc, sym, zero, ℕ, ◌+◌, ◌<◌, ◌==◌, ◌∙◌, ◌∷◌, ◌≡◌, ◌≤◌, ◌⊎◌}
+use Rattle.county_chart.proofs.Common.{Equal, Greater, Less, List, MatchOrdering, Ordering, Some, [], add-one, ap, arith, cond, drop, inl, inr, length, lt-ltb, nat_cmp, nat_cmp_is, nat_cmp_total, ordering_reverse, ordering_then, refl, rules, slice_cmp, slice_get, suc, sym, zero, ℕ, ◌+◌, ◌<◌, ◌==◌, ◌∙◌, ◌∷◌, ◌≡◌, ◌≤◌, ◌⊎◌}
 
 -- two numbers compared
 pub less : (m n : ℕ) → m < n → nat_cmp m n ≡ Less

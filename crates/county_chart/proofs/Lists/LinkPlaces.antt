@@ -1,7 +1,5 @@
 -- The links of the landmark at a place, or past the end.
-use Rattle.county_chart.proofs.Common.{AllByRecursion, Fields8, IfSome, IsTrue, List, None, Option, Some, [], ap, eight_land, false}
-use Rattle.county_chart.proofs.Common.{false≢true, is_some, length, links_with, nat_cmp, ne_eqb, of_number, refl, rules, slice_get}
-use Rattle.county_chart.proofs.Common.{slice_get_past, contains, unwrap_or, ℕ, ◌∷◌, ◌≡◌}
+use Rattle.county_chart.proofs.Common.{AllByRecursion, Fields8, IfSome, IsTrue, List, None, Option, Some, [], ap, contains, eight_land, false, false≢true, is_some, length, links_with, nat_cmp, ne_eqb, of_number, refl, rules, slice_get, slice_get_past, unwrap_or, ℕ, ◌∷◌, ◌≡◌}
 
 -- links whose LANDs are all in the list have no LAND that isn't
 none_of_land : (land : ℕ) (lands : List ℕ) → contains nat_cmp land lands ≡ false → (links : List Fields8)

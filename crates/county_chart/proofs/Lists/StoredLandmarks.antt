@@ -1,10 +1,5 @@
 -- Stored landmarks: their contents and links, under a LAND and by place.
-use Rattle.county_chart.proofs.Common.{AllByRecursion, Fields8, IsStrictlySortedBy, LandmarkParts, Less, LinksUnderLands, List, None}
-use Rattle.county_chart.proofs.Common.{Option, Some, [], ap, append-nil, cond, eight_land, entry_keys, entry_values, eq-eqb, false}
-use Rattle.county_chart.proofs.Common.{false≢true, filter-append, flat_map, inl, inr, is_eq, landmark_entry, links_with, map, map-map}
-use Rattle.county_chart.proofs.Common.{nat_cmp, nat_keys, ne_eqb, of_number, option_map, refl, rules, same-itself, same_or_not, slice_get}
-use Rattle.county_chart.proofs.Common.{strict_head, strict_tail, subst, suc, sym, true, unwrap_or, value-at_place, value_under, zero, ℕ}
-use Rattle.county_chart.proofs.Common.{◌++◌, ◌==◌, ◌∙◌, ◌∷◌, ◌≡◌, ◌⊎◌}
+use Rattle.county_chart.proofs.Common.{AllByRecursion, Fields8, IsStrictlySortedBy, LandmarkParts, Less, LinksUnderLands, List, None, Option, Some, [], ap, append-nil, cond, eight_land, entry_keys, entry_values, eq-eqb, false, false≢true, filter-append, flat_map, inl, inr, is_eq, landmark_entry, links_with, map, map-map, nat_cmp, nat_keys, ne_eqb, of_number, option_map, refl, rules, same-itself, same_or_not, slice_get, strict_head, strict_tail, subst, suc, sym, true, unwrap_or, value-at_place, value_under, zero, ℕ, ◌++◌, ◌==◌, ◌∙◌, ◌∷◌, ◌≡◌, ◌⊎◌}
 
 -- the links with a LAND are the ones stored under it
 module _ (land : ℕ) where

@@ -1,8 +1,5 @@
 -- Entries with stored values, and the entries that they represent.
-use Rattle.county_chart.proofs.Common.{IfSome, IsStrictlySortedBy, LandmarkParts, LinksUnderLands, List, Option, Some, [], ap}
-use Rattle.county_chart.proofs.Common.{distinct-in_order, eight_land, entry_keys, entry_values, flat_map, keys-map_values, landmark_entry}
-use Rattle.county_chart.proofs.Common.{map, map_values, map_values-id, nat_cmp, nat_keys, of_number, option_map, refl, rules, slice_get}
-use Rattle.county_chart.proofs.Common.{suc, sym, unwrap_or, value_under, zero, ℕ, ◌∙◌, ◌∷◌, ◌≡◌}
+use Rattle.county_chart.proofs.Common.{IfSome, IsStrictlySortedBy, LandmarkParts, LinksUnderLands, List, Option, Some, [], ap, distinct-in_order, eight_land, entry_keys, entry_values, flat_map, keys-map_values, landmark_entry, map, map_values, map_values-id, nat_cmp, nat_keys, of_number, option_map, refl, rules, slice_get, suc, sym, unwrap_or, value_under, zero, ℕ, ◌∙◌, ◌∷◌, ◌≡◌}
 use Rattle.county_chart.proofs.Lists.StoredLandmarks.{bodies-under, lands-kept, links-under}
 
 pub keys-kept : {K V W : Type 0} (f : V → W) (xs : List (K × V)) → entry_keys xs ≡ entry_keys (map_values f xs)

@@ -1,6 +1,5 @@
 -- Pieces of a list to which others are appended.
-use Rattle.county_chart.proofs.Common.{AreWithin, List, [], ap, drop-append-le, drop-append_seam, length, length-append, length-drop}
-use Rattle.county_chart.proofs.Common.{pieces_in, rules, slice_range, take-append-le, take_all, ℕ, ◌++◌, ◌∙◌, ◌∷◌, ◌≡◌, ◌≤◌}
+use Rattle.county_chart.proofs.Common.{AreWithin, List, [], ap, drop-append-le, drop-append_seam, length, length-append, length-drop, pieces_in, rules, slice_range, take-append-le, take_all, ℕ, ◌++◌, ◌∙◌, ◌∷◌, ◌≡◌, ◌≤◌}
 
 module _ {X : Type 0} (xs ys : List X) where
   -- a piece of the list is the same piece after more is appended

@@ -1,10 +1,7 @@
 -- The values that a chart reads of a county under a mask.
-use Rattle.county_chart.proofs.Common.{Body7, Chain, County, List, Mask, None, Option, Some, [], ap, arith, bodies_at, chain_at}
-use Rattle.county_chart.proofs.Common.{entry_values, false, feats_of, lands_masked, length, length-map, length_masked_bodies, links_at}
-use Rattle.county_chart.proofs.Common.{links_with, map_values, masked, masked_bodies, masked_body_1, masked_body_i, masked_chain}
-use Rattle.county_chart.proofs.Common.{option_map, points_of, ranges_of, refl, rules, slice_get, slice_get-get_or, slice_get-map, sym}
-use Rattle.county_chart.proofs.Common.{unwrap_or-slice_get, values-map_values, ℕ, ◌<◌, ◌∙◌, ◌≡◌}
-use Rattle.county_chart.specs.{ChartWords.ends_of, ChartWords.sides_of, Laws.MaskedCounties.nodes_masked, Laws.MaskedCounties.tlids_masked}
+use Rattle.county_chart.proofs.Common.{Body7, Chain, County, List, Mask, None, Option, Some, [], ap, arith, bodies_at, chain_at, entry_values, false, feats_of, lands_masked, length, length-map, length_masked_bodies, links_at, links_with, map_values, masked, masked_bodies, masked_body_1, masked_body_i, masked_chain, option_map, points_of, ranges_of, refl, rules, slice_get, slice_get-get_or, slice_get-map, sym, unwrap_or-slice_get, values-map_values, ℕ, ◌<◌, ◌∙◌, ◌≡◌}
+use Rattle.county_chart.specs.ChartWords.{ends_of, sides_of}
+use Rattle.county_chart.specs.Laws.MaskedCounties.{nodes_masked, tlids_masked}
 
 -- the value at a place after all values are mapped
 value_at_place : {K V W : Type 0} (f : V → W) (entries : List (K × V)) (place : ℕ)

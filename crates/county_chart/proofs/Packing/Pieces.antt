@@ -1,6 +1,5 @@
 -- Lists cut into pieces, and elements numbered from a number on.
-use Rattle.county_chart.proofs.Common.{AllByRecursion, List, [], all_drop, all_take, all_weaker, ap, arith, drop, length, length-drop}
-use Rattle.county_chart.proofs.Common.{length-take, map, pieces, range_with_len, refl, rules, suc, zero, ℕ, ◌*◌, ◌+◌, ◌<◌, ◌∷◌, ◌≡◌, ◌≤◌}
+use Rattle.county_chart.proofs.Common.{AllByRecursion, List, [], all_drop, all_take, all_weaker, ap, arith, drop, length, length-drop, length-take, map, pieces, range_with_len, refl, rules, suc, zero, ℕ, ◌*◌, ◌+◌, ◌<◌, ◌∷◌, ◌≡◌, ◌≤◌}
 use Rattle.county_chart.specs.Packing.{numbered_from}
 
 -- pieces of n: at most c of them if there are at most n * c elements, none longer than n

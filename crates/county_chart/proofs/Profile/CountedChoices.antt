@@ -1,8 +1,5 @@
 -- A pass over ordered keys, from the last to the first: the running product, and the places with a choice.
-use Rattle.county_chart.proofs.Common.{Bool, IsInOrder, IsKeyOrder, List, OpenPlace, Ordering, [], alike_first, ap, arith, before_all, cond}
-use Rattle.county_chart.proofs.Common.{false, inl, inr, is_eq, is_first, is_settled, length, less_from, open_place_at, open_places, refl}
-use Rattle.county_chart.proofs.Common.{reverse, reverse-append, running, same-true, same_or_not, suc, times, times-no, times-yes, true}
-use Rattle.county_chart.proofs.Common.{ways_at, ℕ, ◌*◌, ◌++◌, ◌+◌, ◌∙◌, ◌∷◌, ◌≡◌, ◌≤◌, ◌⊎◌}
+use Rattle.county_chart.proofs.Common.{Bool, IsInOrder, IsKeyOrder, List, OpenPlace, Ordering, [], alike_first, ap, arith, before_all, cond, false, inl, inr, is_eq, is_first, is_settled, length, less_from, open_place_at, open_places, refl, reverse, reverse-append, running, same-true, same_or_not, suc, times, times-no, times-yes, true, ways_at, ℕ, ◌*◌, ◌++◌, ◌+◌, ◌∙◌, ◌∷◌, ◌≡◌, ◌≤◌, ◌⊎◌}
 
 module _ {K : Type 0} {cmp : K → K → Ordering} (o : IsKeyOrder cmp) where
   -- in order, a key occurs after itself one time more than the next key does if they are the same, and never if they aren't
@@ -16,7 +13,7 @@ module _ {K : Type 0} {cmp : K → K → Ordering} (o : IsKeyOrder cmp) where
           times-yes o k j js same ∙ ap (λ i. suc (times cmp i js)) same
       go false e = before_all o k j js h.1 (less_from o (cmp k j) h.0.0 e)
 
-  -- the count of a key therefore follows from the next one's
+  -- so the count of a key follows from the count of the next key
   pub alike-next : (k : K) (ks : List K) → IsInOrder cmp (k ∷ ks) → cond (is_first cmp k ks) (alike_first cmp ks + 1) 1 ≡ suc (times cmp k ks)
   alike-next k [] h = refl
   alike-next k (j ∷ js) h = go (is_eq (cmp k j)) (run_on k j js h)

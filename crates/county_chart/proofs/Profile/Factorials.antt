@@ -1,10 +1,6 @@
 -- The running product of keys is the product of the factorials of how often each key occurs, and of twos. It is therefore the
 -- same for every order of the keys.
-use Rattle.county_chart.proofs.Common.{Bool, IsApart, IsKeyOrder, Known, List, Ordering, SameElements, [], ap, apart-distinct, apart_tail}
-use Rattle.county_chart.proofs.Common.{arith, cond, differ, distinct, distinct_same, factorial, false, filter, inl, inr, is_eq, is_gt}
-use Rattle.county_chart.proofs.Common.{known-distinct, known_cases, known_from_distinct, length, ltb-false, ltb-true, map, map_agree}
-use Rattle.county_chart.proofs.Common.{nat_lt, pow-succ', product, put_in_order, refl, running, contains, subst, suc, sym, times, times-no}
-use Rattle.county_chart.proofs.Common.{times-same, times-yes, true, ℕ, ◌*◌, ◌<◌, ◌^◌, ◌∙◌, ◌∷◌, ◌≡◌, ◌≤◌, ◌⊎◌}
+use Rattle.county_chart.proofs.Common.{Bool, IsApart, IsKeyOrder, Known, List, Ordering, SameElements, [], ap, apart-distinct, apart_tail, arith, cond, contains, differ, distinct, distinct_same, factorial, false, filter, inl, inr, is_eq, is_gt, known-distinct, known_cases, known_from_distinct, length, ltb-false, ltb-true, map, map_agree, nat_lt, pow-succ', product, put_in_order, refl, running, subst, suc, sym, times, times-no, times-same, times-yes, true, ℕ, ◌*◌, ◌<◌, ◌^◌, ◌∙◌, ◌∷◌, ◌≡◌, ◌≤◌, ◌⊎◌}
 
 module _ {K : Type 0} {cmp : K → K → Ordering} (o : IsKeyOrder cmp) where
   product-put : (f : K → ℕ) (k : K) (ds : List K) → product (map f (put_in_order cmp k ds)) ≡ f k * product (map f ds)
@@ -19,7 +15,7 @@ module _ {K : Type 0} {cmp : K → K → Ordering} (o : IsKeyOrder cmp) where
       go true ih = ap (λ n. f d * n) ih ∙ exchanged (f d) (f k) (product (map f ds))
       go false ih = refl
 
-  -- if f is n times g for one key and equal to g for all others, its product is n times g's
+  -- if f is n times g for one key and equal to g for all others, the product of f is n times the product of g
   product-more : (f g : K → ℕ) (n : ℕ) (k : K) → f k ≡ n * g k → ((j : K) → (j ≡ k → ⊥) → f j ≡ g j) → (ds : List K) → IsApart cmp ds
       → Known cmp ds k → product (map f ds) ≡ n * product (map g ds)
   product-more f g n k here other [] a m = absurd (omega (arith, m))

@@ -1,10 +1,7 @@
 -- The chain at a place of a county.
-use Rattle.county_chart.proofs.Common.{AllByRecursion, DirectedChain, least_points, length-reverse, option_map, points_along, slice_get-map}
-use Rattle.county_chart.proofs.Common.{Among, Bool, Chain, County, IsSome, List, Option, [], arith, chain_at, false, length, reverse, subst}
-use Rattle.county_chart.proofs.Common.{Coordinates, IsCounty, Ordering, all_among, points_at, points_cmp, points_from, points_of, slice_get}
-use Rattle.county_chart.proofs.Common.{Some, ap, drop, inl, inr, refl, suc, sym, take, true, zero, ℕ, ◌++◌, ◌<◌, ◌∙◌, ◌∷◌, ◌≡◌, ◌≤◌}
+use Rattle.county_chart.proofs.Common.{AllByRecursion, Among, Bool, Chain, Coordinates, County, DirectedChain, IsCounty, IsSome, List, Option, Ordering, Some, [], all_among, ap, arith, chain_at, drop, false, inl, inr, least_points, length, length-reverse, option_map, points_along, points_at, points_cmp, points_from, points_of, refl, reverse, slice_get, slice_get-map, subst, suc, sym, take, true, zero, ℕ, ◌++◌, ◌<◌, ◌∙◌, ◌∷◌, ◌≡◌, ◌≤◌}
 use Rattle.county_chart.proofs.DirectedChains.{points_turned}
-use Rattle.ordered_lists.proofs.Common.{is_lt}
+use Rattle.std.specs.Ordering.{is_lt}
 
 -- an item, and the lists before and after it
 pub record IsAt {X : Type 0} (xs : List X) (place : ℕ) : Type 0 where

@@ -1,10 +1,6 @@
 -- A county is in the profile, or exactly one clause is broken first.
-use Rattle.county_chart.proofs.Common.{Among, BodyP, County, Memory, Option, has_body, is_some, key_cmp, key_keys, same-true, contains, ℕ}
-use Rattle.county_chart.proofs.Common.{IsFirstBrokenClause, PolygonWithoutChain, inl, is_clause_broken, polygons_along, profile_fault_place}
-use Rattle.county_chart.proofs.Common.{IsInProfile, PolygonKey, ProfileFault, TooSymmetric, [], among-map, and_parts, any_among, false≢true}
-use Rattle.county_chart.proofs.Common.{List, cond, inr, is_eq, map, not, refl, subst, suc, sym, true, zero, ◌&&◌, ◌==◌, ◌∷◌, ◌≡◌, ◌⊎◌}
-use Rattle.county_chart.proofs.Rules.FirstFault.{first_or_none, not_first}
-use Rattle.county_chart.proofs.Rules.FirstFault.{one_first}
+use Rattle.county_chart.proofs.Common.{Among, BodyP, County, IsFirstBrokenClause, IsInProfile, List, Memory, Option, PolygonKey, PolygonWithoutChain, ProfileFault, TooSymmetric, [], among-map, and_parts, any_among, cond, contains, false≢true, has_body, inl, inr, is_clause_broken, is_eq, is_some, key_cmp, key_keys, map, not, polygons_along, profile_fault_place, refl, same-true, subst, suc, sym, true, zero, ℕ, ◌&&◌, ◌==◌, ◌∷◌, ◌≡◌, ◌⊎◌}
+use Rattle.county_chart.proofs.Rules.FirstFault.{first_or_none, not_first, one_first}
 
 -- the fault at a place
 abbrev part : List (List ℕ) → ℕ → List ℕ

@@ -1,10 +1,8 @@
 -- Counties that are the same leave equally many choices, and the shapes of a county in order determine how many.
-use Rattle.county_chart.proofs.Common.{AreInShapeOrder, DirectedChain, IsPermutation-sym, from_permutation, map_agree_everywhere, turned_if}
-use Rattle.county_chart.proofs.Common.{AreSame, Carries, Coordinates, Renumbering, choices, map, map-map, points_cmp, points_keys, same-map}
-use Rattle.county_chart.proofs.Common.{Bool, Chain, County, List, false, refl, running, shapes, subst, sym, true, turns, ℕ, ◌∙◌, ◌≡◌}
-use Rattle.county_chart.proofs.Common.{IsPermutation, SameElements, along_shapes, carried_chain, is_either_way, least_points, points_along}
+use Rattle.county_chart.proofs.Common.{AreInShapeOrder, AreSame, Bool, Carries, Chain, Coordinates, County, DirectedChain, IsPermutation, IsPermutation-sym, List, Renumbering, SameElements, along_shapes, carried_chain, choices, false, from_permutation, is_either_way, least_points, map, map-map, map_agree_everywhere, points_along, points_cmp, points_keys, refl, running, same-map, shapes, subst, sym, true, turned_if, turns, ℕ, ◌∙◌, ◌≡◌}
 use Rattle.county_chart.proofs.Profile.Factorials.{running-same, running_is}
-use Rattle.county_chart.proofs.{Profile.ShapePoints.least_reverse, Profile.ShapesOfCounty.shapes_along}
+use Rattle.county_chart.proofs.Profile.ShapePoints.{least_reverse}
+use Rattle.county_chart.proofs.Profile.ShapesOfCounty.{shapes_along}
 
 -- the number of choices depends only on the shapes
 pub choices_of_shapes : (county : County) → running points_cmp is_either_way (shapes county) ≡ choices county

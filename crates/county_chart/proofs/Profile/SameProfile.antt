@@ -1,13 +1,9 @@
 -- If two counties are the same map, both are in the profile or neither is.
-use Rattle.county_chart.proofs.Common.{Among, AreAllOnSides, AreSame, BodyP, Bool, Carries, Chain, County, IsCounty, IsInProfile}
-use Rattle.county_chart.proofs.Common.{IsPermutation-sym, Known, Memory, Option, PolygonKey, PolygonWithoutChain, Renumbering, TooSymmetric}
-use Rattle.county_chart.proofs.Common.{among-map, among-permutation, among-pieces, among-unmap, among_any, among_known, and_from, and_parts}
-use Rattle.county_chart.proofs.Common.{ap, carried_chain, carried_polygon, chain_polygons, false, false_from_ne_true, false≢true, has_body}
-use Rattle.county_chart.proofs.Common.{image, is_eq, is_some, key_cmp, key_keys, known_is_among, lt-ltb, ltb-true, map, most_choices}
-use Rattle.county_chart.proofs.Common.{nat_lt, not, polygons_along, refl, renumbered, same-itself, contains, subst, sym, times, true}
-use Rattle.county_chart.proofs.Common.{turned_if, turns, ◌&&◌, ◌∙◌, ◌≡◌}
+use Rattle.county_chart.proofs.Common.{Among, AreAllOnSides, AreSame, BodyP, Bool, Carries, Chain, County, IsCounty, IsInProfile, IsPermutation-sym, Known, Memory, Option, PolygonKey, PolygonWithoutChain, Renumbering, TooSymmetric, among-map, among-permutation, among-pieces, among-unmap, among_any, among_known, and_from, and_parts, ap, carried_chain, carried_polygon, chain_polygons, contains, false, false_from_ne_true, false≢true, has_body, image, is_eq, is_some, key_cmp, key_keys, known_is_among, lt-ltb, ltb-true, map, most_choices, nat_lt, not, polygons_along, refl, renumbered, same-itself, subst, sym, times, true, turned_if, turns, ◌&&◌, ◌∙◌, ◌≡◌}
 use Rattle.county_chart.proofs.Sameness.Carried.{among-turned, among-unpieces, chain_polygons-renumbered}
-use Rattle.county_chart.proofs.{Profile.ProfileFaults.body_entry, Profile.SameChoices.same_choices, Sameness.Equivalence.same-symmetric}
+use Rattle.county_chart.proofs.Profile.ProfileFaults.{body_entry}
+use Rattle.county_chart.proofs.Profile.SameChoices.{same_choices}
+use Rattle.county_chart.proofs.Sameness.Equivalence.{same-symmetric}
 
 not-false : (b : Bool) → not b ≡ false → b ≡ true
 not-false true e = refl

@@ -1,7 +1,5 @@
 -- A chain's shape is the same from either end of the chain. If the chain is its own reverse, so is its shape.
-use Rattle.county_chart.proofs.Common.{Bool, Coordinates, Equal, Greater, Less, List, Ordering, ap, false, is_either_way, is_eq, is_lt}
-use Rattle.county_chart.proofs.Common.{least_points, ordering_reverse, points_cmp, points_from, points_keys, refl, reverse, reverse-reverse}
-use Rattle.county_chart.proofs.Common.{sym, true, ◌∙◌, ◌≡◌}
+use Rattle.county_chart.proofs.Common.{Bool, Coordinates, Equal, Greater, Less, List, Ordering, ap, false, is_either_way, is_eq, is_lt, least_points, ordering_reverse, points_cmp, points_from, points_keys, refl, reverse, reverse-reverse, sym, true, ◌∙◌, ◌≡◌}
 
 -- the lesser of a list and its reverse is the same for both
 pub least_reverse : (ps : List Coordinates) → least_points (reverse ps) ≡ least_points ps

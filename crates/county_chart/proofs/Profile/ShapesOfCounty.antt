@@ -1,7 +1,5 @@
 -- The points of all directed chains are the county's shapes.
-use Rattle.county_chart.proofs.Common.{Chain, County, List, Some, [], along_shape, along_shapes, ap, ap₂, arith, least_points, length, map}
-use Rattle.county_chart.proofs.Common.{map-map, option_map, points_along, points_of, range_with_len, refl, shapes, slice_get, slice_get-map}
-use Rattle.county_chart.proofs.Common.{subst, suc, ℕ, ◌+◌, ◌∙◌, ◌∷◌, ◌≡◌}
+use Rattle.county_chart.proofs.Common.{Chain, County, List, Some, [], along_shape, along_shapes, ap, ap₂, arith, least_points, length, map, map-map, option_map, points_along, points_of, range_with_len, refl, shapes, slice_get, slice_get-map, subst, suc, ℕ, ◌+◌, ◌∙◌, ◌∷◌, ◌≡◌}
 use Rattle.county_chart.proofs.Profile.Places.{along_from}
 
 -- a function of each place that agrees with a function of the item there has the same values

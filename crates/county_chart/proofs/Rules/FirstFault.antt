@@ -1,7 +1,5 @@
 -- If all faults are in a finite list, either there is none or exactly one is the first.
-use Rattle.county_chart.proofs.Common.{AllByRecursion, Among, Bool, IsFirst, IsKeyOrder, List, [], all_among, ap, bytes_keys}
-use Rattle.county_chart.proofs.Common.{false, false≢true, inl, inr, is_gt, lists_keys, place_cmp, refl}
-use Rattle.county_chart.proofs.Common.{rules, sym, true, upto, ℕ, ◌∙◌, ◌∷◌, ◌≡◌, ◌⊎◌}
+use Rattle.county_chart.proofs.Common.{AllByRecursion, Among, Bool, IsFirst, IsKeyOrder, List, [], all_among, ap, bytes_keys, false, false≢true, inl, inr, is_gt, lists_keys, place_cmp, refl, rules, sym, true, upto, ℕ, ◌∙◌, ◌∷◌, ◌≡◌, ◌⊎◌}
 use Rattle.ordered_lists.proofs.ByKey.Keys.{order_antisymm, order_itself, order_total}
 
 pub place_keys : IsKeyOrder place_cmp

@@ -1,16 +1,8 @@
 -- Either a list of records is linked, or exactly one rule is the first that is broken.
-use Rattle.county_chart.proofs.Common.{Among, Fields4, NoChain, i_tlid, nat_cmp, nat_keys, six_rtsq, six_tlid, times-no, two_rtsq, two_tlid}
-use Rattle.county_chart.proofs.Common.{Bool, LandUnknown, LinkMissing, PolygonTwice, common_steps, differ_apart, known-append, linked_tlids}
-use Rattle.county_chart.proofs.Common.{ChainTwice, LinkedType, NameUnknown, among_right, chain_tlids, known_among, linked_type, same_or_not}
-use Rattle.county_chart.proofs.Common.{I, five_feat, four_rtsq, four_tlid, of_number, of_type_2, of_type_4, of_type_5, of_type_6, of_type_8}
-use Rattle.county_chart.proofs.Common.{IsFirstBrokenRule, PolygonUnknown, SequenceBroken, SequencedType, is_rule_broken, link_fault_place}
-use Rattle.county_chart.proofs.Common.{IsLinked, LinkFault, LinkTwice, NameTwice, among_left, and_parts, eight_land, false≢true, has_repeat}
-use Rattle.county_chart.proofs.Common.{Known, List, arith, cond, false, is_eq, nat_lt, ne_eqb, p_key, refl, rtsqs, rules, times, true, zero}
-use Rattle.county_chart.proofs.Common.{Record, eqb-true, flat_map, key_keys, link_key, ltb-true, of_type_i, of_type_p, contains, times-yes}
-use Rattle.county_chart.proofs.Common.{Six, [], inl, inr, map, not, suc, ℕ, ◌&&◌, ◌++◌, ◌<◌, ◌==◌, ◌∷◌, ◌≡◌, ◌⊎◌}
-use Rattle.county_chart.proofs.Rules.FirstFault.{first_or_none, not_first}
-use Rattle.county_chart.proofs.Rules.FirstFault.{one_first}
-use Rattle.county_chart.specs.declared.fault.{LinkFault.TheVariants.Memory, LinkedType.TheVariants.Four, LinkedType.TheVariants.Two}
+use Rattle.county_chart.proofs.Common.{Among, Bool, ChainTwice, Fields4, I, IsFirstBrokenRule, IsLinked, Known, LandUnknown, LinkFault, LinkMissing, LinkTwice, LinkedType, List, NameTwice, NameUnknown, NoChain, PolygonTwice, PolygonUnknown, Record, SequenceBroken, SequencedType, Six, [], among_left, among_right, and_parts, arith, chain_tlids, common_steps, cond, contains, differ_apart, eight_land, eqb-true, false, false≢true, five_feat, flat_map, four_rtsq, four_tlid, has_repeat, i_tlid, inl, inr, is_eq, is_rule_broken, key_keys, known-append, known_among, link_fault_place, link_key, linked_tlids, linked_type, ltb-true, map, nat_cmp, nat_keys, nat_lt, ne_eqb, not, of_number, of_type_2, of_type_4, of_type_5, of_type_6, of_type_8, of_type_i, of_type_p, p_key, refl, rtsqs, rules, same_or_not, six_rtsq, six_tlid, suc, times, times-no, times-yes, true, two_rtsq, two_tlid, zero, ℕ, ◌&&◌, ◌++◌, ◌<◌, ◌==◌, ◌∷◌, ◌≡◌, ◌⊎◌}
+use Rattle.county_chart.proofs.Rules.FirstFault.{first_or_none, not_first, one_first}
+use Rattle.county_chart.specs.declared.fault.LinkFault.TheVariants.{Memory}
+use Rattle.county_chart.specs.declared.fault.LinkedType.TheVariants.{Four, Two}
 use Rattle.county_chart.specs.declared.fault.SequencedType.TheVariants as sequenced
 
 -- the fault at a place

@@ -1,20 +1,7 @@
 -- The county of a linked list of records: its numbers ascend, and each number that it names exists.
-use Rattle.county_chart.proofs.Common.{AllByRecursion, AllKeysContained, PolygonUnknown, distinct-strict, length-in_order, strict_from_order}
-use Rattle.county_chart.proofs.Common.{Among, all_everywhere, from_in_order, known-distinct, known_is_among, polygons_along, times-in_order}
-use Rattle.county_chart.proofs.Common.{Body7, LandUnknown, LinkMissing, NameUnknown, known-append, polygon_body, polygon_keys, shape_points}
-use Rattle.county_chart.proofs.Common.{Bool, Known, List, arith, cond, false, feats, first, is_eq, lands, p_key, rules, subst, times, tlids}
-use Rattle.county_chart.proofs.Common.{Chain, Record, [], eq-eqb, filter, i_tlid, length, lt-ltb, map-id, map-map, nat_cmp, nat_lt, or_left}
-use Rattle.county_chart.proofs.Common.{ChainTwice, PolygonKey, all_joined, among-unmap, among_known, chain_tlids, named_feats, to_in_order}
-use Rattle.county_chart.proofs.Common.{Fields1, IsCounty, IsLinked, chain_of, distinct, flat_map, in_order, side_keys, contains, to_filter}
-use Rattle.county_chart.proofs.Common.{Fields4, key_keys, link_key, ltb-true, nat_keys, on_total, one_tlid, only_one, or_right, times-no}
-use Rattle.county_chart.proofs.Common.{Fields5, Fields7, Fields8, FieldsI, FieldsP, IsApart, IsWhole, NoChain, all_map, is_some, key_cmp}
-use Rattle.county_chart.proofs.Common.{I, IsStrictlySortedBy, in_order-in_order, known_from_distinct, landmark_body_cmp, landmark_body_keys}
-use Rattle.county_chart.proofs.Common.{IsTrue, LinkTwice, NameTwice, all_weaker, eight_land, false≢true, known-left, length-map, seven_land}
-use Rattle.county_chart.proofs.Common.{all-in_order, among-pieces, common_steps, further_names, in_order-map, length-append, nat_cmp_total}
-use Rattle.county_chart.proofs.Common.{all_known, among-map, chains_of, county_of, each_from, five_feat, four_rtsq, four_tlid, link_keys, ℕ}
-use Rattle.county_chart.proofs.Common.{ap, inl, inr, map, not, on, refl, sym, true, ◌&&◌, ◌++◌, ◌<◌, ◌||◌, ◌∙◌, ◌∷◌, ◌≡◌, ◌≤◌, ◌⊎◌}
-use Rattle.county_chart.proofs.Common.{ltb-false, of_number, of_type_1, of_type_4, of_type_5, of_type_7, of_type_8, of_type_i, of_type_p}
-use Rattle.county_chart.proofs.{Lists.OfNumber.of_number-among, Lists.OfNumber.times-of_number, Sameness.Carried.among-unpieces}
+use Rattle.county_chart.proofs.Common.{AllByRecursion, AllKeysContained, Among, Body7, Bool, Chain, ChainTwice, Fields1, Fields4, Fields5, Fields7, Fields8, FieldsI, FieldsP, I, IsApart, IsCounty, IsLinked, IsStrictlySortedBy, IsTrue, IsWhole, Known, LandUnknown, LinkMissing, LinkTwice, List, NameTwice, NameUnknown, NoChain, PolygonKey, PolygonUnknown, Record, [], all-in_order, all_everywhere, all_joined, all_known, all_map, all_weaker, among-map, among-pieces, among-unmap, among_known, ap, arith, chain_of, chain_tlids, chains_of, common_steps, cond, contains, county_of, distinct, distinct-strict, each_from, eight_land, eq-eqb, false, false≢true, feats, filter, first, five_feat, flat_map, four_rtsq, four_tlid, from_in_order, further_names, i_tlid, in_order, in_order-in_order, in_order-map, inl, inr, is_eq, is_some, key_cmp, key_keys, known-append, known-distinct, known-left, known_from_distinct, known_is_among, landmark_body_cmp, landmark_body_keys, lands, length, length-append, length-in_order, length-map, link_key, link_keys, lt-ltb, ltb-false, ltb-true, map, map-id, map-map, named_feats, nat_cmp, nat_cmp_total, nat_keys, nat_lt, not, of_number, of_type_1, of_type_4, of_type_5, of_type_7, of_type_8, of_type_i, of_type_p, on, on_total, one_tlid, only_one, or_left, or_right, p_key, polygon_body, polygon_keys, polygons_along, refl, rules, seven_land, shape_points, side_keys, strict_from_order, subst, sym, times, times-in_order, times-no, tlids, to_filter, to_in_order, true, ℕ, ◌&&◌, ◌++◌, ◌<◌, ◌||◌, ◌∙◌, ◌∷◌, ◌≡◌, ◌≤◌, ◌⊎◌}
+use Rattle.county_chart.proofs.Lists.OfNumber.{of_number-among, times-of_number}
+use Rattle.county_chart.proofs.Sameness.Carried.{among-unpieces}
 
 -- if a test never holds without another, the other holds whenever it does
 pub needed : (a b : Bool) → (a && not b) ≡ false → a ≡ true → b ≡ true

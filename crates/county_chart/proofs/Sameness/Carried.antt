@@ -1,9 +1,5 @@
 -- The numbers of a carried chain are the images of its numbers.
-use Rattle.county_chart.proofs.Common.{Among, Bool, Chain, IsKeyOrder, Known, List, None, Option, Ordering, PolygonKey, Renumbering}
-use Rattle.county_chart.proofs.Common.{SameElements, Some, [], among-pieces, among_known, among_left, among_right, chain_nodes}
-use Rattle.county_chart.proofs.Common.{chain_polygons, false, flat_map, image, inl, inr, key_cmp, key_on, key_under, known_is_among, map}
-use Rattle.county_chart.proofs.Common.{map-append, nat_cmp, option_map, option_to_list, refl, renumbered, renumbered_polygon, rules}
-use Rattle.county_chart.proofs.Common.{contains_alike, contains, true, turned_if, ℕ, ◌++◌, ◌∷◌, ◌≡◌, ◌⊎◌}
+use Rattle.county_chart.proofs.Common.{Among, Bool, Chain, IsKeyOrder, Known, List, None, Option, Ordering, PolygonKey, Renumbering, SameElements, Some, [], among-pieces, among_known, among_left, among_right, chain_nodes, chain_polygons, contains, contains_alike, false, flat_map, image, inl, inr, key_cmp, key_on, key_under, known_is_among, map, map-append, nat_cmp, option_map, option_to_list, refl, renumbered, renumbered_polygon, rules, true, turned_if, ℕ, ◌++◌, ◌∷◌, ◌≡◌, ◌⊎◌}
 
 pub key_on-renumbered : (r : Renumbering) (cenid : List ℕ) (polyid : Option ℕ)
     → key_on (renumbered_polygon r cenid polyid) ≡ map (image key_cmp r.polygons) (key_under cenid polyid)

@@ -1,19 +1,6 @@
 -- Sameness is an equivalence: the identity carries, and so do inverses and compositions of renamings that carry.
-use Rattle.county_chart.proofs.Common.{AllByRecursion, AllKeysContained, AllContained, ArePaired, AreSame, Bool, Carries, Chain, County}
-use Rattle.county_chart.proofs.Common.{Fields8, IsApart, IsClosed, IsCounty, IsKeyOrder, IsPermutation, IsPermutation-map}
-use Rattle.county_chart.proofs.Common.{IsPermutation-sym, IsPermutation-trans, IsTrue, Known, List, None, Option, Ordering, PolygonKey}
-use Rattle.county_chart.proofs.Common.{Renumbering, Some, [], all_filter, all_known, all_left, all_map, all_pieces, all_right, all_unmap}
-use Rattle.county_chart.proofs.Common.{all_weaker, ap, apart-distinct, apart_from_sorted, carried_chain, carried_landmark, carried_link}
-use Rattle.county_chart.proofs.Common.{carried_name, carried_polygon, chain_nodes, chain_polygons, composed, exactly_one, false, feats}
-use Rattle.county_chart.proofs.Common.{filter, has_repeat, has_repeat-apart, identity, image, inverse, is_named, key_cmp, key_keys, key_on}
-use Rattle.county_chart.proofs.Common.{key_under, known-distinct, lands, link_key, lt-ltb, ltb-true, map, map-id, map-map, map_agree_all}
-use Rattle.county_chart.proofs.Common.{map_itself, nat_cmp, nat_keys, nat_lt, nodes, nodes_along, option_map, option_to_list, polygon_keys}
-use Rattle.county_chart.proofs.Common.{refl, renumbered, renumbered_polygon, renumbered_side, rules, same_or_not, contains, subst, swapped}
-use Rattle.county_chart.proofs.Common.{sym, then, times, tlids, to_itself, true, turned-turned, turned_if, turns, ℕ, ◌∙◌, ◌∷◌, ◌≡◌}
-use Rattle.ordered_lists.proofs.ByKey.Keys.{apart-filter, image-followed, images-lefts, lefts-followed, lefts-swapped, rights-swapped}
-use Rattle.ordered_lists.proofs.ByKey.Keys.{apart-permutation, has_repeat-images, known-permutation, known-permutation_to, rights-to_itself}
-use Rattle.ordered_lists.proofs.ByKey.Keys.{filter_all, followed, image-back, image-known, image-no, lefts, rights, times-images}
-use Rattle.ordered_lists.proofs.ByKey.Keys.{image-to_itself, image-yes, joined-followed, lefts-to_itself, rights-followed, contains-filter}
+use Rattle.county_chart.proofs.Common.{AllByRecursion, AllContained, AllKeysContained, ArePaired, AreSame, Bool, Carries, Chain, County, Fields8, IsApart, IsClosed, IsCounty, IsKeyOrder, IsPermutation, IsPermutation-map, IsPermutation-sym, IsPermutation-trans, IsTrue, Known, List, None, Option, Ordering, PolygonKey, Renumbering, Some, [], all_filter, all_known, all_left, all_map, all_pieces, all_right, all_unmap, all_weaker, ap, apart-distinct, apart_from_sorted, carried_chain, carried_landmark, carried_link, carried_name, carried_polygon, chain_nodes, chain_polygons, composed, contains, exactly_one, false, feats, filter, has_repeat, has_repeat-apart, identity, image, inverse, is_named, key_cmp, key_keys, key_on, key_under, known-distinct, lands, link_key, lt-ltb, ltb-true, map, map-id, map-map, map_agree_all, map_itself, nat_cmp, nat_keys, nat_lt, nodes, nodes_along, option_map, option_to_list, polygon_keys, refl, renumbered, renumbered_polygon, renumbered_side, rules, same_or_not, subst, swapped, sym, then, times, tlids, to_itself, true, turned-turned, turned_if, turns, ℕ, ◌∙◌, ◌∷◌, ◌≡◌}
+use Rattle.ordered_lists.proofs.ByKey.Keys.{apart-filter, apart-permutation, contains-filter, filter_all, followed, has_repeat-images, image-back, image-followed, image-known, image-no, image-to_itself, image-yes, images-lefts, joined-followed, known-permutation, known-permutation_to, lefts, lefts-followed, lefts-swapped, lefts-to_itself, rights, rights-followed, rights-swapped, rights-to_itself, times-images}
 
 -- renaming and turning a chain commute
 pub renumbered-turned_if : (r : Renumbering) (b : Bool) (c : Chain) → renumbered r (turned_if b c) ≡ turned_if b (renumbered r c)

@@ -2,13 +2,17 @@
 use Rattle.std.proofs.Common.{Equal, None, Option, Some, ap, int_cmp, nat_cmp, option_to_list, refl, rules, ◌≡◌}
 use Rattle.std.proofs.lemmas.Cmp.{int_cmp_total, nat_cmp_total, nat_list_cmp_total, on_total, then_total}
 use Rattle.std.proofs.lemmas.Map.Lookups.{exact_bytes, exact_pairs, exact_signed, exact_unsigned}
-use Rattle.std.specs.{Cmp.Lexicographic.slice_cmp, Ordering.ordering_then}
-use Rattle.tl_layout.specs.{Coordinates.Coordinates, Fields.Fields8, declared.name.FeatureName.FeatureName, declared.type7.Body7.Body7}
+use Rattle.std.specs.Cmp.Lexicographic.{slice_cmp}
+use Rattle.std.specs.Ordering.{ordering_then}
+use Rattle.tl_layout.specs.Coordinates.{Coordinates}
+use Rattle.tl_layout.specs.Fields.{Fields8}
+use Rattle.tl_layout.specs.declared.name.FeatureName.{FeatureName}
+use Rattle.tl_layout.specs.declared.type7.Body7.{Body7}
 use Rattle.county_chart.specs.PolygonKeys.{PolygonKey, key_cmp}
-use Rattle.county_chart.specs.BodyOrder.{LinkPart, bytes_cmp, feature_name_cmp, landmark_body_cmp, link_cmp, link_part, link_part_cmp}
-use Rattle.county_chart.specs.BodyOrder.{name_body_cmp}
+use Rattle.county_chart.specs.BodyOrder.{LinkPart, bytes_cmp, feature_name_cmp, landmark_body_cmp, link_cmp, link_part, link_part_cmp, name_body_cmp}
 use Rattle.tl_shape.specs.PointOrder.{point_cmp, points_cmp}
-use Rattle.ordered_lists.proofs.{ByKey.KeyOrders.lists_keys, ByKey.KeyOrders.then-equal, ByKey.Keys.IsKeyOrder}
+use Rattle.ordered_lists.proofs.ByKey.KeyOrders.{lists_keys, then-equal}
+use Rattle.ordered_lists.proofs.ByKey.Keys.{IsKeyOrder}
 
 pub key_keys : IsKeyOrder key_cmp
 key_keys = record {

@@ -8,14 +8,20 @@
 use Rattle.std.proofs.Common.{Bool, List, cond, false, length, map, refl, rules, true, ℕ, ◌∙◌, ◌≡◌}
 use Rattle.std.proofs.lemmas.List.{length-map}
 use Rattle.std.specs.List.{AllByRecursion}
-use Rattle.tl_layout.specs.{Masked.masked_body_7, declared.mask.Mask.Mask, declared.type7.Body7.Body7}
+use Rattle.tl_layout.specs.Masked.{masked_body_7}
+use Rattle.tl_layout.specs.declared.mask.Mask.{Mask}
+use Rattle.tl_layout.specs.declared.type7.Body7.{Body7}
 use Rattle.tl_shape.specs.Chain.{Chain}
 use Rattle.county_chart.specs.CountyRules.{IsCounty, lands, nodes, polygons_along, tlids}
 use Rattle.county_chart.specs.MaskedCounty.{masked, masked_bodies, masked_chain}
-use Rattle.county_chart.specs.{BodyOrder.landmark_body_cmp, County.County, Laws.KeyOrders.landmark_body_keys}
+use Rattle.county_chart.specs.BodyOrder.{landmark_body_cmp}
+use Rattle.county_chart.specs.County.{County}
+use Rattle.county_chart.specs.Laws.KeyOrders.{landmark_body_keys}
 use Rattle.ordered_lists.specs.Orders.{IsInOrder, in_order}
 use Rattle.ordered_lists.proofs.Lists.Elements.{all_map, all_weaker, flat_map-map}
-use Rattle.ordered_lists.proofs.{ByKey.Numbers.length-in_order, Lists.EntryLists.keys-map_values, Lists.InOrder.in_order-in_order}
+use Rattle.ordered_lists.proofs.ByKey.Numbers.{length-in_order}
+use Rattle.ordered_lists.proofs.Lists.EntryLists.{keys-map_values}
+use Rattle.ordered_lists.proofs.Lists.InOrder.{in_order-in_order}
 
 -- the numbers are the same
 pub tlids_masked : (mask : Mask) (county : County) → tlids (masked mask county) ≡ tlids county

@@ -1,21 +1,29 @@
 -- Under a mask a county is within the same limits: blanks fit wherever a text does, and there are as many records of each type.
-use Rattle.std.proofs.Common.{Bool, List, [], cond, false, flat_map, length, length-append, map, refl, rules, subst, sym, true, ℕ, ◌∙◌, ◌∷◌}
-use Rattle.std.proofs.Common.{◌≡◌, ◌≤◌}
+use Rattle.std.proofs.Common.{Bool, List, [], cond, false, flat_map, length, length-append, map, refl, rules, subst, sym, true, ℕ, ◌∙◌, ◌∷◌, ◌≡◌, ◌≤◌}
 use Rattle.std.proofs.lemmas.List.{length-map}
 use Rattle.std.specs.List.{AllByRecursion}
-use Rattle.tl_layout.specs.{Bytes.IsText, Bytes.blanks_if, Laws.ByteLaws.blanks_are_text, Masked.masked_body_1, Masked.masked_body_7}
-use Rattle.tl_layout.specs.{Masked.masked_body_i, Numbers.IsNumber, RecordTypes.FitsFields, Type1Groups.FitsBody1, declared.mask.Mask.Mask}
-use Rattle.tl_layout.specs.{declared.type1.fields.Body1Fields.Body1Fields, declared.type7.Body7.Body7, declared.type_i.BodyI.BodyI}
+use Rattle.tl_layout.specs.Bytes.{IsText, blanks_if}
+use Rattle.tl_layout.specs.Laws.ByteLaws.{blanks_are_text}
+use Rattle.tl_layout.specs.Masked.{masked_body_1, masked_body_7, masked_body_i}
+use Rattle.tl_layout.specs.Numbers.{IsNumber}
+use Rattle.tl_layout.specs.RecordTypes.{FitsFields}
+use Rattle.tl_layout.specs.Type1Groups.{FitsBody1}
+use Rattle.tl_layout.specs.declared.mask.Mask.{Mask}
+use Rattle.tl_layout.specs.declared.type1.fields.Body1Fields.{Body1Fields}
+use Rattle.tl_layout.specs.declared.type7.Body7.{Body7}
+use Rattle.tl_layout.specs.declared.type_i.BodyI.{BodyI}
 use Rattle.tl_shape.specs.Chain.{Chain}
-use Rattle.county_chart.specs.Limits.{ContentsFit, FitsChain, FitsLandmark, FitsLinkContent, FitsNumbers, IsWithinLimits, ListsFit}
-use Rattle.county_chart.specs.Limits.{NumbersFit}
+use Rattle.county_chart.specs.Limits.{ContentsFit, FitsChain, FitsLandmark, FitsLinkContent, FitsNumbers, IsWithinLimits, ListsFit, NumbersFit}
 use Rattle.county_chart.specs.Packing.{packed, packed_by_type, packed_fours, packed_i, packed_one, packed_sevens, packed_sixes, packed_twos}
 use Rattle.county_chart.specs.MaskedCounty.{masked, masked_bodies, masked_chain}
 use Rattle.county_chart.specs.Laws.MaskedCounties.{all_chains_masked, all_landmarks_masked, length_masked_bodies}
 use Rattle.county_chart.specs.Laws.TypeCounts.{HasAtMost, HasWithin, by_type_within, packed_within}
-use Rattle.county_chart.specs.{BodyOrder.landmark_body_cmp, County.County, Laws.PackedTypes.by_type_of}
+use Rattle.county_chart.specs.BodyOrder.{landmark_body_cmp}
+use Rattle.county_chart.specs.County.{County}
+use Rattle.county_chart.specs.Laws.PackedTypes.{by_type_of}
 use Rattle.ordered_lists.specs.Orders.{in_order}
-use Rattle.ordered_lists.proofs.{ByKey.Numbers.all-in_order, Lists.Elements.all_map, Lists.Elements.all_weaker, Lists.Elements.flat_map-map}
+use Rattle.ordered_lists.proofs.ByKey.Numbers.{all-in_order}
+use Rattle.ordered_lists.proofs.Lists.Elements.{all_map, all_weaker, flat_map-map}
 
 -- blanks fit wherever a text does
 hidden_fits : (hidden : Bool) (width : ℕ) (text : List ℕ) → IsText width text → IsText width (blanks_if hidden width text)

@@ -1,8 +1,8 @@
 -- The records of each type of a packed county.
 use Rattle.std.proofs.Common.{List, [], ap, append-nil, ap₂, cond, map, refl, sym, ◌++◌, ◌==◌, ◌∙◌, ◌∷◌, ◌≡◌}
-use Rattle.std.proofs.{lemmas.Bool.eq-eqb, lemmas.List.Elements.filter_map-append}
-use Rattle.tl_layout.specs.RecordTypes.{FieldsOf, ListsByType, RecordType, Type1, Type2, Type4, Type5, Type6, Type7, Type8, TypeI, TypeP}
-use Rattle.tl_layout.specs.RecordTypes.{as_type, byte_of, later_types, listed_by_type, of_type, record_of}
+use Rattle.std.proofs.lemmas.Bool.{eq-eqb}
+use Rattle.std.proofs.lemmas.List.Elements.{filter_map-append}
+use Rattle.tl_layout.specs.RecordTypes.{FieldsOf, ListsByType, RecordType, Type1, Type2, Type4, Type5, Type6, Type7, Type8, TypeI, TypeP, as_type, byte_of, later_types, listed_by_type, of_type, record_of}
 use Rattle.tl_layout.specs.Laws.RecordTypeLaws.{every_type, own_selected}
 use Rattle.county_chart.specs.Packing.{Typed, by_type, type_after_type}
 use Rattle.ordered_lists.proofs.Lists.Elements.{selected_none, selected_own}

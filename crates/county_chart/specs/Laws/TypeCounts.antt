@@ -1,14 +1,16 @@
 -- The number of records of each type, by the type's byte and by the lists of records of one type.
-use Rattle.std.proofs.Common.{Bool, List, None, Option, Some, [], ap, arith, cond, false, filter_map, inl, inr, length, refl, subst, suc}
-use Rattle.std.proofs.Common.{sym, true, zero-add, ℕ, ◌+◌, ◌==◌, ◌∙◌, ◌∷◌, ◌≡◌, ◌≤◌, ◌⊎◌}
-use Rattle.std.proofs.{lemmas.Bool.eqb-true, lemmas.List.Sums.sum_by-cons}
+use Rattle.std.proofs.Common.{Bool, List, None, Option, Some, [], ap, arith, cond, false, filter_map, inl, inr, length, refl, subst, suc, sym, true, zero-add, ℕ, ◌+◌, ◌==◌, ◌∙◌, ◌∷◌, ◌≡◌, ◌≤◌, ◌⊎◌}
+use Rattle.std.proofs.lemmas.Bool.{eqb-true}
+use Rattle.std.proofs.lemmas.List.Sums.{sum_by-cons}
 use Rattle.std.specs.List.{cons_option}
-use Rattle.tl_layout.specs.RecordTypes.{RecordType, Type1, Type2, Type4, Type5, Type6, Type7, Type8, TypeI, TypeP, as_type, byte_of}
-use Rattle.tl_layout.specs.RecordTypes.{of_type}
+use Rattle.tl_layout.specs.RecordTypes.{RecordType, Type1, Type2, Type4, Type5, Type6, Type7, Type8, TypeI, TypeP, as_type, byte_of, of_type}
 use Rattle.tl_layout.specs.Laws.RecordTypeLaws.{is_selected, selected_by_byte, type_of_record, typed}
-use Rattle.tl_layout.specs.{Limits.IsWithinLimit, Limits.count_of_type, RecordText.type_of, declared.record_type.Record.Record}
+use Rattle.tl_layout.specs.Limits.{IsWithinLimit, count_of_type}
+use Rattle.tl_layout.specs.RecordText.{type_of}
+use Rattle.tl_layout.specs.declared.record_type.Record.{Record}
 use Rattle.county_chart.specs.Packing.{Typed, by_type, packed, packed_by_type}
-use Rattle.county_chart.specs.{County.County, Laws.PackedTypes.by_type_of}
+use Rattle.county_chart.specs.County.{County}
+use Rattle.county_chart.specs.Laws.PackedTypes.{by_type_of}
 
 -- each type has at most as many records as the limit for its byte
 pub record HasWithin (limits : ℕ → ℕ) (records : Typed) : Type 0 where

@@ -1,6 +1,6 @@
 //! Sets of keys.
 
-ghost use Rattle.std.specs.Prelude.{◌≡◌, ◌∷◌, ◌++◌, [], false, OnOk, OnErr, IfOk};
+ghost use Rattle.std.specs.Prelude.{IfOk, OnErr, OnOk, [], false, ◌++◌, ◌∷◌, ◌≡◌};
 ghost use Rattle.ordered_lists.specs.Orders.{distinct, has_repeat};
 ghost use Rattle.county_chart.specs.PolygonKeys.{key_cmp, key_on};
 

@@ -1,9 +1,11 @@
 //! Lists of items that have a key, in the order of the keys.
 
-ghost use Rattle.std.specs.Ordering.{is_eq, is_gt, is_le, is_lt, nat_cmp, on};
+ghost use Rattle.std.specs.Ordering.{is_eq, is_gt, is_le, is_lt, on};
 ghost use Rattle.std.specs.Prelude.{IsPermutation, OnOk, filter, length, map, true, ◌≡◌, ◌≤◌};
-ghost use Rattle.std.specs.{List.prefix_len, declared.cmp.Ordering.TheVariants.Equal};
-ghost use Rattle.ordered_lists.specs.{Keyed.IsLeastPassing, Keyed.is_unknown, Orders.IsInOrder};
+ghost use Rattle.std.specs.List.{prefix_len};
+ghost use Rattle.std.specs.declared.cmp.Ordering.TheVariants.{Equal};
+ghost use Rattle.ordered_lists.specs.Keyed.{IsLeastPassing, is_unknown};
+ghost use Rattle.ordered_lists.specs.Orders.{IsInOrder};
 
 use ordered_lists::Key;
 use std::alloc::AllocError;

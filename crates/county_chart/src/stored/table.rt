@@ -1,8 +1,10 @@
 //! Tables: values under ascending keys.
 
 ghost use Rattle.std.specs.Prelude.{IfSome, List, Some, is_some, length, slice_get, ◌<◌, ◌≡◌};
-ghost use Rattle.std.specs.{List.Sorted.IsStrictlySortedBy, Option.option_copied};
-ghost use Rattle.ordered_lists.specs.{Entries.entry_keys, Entries.entry_values, Entries.value_under, Orders.contains};
+ghost use Rattle.std.specs.List.Sorted.{IsStrictlySortedBy};
+ghost use Rattle.std.specs.Option.{option_copied};
+ghost use Rattle.ordered_lists.specs.Entries.{entry_keys, entry_values, value_under};
+ghost use Rattle.ordered_lists.specs.Orders.{contains};
 
 use ordered_lists::{Key, place_of};
 use std::marker::Model;
@@ -16,7 +18,8 @@ pub struct Table<K: Key, V> {
 
 impl<K: Key, V> Model for Table<K, V> {
     ghost use Rattle.std.specs.Prelude.{List, length, ◌≡◌};
-    ghost use Rattle.std.specs.{List.Sorted.IsStrictlySortedBy, List.zip};
+    ghost use Rattle.std.specs.List.Sorted.{IsStrictlySortedBy};
+    ghost use Rattle.std.specs.List.{zip};
 
     ghost Value = { List (K × V) };
 

@@ -1,6 +1,5 @@
 -- Orders whose equal keys are the same key: of lists, bytes, integers and pairs.
-use Rattle.ordered_lists.proofs.Common.{Equal, Greater, Less, List, Ordering, [], exact_pairs, lists_total, nat_cmp, on_total}
-use Rattle.ordered_lists.proofs.Common.{ordering_then, refl, slice_cmp, then_total, ◌∷◌, ◌≡◌}
+use Rattle.ordered_lists.proofs.Common.{Equal, Greater, Less, List, Ordering, [], exact_pairs, lists_total, nat_cmp, on_total, ordering_then, refl, slice_cmp, then_total, ◌∷◌, ◌≡◌}
 use Rattle.ordered_lists.proofs.ByKey.Keys.{IsKeyOrder, nat_keys}
 
 -- what follows if two orders, one after the other, compare as equal

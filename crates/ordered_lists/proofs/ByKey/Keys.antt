@@ -1,9 +1,5 @@
 -- Keys under an order that distinguishes any two: how often they occur in a list, and their images by pairs.
-use Rattle.ordered_lists.proofs.Common.{AllByRecursion, Bool, Equal, Greater, IsPermutation, IsTotalOrder, Less, List, Ordering, [], ap}
-use Rattle.ordered_lists.proofs.Common.{arith, cond, exact_unsigned, false, false_from_ne_true, false≢true, filter, filter-append}
-use Rattle.ordered_lists.proofs.Common.{has_repeat, inl, inr, is_eq, is_gt, length, length-append, length-filter, lt-ltb, map, nat_cmp}
-use Rattle.ordered_lists.proofs.Common.{nat_cmp_total, nat_lt, ordering_reverse, refl, contains, subst, suc, sum_by-IsPermutation, sym}
-use Rattle.ordered_lists.proofs.Common.{tied_itself, times, true, zero, ℕ, ◌++◌, ◌+◌, ◌<◌, ◌||◌, ◌∙◌, ◌∷◌, ◌≡◌, ◌≤◌, ◌⊎◌}
+use Rattle.ordered_lists.proofs.Common.{AllByRecursion, Bool, Equal, Greater, IsPermutation, IsTotalOrder, Less, List, Ordering, [], ap, arith, cond, contains, exact_unsigned, false, false_from_ne_true, false≢true, filter, filter-append, has_repeat, inl, inr, is_eq, is_gt, length, length-append, length-filter, lt-ltb, map, nat_cmp, nat_cmp_total, nat_lt, ordering_reverse, refl, subst, suc, sum_by-IsPermutation, sym, tied_itself, times, true, zero, ℕ, ◌++◌, ◌+◌, ◌<◌, ◌||◌, ◌∙◌, ◌∷◌, ◌≡◌, ◌≤◌, ◌⊎◌}
 use Rattle.std.specs.List.Sorted.{IsStrictlySortedBy}
 use Rattle.ordered_lists.specs.Pairs.{composed, image, is_named, swapped, to_itself}
 

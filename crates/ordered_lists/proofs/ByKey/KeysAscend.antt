@@ -1,9 +1,8 @@
 -- If each key of a list is below the next, the list is in order, and no key occurs twice.
-use Rattle.ordered_lists.proofs.Common.{Bool, Equal, Greater, IsAllAdjacentAnswer, IsInOrder, Less, List, Ordering, [], arith, false}
-use Rattle.ordered_lists.proofs.Common.{false≢true, get_or, is_eq, is_gt, is_lt, is_repeated, length, map, on, on_total, ordering_reverse}
-use Rattle.ordered_lists.proofs.Common.{refl, subst, suc, sym, true, ℕ, ◌+◌, ◌<◌, ◌∙◌, ◌∷◌, ◌≡◌}
+use Rattle.ordered_lists.proofs.Common.{Bool, Equal, Greater, IsAllAdjacentAnswer, IsInOrder, Less, List, Ordering, [], arith, false, false≢true, get_or, is_eq, is_gt, is_lt, is_repeated, length, map, on, on_total, ordering_reverse, refl, subst, suc, sym, true, ℕ, ◌+◌, ◌<◌, ◌∙◌, ◌∷◌, ◌≡◌}
 use Rattle.ordered_lists.proofs.ByKey.KeyedLists.{in_order-from_sorted, lt_reversed, repeated-later, repeated-none, repeated-one}
-use Rattle.ordered_lists.proofs.{ByKey.Keys.IsKeyOrder, Lists.InOrder.in_order-map}
+use Rattle.ordered_lists.proofs.ByKey.Keys.{IsKeyOrder}
+use Rattle.ordered_lists.proofs.Lists.InOrder.{in_order-map}
 
 below-not_above : (a : Ordering) → true ≡ is_lt a → is_gt a ≡ false
 below-not_above Less e = refl

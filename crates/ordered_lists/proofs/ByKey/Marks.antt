@@ -1,7 +1,5 @@
 -- Marks by number: no marks yet, and one number more.
-use Rattle.ordered_lists.proofs.Common.{AreMarksOf, Bool, List, Some, [], ap, arith, false, false≢true, get_or, get_or-set_other}
-use Rattle.ordered_lists.proofs.Common.{get_or-set_same, inl, inr, is_eq, length, length-set, lt-ltb, nat_cmp, nat_lt, set, slice_get}
-use Rattle.ordered_lists.proofs.Common.{slice_get-get_or, contains, subst, sym, times, true, ℕ, ◌++◌, ◌<◌, ◌∙◌, ◌∷◌, ◌≡◌, ◌≢◌, ◌≤◌, ◌⊎◌}
+use Rattle.ordered_lists.proofs.Common.{AreMarksOf, Bool, List, Some, [], ap, arith, contains, false, false≢true, get_or, get_or-set_other, get_or-set_same, inl, inr, is_eq, length, length-set, lt-ltb, nat_cmp, nat_lt, set, slice_get, slice_get-get_or, subst, sym, times, true, ℕ, ◌++◌, ◌<◌, ◌∙◌, ◌∷◌, ◌≡◌, ◌≢◌, ◌≤◌, ◌⊎◌}
 use Rattle.ordered_lists.proofs.ByKey.Keys.{differ, known-here, known-right, nat_keys, same-itself, same_or_not, times-append, times-no}
 
 -- one more number is in the list at its own place, and no other place changes

@@ -1,10 +1,10 @@
 -- Elements by their numbers: how many have a number, and lists that ascend strictly.
-use Rattle.ordered_lists.proofs.Common.{AllByRecursion, Bool, Equal, Greater, IsInOrder, Less, List, Ordering, [], ap, arith, cond}
-use Rattle.ordered_lists.proofs.Common.{distinct, false, filter, in_order, inl, inr, is_eq, is_gt, length, map, put_in_order, refl}
-use Rattle.ordered_lists.proofs.Common.{contains, suc, sym, times, true, true≢false, ◌∙◌, ◌∷◌, ◌≡◌, ◌≤◌}
+use Rattle.ordered_lists.proofs.Common.{AllByRecursion, Bool, Equal, Greater, IsInOrder, Less, List, Ordering, [], ap, arith, cond, contains, distinct, false, filter, in_order, inl, inr, is_eq, is_gt, length, map, put_in_order, refl, suc, sym, times, true, true≢false, ◌∙◌, ◌∷◌, ◌≡◌, ◌≤◌}
 use Rattle.ordered_lists.proofs.ByKey.Keys.{IsApart, IsKeyOrder, apart_tail, times-no, times-yes}
-use Rattle.ordered_lists.proofs.{Lists.Among.Among, Lists.Among.all_among, Lists.Distinct.apart-distinct, Lists.Distinct.count-put}
-use Rattle.ordered_lists.proofs.{Lists.Elements.all_weaker, Lists.InOrder.put-in_order}
+use Rattle.ordered_lists.proofs.Lists.Among.{Among, all_among}
+use Rattle.ordered_lists.proofs.Lists.Distinct.{apart-distinct, count-put}
+use Rattle.ordered_lists.proofs.Lists.Elements.{all_weaker}
+use Rattle.ordered_lists.proofs.Lists.InOrder.{put-in_order}
 use Rattle.std.specs.List.Sorted.{IsStrictlySortedBy}
 
 pub all_themselves : {X : Type 0} (xs : List X) → AllByRecursion (λ x. Among x xs) xs

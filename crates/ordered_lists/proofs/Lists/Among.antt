@@ -1,5 +1,5 @@
 -- Elements that are in a list.
-use Rattle.std.proofs.Common.{◌≡◌, ◌⊎◌, List, [], ◌∷◌, ◌++◌, map, false, is_eq, sym, ap, subst, inl, inr, Ordering, arith}
+use Rattle.std.proofs.Common.{List, Ordering, [], ap, arith, false, inl, inr, is_eq, map, subst, sym, ◌++◌, ◌∷◌, ◌≡◌, ◌⊎◌}
 use Rattle.std.specs.List.{AllByRecursion}
 use Rattle.ordered_lists.proofs.ByKey.Keys.{IsKeyOrder, Known, known_cases}
 

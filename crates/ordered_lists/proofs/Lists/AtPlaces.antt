@@ -1,9 +1,7 @@
 -- Lists read at places: in order, at all places in another order, and with each item turned into another.
-use Rattle.ordered_lists.proofs.Common.{AllByRecursion, IsInOrder, IsPermutation, IsPermutation-map, IsPermutation-refl, List, None, Option}
-use Rattle.ordered_lists.proofs.Common.{Some, [], ap, arith, at_places, cons_option, fill_by_all, get_or, length, length_permutation, map}
-use Rattle.ordered_lists.proofs.Common.{nat_cmp, on, option_map, range_with_len, refl, slice_get, slice_get-get_or, slice_get-map, subst}
-use Rattle.ordered_lists.proofs.Common.{sym, ℕ, ◌<◌, ◌∙◌, ◌∷◌, ◌≡◌}
-use Rattle.ordered_lists.proofs.{Lists.InOrder.in_order-map, Lists.Ranges.places_below}
+use Rattle.ordered_lists.proofs.Common.{AllByRecursion, IsInOrder, IsPermutation, IsPermutation-map, IsPermutation-refl, List, None, Option, Some, [], ap, arith, at_places, cons_option, fill_by_all, get_or, length, length_permutation, map, nat_cmp, on, option_map, range_with_len, refl, slice_get, slice_get-get_or, slice_get-map, subst, sym, ℕ, ◌<◌, ◌∙◌, ◌∷◌, ◌≡◌}
+use Rattle.ordered_lists.proofs.Lists.InOrder.{in_order-map}
+use Rattle.ordered_lists.proofs.Lists.Ranges.{places_below}
 
 -- at places that aren't past the end, each is read
 read_each : {X : Type 0} (items : List X) (d : X) (places : List ℕ) → AllByRecursion (λ place. place < length items) places

@@ -1,10 +1,8 @@
 -- Lists that are read place by place, and tests that decide a property.
-use Rattle.ordered_lists.proofs.Common.{AllByRecursion, AllWithin, Bool, Decides, HoldsAt, IfSome, IsInOrder, IsPermutation}
-use Rattle.ordered_lists.proofs.Common.{IsPermutation-sym, IsPermutation-trans, List, MatchBool, Ordering, [], add-one, ap, arith, false}
-use Rattle.ordered_lists.proofs.Common.{false≢true, get_or-range_with_len, in_order, length, length-range_with_len, range_with_len, refl}
-use Rattle.ordered_lists.proofs.Common.{slice_get, subst, suc, sym, take, take_all, true, zero, zero-add, ℕ, ◌+◌, ◌<◌, ◌∙◌, ◌∷◌, ◌≡◌, ◌≤◌}
+use Rattle.ordered_lists.proofs.Common.{AllByRecursion, AllWithin, Bool, Decides, HoldsAt, IfSome, IsInOrder, IsPermutation, IsPermutation-sym, IsPermutation-trans, List, MatchBool, Ordering, [], add-one, ap, arith, false, false≢true, get_or-range_with_len, in_order, length, length-range_with_len, range_with_len, refl, slice_get, subst, suc, sym, take, take_all, true, zero, zero-add, ℕ, ◌+◌, ◌<◌, ◌∙◌, ◌∷◌, ◌≡◌, ◌≤◌}
 use Rattle.ordered_lists.proofs.Lists.InOrder.{in_order-in_order, in_order-permutation}
-use Rattle.ordered_lists.proofs.{ByKey.Keys.IsKeyOrder, Lists.Permutations.in_order-is_permutation}
+use Rattle.ordered_lists.proofs.ByKey.Keys.{IsKeyOrder}
+use Rattle.ordered_lists.proofs.Lists.Permutations.{in_order-is_permutation}
 
 -- if a test fails, so does a property that implies the tested one
 pub decides_no : {P Q : Type 0} (b : Bool) → b ≡ false → Decides b P → (Q → P) → Decides false Q

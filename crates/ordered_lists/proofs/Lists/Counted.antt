@@ -1,11 +1,9 @@
 -- How many elements lists have, in groups and in pieces, and how many numbers are within bounds.
-use Rattle.ordered_lists.proofs.Common.{AllByRecursion, Bool, Less, List, None, Option, Some, [], arith, cases_eq, cond, cons_option, drop}
-use Rattle.ordered_lists.proofs.Common.{eq-eqb, false, filter, filter_map, flat_map, in_order, inl, inr, is_eq, length, length-append}
-use Rattle.ordered_lists.proofs.Common.{nat_cmp, nat_cmp_total, ne_eqb, ranked, refl, subst, suc, sym, take, true, zero, ℕ, ◌++◌, ◌+◌, ◌-◌}
-use Rattle.ordered_lists.proofs.Common.{◌<◌, ◌==◌, ◌∙◌, ◌∷◌, ◌≡◌, ◌≤◌, ◌⊎◌}
+use Rattle.ordered_lists.proofs.Common.{AllByRecursion, Bool, Less, List, None, Option, Some, [], arith, cases_eq, cond, cons_option, drop, eq-eqb, false, filter, filter_map, flat_map, in_order, inl, inr, is_eq, length, length-append, nat_cmp, nat_cmp_total, ne_eqb, ranked, refl, subst, suc, sym, take, true, zero, ℕ, ◌++◌, ◌+◌, ◌-◌, ◌<◌, ◌==◌, ◌∙◌, ◌∷◌, ◌≡◌, ◌≤◌, ◌⊎◌}
 use Rattle.ordered_lists.proofs.ByKey.Keys.{IsApart, differ, nat_keys, same-itself}
 use Rattle.ordered_lists.proofs.ByKey.Numbers.{all-in_order, count-in_order, length-in_order, strict_from_order}
-use Rattle.ordered_lists.proofs.{Lists.Elements.all_both, Lists.Elements.all_weaker, Lists.InOrder.in_order-in_order}
+use Rattle.ordered_lists.proofs.Lists.Elements.{all_both, all_weaker}
+use Rattle.ordered_lists.proofs.Lists.InOrder.{in_order-in_order}
 use Rattle.std.specs.List.Sorted.{IsStrictlySortedBy}
 
 -- the elements that pass each of several tests, test after test

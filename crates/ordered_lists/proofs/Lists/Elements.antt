@@ -1,6 +1,5 @@
 -- Lists: properties of each element, and maps that agree.
-use Rattle.ordered_lists.proofs.Common.{All, AllByRecursion, Bool, List, None, Option, Some, [], ap, arith, cond, cons_option, false}
-use Rattle.ordered_lists.proofs.Common.{filter, filter_map, flat_map, map, refl, suc, true, ◌++◌, ◌∷◌, ◌≡◌}
+use Rattle.ordered_lists.proofs.Common.{All, AllByRecursion, Bool, List, None, Option, Some, [], ap, arith, cond, cons_option, false, filter, filter_map, flat_map, map, refl, suc, true, ◌++◌, ◌∷◌, ◌≡◌}
 
 pub map_itself : {X : Type 0} (f : X → X) → ((x : X) → f x ≡ x) → (xs : List X) → map f xs ≡ xs
 map_itself f h [] = refl

@@ -1,7 +1,5 @@
 -- Entries as lists of keys and of values.
-use Rattle.ordered_lists.proofs.Common.{AllByRecursion, IsInOrder, entry_keys, entry_values, false≢true, map_values, slice_get, value_under}
-use Rattle.ordered_lists.proofs.Common.{Less, List, Ordering, arith, false, is_eq, is_gt, length, lt-ltb, nat_lt, contains, subst, times}
-use Rattle.ordered_lists.proofs.Common.{None, Some, [], ap, cond, inl, inr, map, refl, suc, sym, true, zero, zip, ℕ, ◌∙◌, ◌∷◌, ◌≡◌, ◌⊎◌}
+use Rattle.ordered_lists.proofs.Common.{AllByRecursion, IsInOrder, Less, List, None, Ordering, Some, [], ap, arith, cond, contains, entry_keys, entry_values, false, false≢true, inl, inr, is_eq, is_gt, length, lt-ltb, map, map_values, nat_lt, refl, slice_get, subst, suc, sym, times, true, value_under, zero, zip, ℕ, ◌∙◌, ◌∷◌, ◌≡◌, ◌⊎◌}
 use Rattle.ordered_lists.proofs.ByKey.Keys.{IsKeyOrder, same-itself, same_or_not, times-no, times-yes}
 use Rattle.ordered_lists.proofs.Lists.Elements.{all_weaker}
 use Rattle.std.specs.List.Sorted.{IsStrictlySortedBy}

@@ -1,8 +1,7 @@
 -- The elements of one key in a list that is in order.
-use Rattle.ordered_lists.proofs.Common.{AllByRecursion, Bool, Equal, Greater, Less, List, Ordering, [], ap, append_assoc, cond, false}
-use Rattle.ordered_lists.proofs.Common.{false≢true, filter, inl, inr, is_eq, is_gt, nat_cmp, ordering_reverse, refl, subst, sym, true, ℕ}
-use Rattle.ordered_lists.proofs.Common.{◌++◌, ◌∙◌, ◌∷◌, ◌≡◌, ◌⊎◌}
-use Rattle.ordered_lists.proofs.{ByKey.Keys.IsKeyOrder, ByKey.Keys.same_or_not, Lists.Counted.filter-agree}
+use Rattle.ordered_lists.proofs.Common.{AllByRecursion, Bool, Equal, Greater, Less, List, Ordering, [], ap, append_assoc, cond, false, false≢true, filter, inl, inr, is_eq, is_gt, nat_cmp, ordering_reverse, refl, subst, sym, true, ℕ, ◌++◌, ◌∙◌, ◌∷◌, ◌≡◌, ◌⊎◌}
+use Rattle.ordered_lists.proofs.ByKey.Keys.{IsKeyOrder, same_or_not}
+use Rattle.ordered_lists.proofs.Lists.Counted.{filter-agree}
 use Rattle.std.specs.List.Sorted.{IsStrictlySortedBy}
 
 eq_reversed : (a b : Ordering) → a ≡ ordering_reverse b → is_eq a ≡ is_eq b

@@ -1,8 +1,5 @@
 -- Elements of a list: under a permutation, in a map, and when a test finds one.
-use Rattle.ordered_lists.proofs.Common.{Bool, Contains, Contains-permutation, IsPermutation, List, None, Option, Ordering, Some, [], ap}
-use Rattle.ordered_lists.proofs.Common.{arith, cons_option, false, false≢true, filter_map, flat_map, get_or, inl, inr, is_eq, length}
-use Rattle.ordered_lists.proofs.Common.{list_any, map, or_cases, or_left, or_right, refl, subst, suc, sym, true, zero, ℕ, ◌++◌, ◌<◌, ◌∙◌}
-use Rattle.ordered_lists.proofs.Common.{◌∷◌, ◌≡◌, ◌⊎◌}
+use Rattle.ordered_lists.proofs.Common.{Bool, Contains, Contains-permutation, IsPermutation, List, None, Option, Ordering, Some, [], ap, arith, cons_option, false, false≢true, filter_map, flat_map, get_or, inl, inr, is_eq, length, list_any, map, or_cases, or_left, or_right, refl, subst, suc, sym, true, zero, ℕ, ◌++◌, ◌<◌, ◌∙◌, ◌∷◌, ◌≡◌, ◌⊎◌}
 use Rattle.ordered_lists.proofs.Lists.Among.{Among}
 use Rattle.ordered_lists.proofs.ByKey.Keys.{IsApart, IsKeyOrder, Known, apart_tail, known-here, known-later, known_cases, times-yes}
 

@@ -1,8 +1,7 @@
 -- Places: the elements up to a place, and the element at the place of a key, or past the end.
-use Rattle.ordered_lists.proofs.Common.{IfSome, IsStrictlySortedBy, List, None, Option, Ordering, Some, [], ap, arith, entry_keys}
-use Rattle.ordered_lists.proofs.Common.{entry_values, is_some, length, refl, slice_get, slice_get_past, contains, suc, sym, take}
-use Rattle.ordered_lists.proofs.Common.{unwrap_or, value_under, zero, ℕ, ◌++◌, ◌+◌, ◌∙◌, ◌∷◌, ◌≡◌}
-use Rattle.ordered_lists.proofs.{ByKey.Keys.IsKeyOrder, Lists.EntryLists.none-under, Lists.EntryLists.value-at_place}
+use Rattle.ordered_lists.proofs.Common.{IfSome, IsStrictlySortedBy, List, None, Option, Ordering, Some, [], ap, arith, contains, entry_keys, entry_values, is_some, length, refl, slice_get, slice_get_past, suc, sym, take, unwrap_or, value_under, zero, ℕ, ◌++◌, ◌+◌, ◌∙◌, ◌∷◌, ◌≡◌}
+use Rattle.ordered_lists.proofs.ByKey.Keys.{IsKeyOrder}
+use Rattle.ordered_lists.proofs.Lists.EntryLists.{none-under, value-at_place}
 
 -- the elements up to a place, and those with the element at that place
 pub next_taken : {X : Type 0} (xs : List X) (place : ℕ) (x : X) → Some x ≡ slice_get xs place

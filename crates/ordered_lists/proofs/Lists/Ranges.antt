@@ -1,11 +1,9 @@
 -- Ranges of numbers: they ascend, and a list with as many numbers below a bound, none of them twice, has all numbers below it.
-use Rattle.ordered_lists.proofs.Common.{AllByRecursion, Bool, Equal, Greater, IsPermutation, Less, List, [], ap, arith, cond, false}
-use Rattle.ordered_lists.proofs.Common.{false≢true, get_or, get_or-set_other, get_or-set_same, inl, inr, is_eq, length, length-set, lt-ltb}
-use Rattle.ordered_lists.proofs.Common.{nat_cmp, range_with_len, refl, set, suc, sym, times, true, zero, ℕ, ◌++◌, ◌+◌, ◌<◌, ◌==◌, ◌∙◌, ◌∷◌}
-use Rattle.ordered_lists.proofs.Common.{◌≡◌, ◌≤◌, ◌⊎◌}
-use Rattle.ordered_lists.proofs.ByKey.Keys.{IsApart, Known, all_known, apart_from_sorted, differ_apart, known-permutation, known_all}
-use Rattle.ordered_lists.proofs.ByKey.Keys.{nat_keys, same_or_not, times-append, times-no, times-yes}
-use Rattle.ordered_lists.proofs.Lists.{Counted.few_numbers, Elements.all_append, Elements.all_weaker, Permutations.apart-permutation_of}
+use Rattle.ordered_lists.proofs.Common.{AllByRecursion, Bool, Equal, Greater, IsPermutation, Less, List, [], ap, arith, cond, false, false≢true, get_or, get_or-set_other, get_or-set_same, inl, inr, is_eq, length, length-set, lt-ltb, nat_cmp, range_with_len, refl, set, suc, sym, times, true, zero, ℕ, ◌++◌, ◌+◌, ◌<◌, ◌==◌, ◌∙◌, ◌∷◌, ◌≡◌, ◌≤◌, ◌⊎◌}
+use Rattle.ordered_lists.proofs.ByKey.Keys.{IsApart, Known, all_known, apart_from_sorted, differ_apart, known-permutation, known_all, nat_keys, same_or_not, times-append, times-no, times-yes}
+use Rattle.ordered_lists.proofs.Lists.Counted.{few_numbers}
+use Rattle.ordered_lists.proofs.Lists.Elements.{all_append, all_weaker}
+use Rattle.ordered_lists.proofs.Lists.Permutations.{apart-permutation_of}
 use Rattle.std.specs.List.Sorted.{IsStrictlySortedBy}
 
 pub less : (m n : ℕ) → m < n → nat_cmp m n ≡ Less

@@ -1,8 +1,5 @@
 -- The name, the landmark and the polygon at a place of a county within its limits.
-use Rattle.record_groups.proofs.Common.{AllByRecursion, IsWithinLimits, all-in_order, length-in_order, polygons_by_number, type_p_by_number}
-use Rattle.record_groups.proofs.Common.{Body5, Body7, BodyP, Some, all_at, length, map, on, subst, sym, ℕ, ◌<◌, ◌∙◌, ◌≡◌}
-use Rattle.record_groups.proofs.Common.{County, IsNumber, IsText, List, Option, group_at, nat_cmp, option_map, packed_p, slice_get, some_at}
-use Rattle.record_groups.proofs.Common.{PolygonKey, ap, entry_polyid, entry_values, length-map, most_records, option_to_list, slice_get-map}
+use Rattle.record_groups.proofs.Common.{AllByRecursion, Body5, Body7, BodyP, County, IsNumber, IsText, IsWithinLimits, List, Option, PolygonKey, Some, all-in_order, all_at, ap, entry_polyid, entry_values, group_at, length, length-in_order, length-map, map, most_records, nat_cmp, on, option_map, option_to_list, packed_p, polygons_by_number, slice_get, slice_get-map, some_at, subst, sym, type_p_by_number, ℕ, ◌<◌, ◌∙◌, ◌≡◌}
 use Rattle.record_groups.proofs.Records.Grouped.{group_of}
 
 -- the entry at a place, with its number and its value

@@ -1,6 +1,5 @@
 -- The records of groups that were passed so far, and the rest.
-use Rattle.record_groups.proofs.Common.{List, add-one, ap, arith, drop, group_at, grouped, length, length_headed, map, map-append, suc}
-use Rattle.record_groups.proofs.Common.{take, ℕ, ◌++◌, ◌+◌, ◌<◌, ◌∙◌, ◌≡◌, ◌≤◌}
+use Rattle.record_groups.proofs.Common.{List, add-one, ap, arith, drop, group_at, grouped, length, length_headed, map, map-append, suc, take, ℕ, ◌++◌, ◌+◌, ◌<◌, ◌∙◌, ◌≡◌, ◌≤◌}
 use Rattle.record_groups.proofs.Records.Grouped.{group_headed, grouped_around, grouped_parted, grouped_up_to, next_grouped}
 
 module _ {X Y : Type 0} (f : X → Y) (groups : List (List X)) where

@@ -1,8 +1,7 @@
 -- The rest of records in groups, from a place.
-use Rattle.record_groups.proofs.Common.{Bool, List, Option, Some, [], add-one, ap, ap₂, arith, drop, drop_all, false, group_at, grouped}
-use Rattle.record_groups.proofs.Common.{if◌then◌else◌, length, ltb-false, nat_lt, refl, rest_of, slice_get, slice_get_past, suc, sym, true}
-use Rattle.record_groups.proofs.Common.{unwrap_or, zero, ℕ, ◌++◌, ◌+◌, ◌∙◌, ◌∷◌, ◌≡◌, ◌≤◌}
-use Rattle.canonical_form.proofs.{Common.get_or_from_slice_get, Lists.ListPlaces.none_past}
+use Rattle.record_groups.proofs.Common.{Bool, List, Option, Some, [], add-one, ap, ap₂, arith, drop, drop_all, false, group_at, grouped, if◌then◌else◌, length, ltb-false, nat_lt, refl, rest_of, slice_get, slice_get_past, suc, sym, true, unwrap_or, zero, ℕ, ◌++◌, ◌+◌, ◌∙◌, ◌∷◌, ◌≡◌, ◌≤◌}
+use Rattle.std.proofs.lemmas.Option.{get_or_from_slice_get}
+use Rattle.canonical_form.proofs.Lists.ListPlaces.{none_past}
 use Rattle.std.proofs.Common.{drop-cons}
 
 -- an element, then the rest after it

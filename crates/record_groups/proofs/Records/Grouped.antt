@@ -1,7 +1,5 @@
 -- Groups made from the entries of a list, and lists read by place.
-use Rattle.record_groups.proofs.Common.{List, Option, Some, [], ap, append-nil, append_assoc, arith, drop, flat_map, flat_map-append}
-use Rattle.record_groups.proofs.Common.{get_dropped, get_taken, group_at, grouped, length, map, option_map, refl, slice_get, slice_get-map}
-use Rattle.record_groups.proofs.Common.{suc, sym, take, take-add, take-append-drop, unwrap_or, zero, ℕ, ◌++◌, ◌+◌, ◌<◌, ◌∙◌, ◌∷◌, ◌≡◌}
+use Rattle.record_groups.proofs.Common.{List, Option, Some, [], ap, append-nil, append_assoc, arith, drop, flat_map, flat_map-append, get_dropped, get_taken, group_at, grouped, length, map, option_map, refl, slice_get, slice_get-map, suc, sym, take, take-add, take-append-drop, unwrap_or, zero, ℕ, ◌++◌, ◌+◌, ◌<◌, ◌∙◌, ◌∷◌, ◌≡◌}
 
 -- the group of an entry
 pub group_of : {X Y : Type 0} (f : X → List Y) (xs : List X) (place : ℕ) (x : X) → slice_get xs place ≡ Some x → group_at (map f xs) place ≡

@@ -1,5 +1,5 @@
 -- Three lists of records passed to a visitor one after the other.
-use Rattle.record_groups.proofs.Common.{List, ◌++◌, Result, Ok, Err, Record}
+use Rattle.record_groups.proofs.Common.{Err, List, Ok, Record, Result, ◌++◌}
 
 -- given what it means to take records from one state to another, and two facts about it
 module _ {Visitor Device Fault : Type 0} (Takes : List Record → Visitor → Device → Result (Unit {0}) Fault → Visitor → Device → Type 0)

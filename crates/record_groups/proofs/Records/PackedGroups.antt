@@ -1,11 +1,7 @@
 -- The groups of a county's records, joined, are its packing.
-use Rattle.record_groups.proofs.Common.{BodyP, County, Eight, One, Option, grouped, in_order, nat_cmp, p_polyid, packed, packed_i, packed_p}
-use Rattle.record_groups.proofs.Common.{FieldsP, polygons_by_number, type_1_by_chain, type_2_by_chain, type_7_by_landmark, type_p_by_number}
-use Rattle.record_groups.proofs.Common.{Five, Four, List, None, P, Seven, Six, Some, Two, map, on, ◌++◌, ◌∙◌, ◌≡◌}
-use Rattle.record_groups.proofs.Common.{I, append_assoc, entry_polyid, packed_fours, packed_sixes, types_1_to_4, types_5_to_7, types_8_to_p}
-use Rattle.record_groups.proofs.Common.{PolygonKey, ap, append-nil, filter_map, flat_map, packed_body, packed_five, packed_one, packed_twos}
-use Rattle.record_groups.proofs.Common.{packed_sevens, type_4_by_chain, type_5_by_name, type_6_by_chain, type_8_together, type_i_by_chain}
-use Rattle.record_groups.proofs.Records.{Grouped.grouped_lone, Grouped.grouped_map, Selected.grouped_selected, Selected.selected_in_order}
+use Rattle.record_groups.proofs.Common.{BodyP, County, Eight, FieldsP, Five, Four, I, List, None, One, Option, P, PolygonKey, Seven, Six, Some, Two, ap, append-nil, append_assoc, entry_polyid, filter_map, flat_map, grouped, in_order, map, nat_cmp, on, p_polyid, packed, packed_body, packed_five, packed_fours, packed_i, packed_one, packed_p, packed_sevens, packed_sixes, packed_twos, polygons_by_number, type_1_by_chain, type_2_by_chain, type_4_by_chain, type_5_by_name, type_6_by_chain, type_7_by_landmark, type_8_together, type_i_by_chain, type_p_by_number, types_1_to_4, types_5_to_7, types_8_to_p, ◌++◌, ◌∙◌, ◌≡◌}
+use Rattle.record_groups.proofs.Records.Grouped.{grouped_lone, grouped_map}
+use Rattle.record_groups.proofs.Records.Selected.{grouped_selected, selected_in_order}
 
 same_polyid : (entry : PolygonKey × Option BodyP) (r : FieldsP) → packed_p entry ≡ Some r → entry_polyid entry ≡ p_polyid r
 same_polyid entry r e = go entry.1 e

@@ -1,8 +1,6 @@
 -- Pieces of a list, read by place.
-use Rattle.record_groups.proofs.Common.{List, Some, [], ap, arith, div_ceil_times, drop, drop-drop, in_pieces, length, length-drop}
-use Rattle.record_groups.proofs.Common.{length-map, length-numbered_from, map, min, numbered_at, numbered_from, option_map, pieces, refl}
-use Rattle.record_groups.proofs.Common.{slice_get, slice_get-map, suc, take, zero, ℕ, ◌%◌, ◌*◌, ◌+◌, ◌-◌, ◌/◌, ◌<◌, ◌∙◌, ◌∷◌, ◌≡◌, ◌≤◌}
-use Rattle.canonical_form.proofs.Common.{mul-le}
+use Rattle.record_groups.proofs.Common.{List, Some, [], ap, arith, div_ceil_times, drop, drop-drop, in_pieces, length, length-drop, length-map, length-numbered_from, map, min, numbered_at, numbered_from, option_map, pieces, refl, slice_get, slice_get-map, suc, take, zero, ℕ, ◌%◌, ◌*◌, ◌+◌, ◌-◌, ◌/◌, ◌<◌, ◌∙◌, ◌∷◌, ◌≡◌, ◌≤◌}
+use Rattle.std.proofs.lemmas.Nat.{mul-le}
 
 module _ {X : Type 0} (n : ℕ) where
   -- as many pieces as needed, and not one more

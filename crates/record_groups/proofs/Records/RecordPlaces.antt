@@ -1,8 +1,5 @@
 -- A record at a place among the records of a chain.
-use Rattle.record_groups.proofs.Common.{Chain, County, Fields2, Fields4, Fields6, FieldsI, Option, Ranges, length, part_of, subst, tlids, ℕ}
-use Rattle.record_groups.proofs.Common.{ChainThere, Coordinates, IsWithinLimits, List, chain_there, length-map, most_records, numbered_from}
-use Rattle.record_groups.proofs.Common.{IsCounty, chain_at, group_at, in_pieces, map, option_map, packed_i, points_of, slice_get, some-same}
-use Rattle.record_groups.proofs.Common.{Some, [], ap, drop, lone, min, suc, sym, take, ◌%◌, ◌*◌, ◌+◌, ◌/◌, ◌<◌, ◌∙◌, ◌∷◌, ◌≡◌, ◌≤◌}
+use Rattle.record_groups.proofs.Common.{Chain, ChainThere, Coordinates, County, Fields2, Fields4, Fields6, FieldsI, IsCounty, IsWithinLimits, List, Option, Ranges, Some, [], ap, chain_at, chain_there, drop, group_at, in_pieces, length, length-map, lone, map, min, most_records, numbered_from, option_map, packed_i, part_of, points_of, slice_get, some-same, subst, suc, sym, take, tlids, ℕ, ◌%◌, ◌*◌, ◌+◌, ◌/◌, ◌<◌, ◌∙◌, ◌∷◌, ◌≡◌, ◌≤◌}
 use Rattle.record_groups.proofs.Records.Grouped.{group_of}
 use Rattle.county_chart.specs.ChartWords.{ends_of, sides_of}
 use Rattle.record_groups.proofs.Records.Pieces.{numbered_list_at, numbered_list_length, piece_begins, pieces_at, pieces_counted}

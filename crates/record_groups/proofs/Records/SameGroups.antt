@@ -1,7 +1,5 @@
 -- Lists that are compared place by place, and tests that decide whether they are the same.
-use Rattle.record_groups.proofs.Common.{Bool, County, Decides, Eight, Five, Four, HaveSameChains, HaveSameCounts, HaveSameEntries, I}
-use Rattle.record_groups.proofs.Common.{IsCounty, List, One, P, Seven, Six, Some, Two, [], ap, arith, county_of, group_at, grouped, length}
-use Rattle.record_groups.proofs.Common.{map, packed, packed_county, rules, slice_get, subst, suc, sym, zero, ℕ, ◌++◌, ◌<◌, ◌∙◌, ◌∷◌, ◌≡◌}
+use Rattle.record_groups.proofs.Common.{Bool, County, Decides, Eight, Five, Four, HaveSameChains, HaveSameCounts, HaveSameEntries, I, IsCounty, List, One, P, Seven, Six, Some, Two, [], ap, arith, county_of, group_at, grouped, length, map, packed, packed_county, rules, slice_get, subst, suc, sym, zero, ℕ, ◌++◌, ◌<◌, ◌∙◌, ◌∷◌, ◌≡◌}
 use Rattle.record_groups.proofs.Records.PackedGroups.{all_groups}
 
 -- groups at a place that both have

@@ -1,7 +1,5 @@
 -- Selecting from a list that is put in order.
-use Rattle.record_groups.proofs.Common.{AllByRecursion, Option, cons_option, in_order-in_order, nat_cmp_total, option_to_list, put_in_order}
-use Rattle.record_groups.proofs.Common.{Bool, List, None, Some, ap, cond, map, on, refl, sym, true, upto, ℕ, ◌++◌, ◌∙◌, ◌∷◌, ◌≡◌}
-use Rattle.record_groups.proofs.Common.{IsInOrder, Ordering, [], all_weaker, false, filter_map, grouped, in_order, is_gt, nat_cmp, on_total}
+use Rattle.record_groups.proofs.Common.{AllByRecursion, Bool, IsInOrder, List, None, Option, Ordering, Some, [], all_weaker, ap, cond, cons_option, false, filter_map, grouped, in_order, in_order-in_order, is_gt, map, nat_cmp, nat_cmp_total, on, on_total, option_to_list, put_in_order, refl, sym, true, upto, ℕ, ◌++◌, ◌∙◌, ◌∷◌, ◌≡◌}
 
 pub grouped_selected : {X Y : Type 0} (h : X → Option Y) (xs : List X) → grouped (map (λ x. option_to_list (h x)) xs) ≡ filter_map h xs
 grouped_selected h [] = refl

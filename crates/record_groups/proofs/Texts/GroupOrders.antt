@@ -1,8 +1,7 @@
 -- Records in groups, compared one by one.
-use Rattle.record_groups.proofs.Common.{Equal, Greater, IsTotalOrder, Less, List, Ordering, Record, ap, ap₂, group_at, grouped, groups_cmp}
-use Rattle.record_groups.proofs.Common.{lists_total, map, map-append, nat_list_cmp_total, on_total, ordering_then, records_cmp, refl, rest_of}
-use Rattle.record_groups.proofs.Common.{spelling_cmp, spelling_of, sym, tied_itself, ℕ, ◌++◌, ◌+◌, ◌∙◌, ◌≡◌}
-use Rattle.record_groups.proofs.{Records.GroupRests.rest_of_group, Texts.RecordTexts.cmp-append}
+use Rattle.record_groups.proofs.Common.{Equal, Greater, IsTotalOrder, Less, List, Ordering, Record, ap, ap₂, group_at, grouped, groups_cmp, lists_total, map, map-append, nat_list_cmp_total, on_total, ordering_then, records_cmp, refl, rest_of, spelling_cmp, spelling_of, sym, tied_itself, ℕ, ◌++◌, ◌+◌, ◌∙◌, ◌≡◌}
+use Rattle.record_groups.proofs.Records.GroupRests.{rest_of_group}
+use Rattle.record_groups.proofs.Texts.RecordTexts.{cmp-append}
 
 pub records_total : IsTotalOrder records_cmp
 records_total = lists_total (on_total spelling_of nat_list_cmp_total)

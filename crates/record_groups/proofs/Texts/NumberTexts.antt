@@ -1,9 +1,8 @@
 -- Numbers are in the order of their canonical texts of one width.
-use Rattle.record_groups.proofs.Common.{Bool, Equal, Greater, Less, MatchOrdering, Ordering, [], arith, cond, eqb-false, eqb-true, false}
-use Rattle.record_groups.proofs.Common.{nat_cmp, nat_cmp_is, nat_eq, ordering_then, ranked, refl, slice_cmp, suc, sym, true, zero, ℕ, ◌%◌}
-use Rattle.record_groups.proofs.Common.{◌+◌, ◌/◌, ◌<◌, ◌==◌, ◌^◌, ◌∙◌, ◌∷◌, ◌≡◌}
-use Rattle.record_groups.proofs.{Texts.RecordTexts.cmp-append, Texts.RecordTexts.then_equal}
-use Rattle.tl_layout.specs.{FieldTexts.number_text, Laws.NumberTextLaws.length-number_text, Laws.NumberTextLaws.tenth_below}
+use Rattle.record_groups.proofs.Common.{Bool, Equal, Greater, Less, MatchOrdering, Ordering, [], arith, cond, eqb-false, eqb-true, false, nat_cmp, nat_cmp_is, nat_eq, ordering_then, ranked, refl, slice_cmp, suc, sym, true, zero, ℕ, ◌%◌, ◌+◌, ◌/◌, ◌<◌, ◌==◌, ◌^◌, ◌∙◌, ◌∷◌, ◌≡◌}
+use Rattle.record_groups.proofs.Texts.RecordTexts.{cmp-append, then_equal}
+use Rattle.tl_layout.specs.FieldTexts.{number_text}
+use Rattle.tl_layout.specs.Laws.NumberTextLaws.{length-number_text, tenth_below}
 
 -- two pairs of numbers in one order
 pub record InOneOrder (a b x y : ℕ) : Type 0 where

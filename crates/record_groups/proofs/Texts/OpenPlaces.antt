@@ -1,9 +1,7 @@
 -- Records in groups by place, compared at some places alone.
-use Rattle.record_groups.proofs.Common.{AllByRecursion, Bool, Equal, Greater, Less, List, Ordering, [], all_append, all_weaker, ap, ap₂}
-use Rattle.record_groups.proofs.Common.{arith, cond, false, filter, grouped, length, length-append, ltb-false, ltb-true, map, nat_cmp}
-use Rattle.record_groups.proofs.Common.{nat_cmp_is, nat_lt, ordering_then, range_with_len, refl, slice_cmp, subst, suc, sym, true, zero, ℕ}
-use Rattle.record_groups.proofs.Common.{◌++◌, ◌+◌, ◌<◌, ◌∙◌, ◌∷◌, ◌≡◌, ◌≢◌, ◌≤◌}
-use Rattle.record_groups.proofs.{Texts.PartOrder.then_same, Texts.RecordTexts.cmp-append}
+use Rattle.record_groups.proofs.Common.{AllByRecursion, Bool, Equal, Greater, Less, List, Ordering, [], all_append, all_weaker, ap, ap₂, arith, cond, false, filter, grouped, length, length-append, ltb-false, ltb-true, map, nat_cmp, nat_cmp_is, nat_lt, ordering_then, range_with_len, refl, slice_cmp, subst, suc, sym, true, zero, ℕ, ◌++◌, ◌+◌, ◌<◌, ◌∙◌, ◌∷◌, ◌≡◌, ◌≢◌, ◌≤◌}
+use Rattle.record_groups.proofs.Texts.PartOrder.{then_same}
+use Rattle.record_groups.proofs.Texts.RecordTexts.{cmp-append}
 
 -- the groups from a place on, joined, and those at some places alone
 abbrev pub groups_from : {X : Type 0} → (ℕ → List X) → ℕ → ℕ → List X

@@ -1,8 +1,5 @@
 -- Records of types 4, I and P that fit and have the same spelling are the same.
-use Rattle.record_groups.proofs.Common.{AllByRecursion, County, Eight, Four, IsCounty, IsWithinLimits, One, P, Two, all_left, all_right}
-use Rattle.record_groups.proofs.Common.{all_unmap, grouped, map, most_records, packed-fits, subst, sym, topologies_of, type_1_by_chain}
-use Rattle.record_groups.proofs.Common.{type_2_by_chain, type_4_by_chain, type_8_together, type_p_by_number, types_1_to_4, types_5_to_7}
-use Rattle.record_groups.proofs.Common.{types_8_to_p, ◌++◌}
+use Rattle.record_groups.proofs.Common.{AllByRecursion, County, Eight, Four, IsCounty, IsWithinLimits, One, P, Two, all_left, all_right, all_unmap, grouped, map, most_records, packed-fits, subst, sym, topologies_of, type_1_by_chain, type_2_by_chain, type_4_by_chain, type_8_together, type_p_by_number, types_1_to_4, types_5_to_7, types_8_to_p, ◌++◌}
 use Rattle.record_groups.proofs.Records.PackedGroups.{all_groups}
 use Rattle.tl_layout.specs.RecordText.{FitsRecord}
 

@@ -1,8 +1,5 @@
 -- Texts are ordered by the spellings of their records, one after the other.
-use Rattle.record_groups.proofs.Common.{AllByRecursion, Eight, Equal, FitsRecord, Five, Four, Greater, I, IsLine, Less, List, One, Ordering}
-use Rattle.record_groups.proofs.Common.{P, Record, Seven, Six, Two, [], ap, arith, cond, exact_unsigned, inl, inr, length, length-append}
-use Rattle.record_groups.proofs.Common.{nat_cmp, ordering_then, records_cmp, refl, slice_cmp, spelling_is_line, spelling_of, subst, sym}
-use Rattle.record_groups.proofs.Common.{text_of, then_assoc, ℕ, ◌++◌, ◌+◌, ◌==◌, ◌∙◌, ◌∷◌, ◌≡◌, ◌⊎◌}
+use Rattle.record_groups.proofs.Common.{AllByRecursion, Eight, Equal, FitsRecord, Five, Four, Greater, I, IsLine, Less, List, One, Ordering, P, Record, Seven, Six, Two, [], ap, arith, cond, exact_unsigned, inl, inr, length, length-append, nat_cmp, ordering_then, records_cmp, refl, slice_cmp, spelling_is_line, spelling_of, subst, sym, text_of, then_assoc, ℕ, ◌++◌, ◌+◌, ◌==◌, ◌∙◌, ◌∷◌, ◌≡◌, ◌⊎◌}
 use Rattle.tl_layout.specs.RecordText.{len_of, type_of}
 
 -- a second comparison that finds both equal decides nothing

@@ -1,9 +1,7 @@
 -- The type 1 records of two arrangements, compared only at open places.
-use Rattle.record_groups.proofs.Common.{AreTiedAt, AreTiedBelow, AreWhole, Bool, County, DirectedChain, Equal, Greater, IsCounty, Less}
-use Rattle.record_groups.proofs.Common.{List, Record, Some, [], ap, ap₂, arith, arranged_by, false, get_or, length, ltb-false, ltb-true}
-use Rattle.record_groups.proofs.Common.{nat_lt, one_at, ones_of, option_cmp, ordering_then, records_cmp, refl, slice_get, slice_get-get_or}
-use Rattle.record_groups.proofs.Common.{slice_get_past, spelling_cmp, suc, sym, true, zero, ℕ, ◌∙◌, ◌∷◌, ◌≡◌, ◌≢◌, ◌≤◌}
-use Rattle.record_groups.proofs.Texts.{GroupOrders.decided, TypeOnes.length-ones_arranged_by, TypeOnes.ones_arranged_by, TypeOnes.same_one}
+use Rattle.record_groups.proofs.Common.{AreTiedAt, AreTiedBelow, AreWhole, Bool, County, DirectedChain, Equal, Greater, IsCounty, Less, List, Record, Some, [], ap, ap₂, arith, arranged_by, false, get_or, length, ltb-false, ltb-true, nat_lt, one_at, ones_of, option_cmp, ordering_then, records_cmp, refl, slice_get, slice_get-get_or, slice_get_past, spelling_cmp, suc, sym, true, zero, ℕ, ◌∙◌, ◌∷◌, ◌≡◌, ◌≢◌, ◌≤◌}
+use Rattle.record_groups.proofs.Texts.GroupOrders.{decided}
+use Rattle.record_groups.proofs.Texts.TypeOnes.{length-ones_arranged_by, ones_arranged_by, same_one}
 
 -- the first place where two lists aren't tied decides
 pub first_untied : (rs ss : List Record) (place : ℕ) → AreTiedBelow place rs ss

@@ -1,11 +1,5 @@
 -- The type 1 records of a county in an arrangement.
-use Rattle.record_groups.proofs.Common.{AreWhole, Bool, Chain, County, DirectedChain, Equal, IsCounty, IsWithinLimits, List, None, One}
-use Rattle.record_groups.proofs.Common.{Option, Record, Some, ap, arith, arranged_by, arranged_tlids, arrangement_of, arranges, bodies_read}
-use Rattle.record_groups.proofs.Common.{chain_there, chains, chains_arranged, chains_arranged_by, directed_chain, false, kept_entry, length}
-use Rattle.record_groups.proofs.Common.{length-map, length-reverse, length_permutation, map, most_records, nat_list_cmp_total, numbered_at}
-use Rattle.record_groups.proofs.Common.{one_at, ones_of, option_cmp, option_map, packed_one, placed, read_there, refl, renaming_of}
-use Rattle.record_groups.proofs.Common.{slice_get, slice_get-map, spelling_cmp, spelling_of, subst, sym, tied_itself, tlid_at, tlids, true}
-use Rattle.record_groups.proofs.Common.{turned_if, ℕ, ◌+◌, ◌<◌, ◌∙◌, ◌≡◌, ◌≤◌}
+use Rattle.record_groups.proofs.Common.{AreWhole, Bool, Chain, County, DirectedChain, Equal, IsCounty, IsWithinLimits, List, None, One, Option, Record, Some, ap, arith, arranged_by, arranged_tlids, arrangement_of, arranges, bodies_read, chain_there, chains, chains_arranged, chains_arranged_by, directed_chain, false, kept_entry, length, length-map, length-reverse, length_permutation, map, most_records, nat_list_cmp_total, numbered_at, one_at, ones_of, option_cmp, option_map, packed_one, placed, read_there, refl, renaming_of, slice_get, slice_get-map, spelling_cmp, spelling_of, subst, sym, tied_itself, tlid_at, tlids, true, turned_if, ℕ, ◌+◌, ◌<◌, ◌∙◌, ◌≡◌, ◌≤◌}
 use Rattle.record_groups.proofs.Records.PackedGroups.{ones}
 
 -- a record compared with itself, if there is one

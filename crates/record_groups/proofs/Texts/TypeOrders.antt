@@ -1,11 +1,8 @@
 -- For two packings with equally many records of each type, the first type that differs decides the order.
-use Rattle.record_groups.proofs.Common.{AreSame, County, Eight, Equal, Five, Four, HasAsMany, I, IsCounty, IsWithinLimits, List, One}
-use Rattle.record_groups.proofs.Common.{Record, Seven, Six, Two, ap, ap₂, carried_many, grouped, groups_cmp, length, length-append}
-use Rattle.record_groups.proofs.Common.{length-map, map, most_records, nat_cmp, ordering_then, packed, packed-fits, packed_by_type}
-use Rattle.record_groups.proofs.Common.{records_cmp, slice_cmp, spelling_cmp, sym, text_of, tied_itself, type_1_by_chain, type_2_by_chain}
-use Rattle.record_groups.proofs.Common.{type_4_by_chain, types_1_to_4, types_5_to_7, types_8_to_p, ◌++◌, ◌+◌, ◌∙◌, ◌≡◌}
+use Rattle.record_groups.proofs.Common.{AreSame, County, Eight, Equal, Five, Four, HasAsMany, I, IsCounty, IsWithinLimits, List, One, Record, Seven, Six, Two, ap, ap₂, carried_many, grouped, groups_cmp, length, length-append, length-map, map, most_records, nat_cmp, ordering_then, packed, packed-fits, packed_by_type, records_cmp, slice_cmp, spelling_cmp, sym, text_of, tied_itself, type_1_by_chain, type_2_by_chain, type_4_by_chain, types_1_to_4, types_5_to_7, types_8_to_p, ◌++◌, ◌+◌, ◌∙◌, ◌≡◌}
 use Rattle.record_groups.proofs.Records.PackedGroups.{all_groups, eights, fives, fours, is, ones, sevens, sixes, twos}
-use Rattle.record_groups.proofs.{Texts.GroupOrders.records_total, Texts.RecordTexts.cmp-append, Texts.RecordTexts.text_cmp}
+use Rattle.record_groups.proofs.Texts.GroupOrders.{records_total}
+use Rattle.record_groups.proofs.Texts.RecordTexts.{cmp-append, text_cmp}
 use Rattle.record_groups.specs.RecordOrder.{types_1_to_4_cmp, types_5_to_7_cmp, types_8_to_p_cmp}
 
 -- three lists, the first two of them as long as the lists that they are compared with

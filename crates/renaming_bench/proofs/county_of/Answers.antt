@@ -1,5 +1,5 @@
 use Rattle.tl_load.proofs.RecordLines.{accepted_within}
-use Rattle.tl_load.specs.Outcome.{most_records}
+use Rattle.tl_layout.specs.Limits.{most_records}
 use Rattle.renaming_bench.proofs.county_of.Goals as goal
 
 pub link-requires : goal.link-requires

@@ -1,7 +1,9 @@
 //! Whether a set is accepted.
 
 ghost use Rattle.std.specs.Prelude.{Err, IfErr, List, OnOk, ◌≢◌};
-ghost use Rattle.tigercanon.specs.{Faults.IsWantOfMemory, Faults.ReportsRefusal, LentParts.bytes_of_parts, Sets.IsAcceptedSet};
+ghost use Rattle.tigercanon.specs.Faults.{IsWantOfMemory, ReportsRefusal};
+ghost use Rattle.tigercanon.specs.LentParts.{bytes_of_parts};
+ghost use Rattle.tigercanon.specs.Sets.{IsAcceptedSet};
 ghost use Rattle.tl_layout.specs.declared.record_type.Record.{Record};
 
 use crate::fault::Fault;

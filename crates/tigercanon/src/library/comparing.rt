@@ -1,12 +1,18 @@
 //! Whether two sets describe the same map, as they are or under a mask.
 
 ghost use Rattle.std.specs.Prelude.{Err, IfErr, IfOk, List, MatchResult, Ok, Some, false, if◌then◌else◌, true, ℕ, ◌≡◌, ◌≢◌};
-ghost use Rattle.tigercanon.specs.Comparing.{AreDifferent, AreDifferentInView, AreOneMap, AreOneMapInView, IsAcceptable};
-ghost use Rattle.tigercanon.specs.Comparing.{ReportsMemoryOfAccepted, ReportsRefusalOfOne, ReportsRefusalOfOneRead};
-ghost use Rattle.tigercanon.specs.{Faults.ReportsRefusalOfRead, LentParts.bytes_of_parts, Refusals.reported_of, declared.fault.Fault.Fault};
-ghost use Rattle.tigercanon.specs.Findings.{Finding, Finding.OneMap, Finding.TwoMaps, IsFound, IsFoundOfCounties, finding_of};
-ghost use Rattle.tigercanon.specs.{Sets.CarriesSet, Sets.CarriesSetInView, Sets.IsCanonSetInView, Statuses.stopped_by};
-ghost use Rattle.county_chart.specs.{MaskedCounty.masked, Packing.packed, Renumbering.Carries, Renumbering.Renumbering};
+ghost use Rattle.tigercanon.specs.Comparing.{AreDifferent, AreDifferentInView, AreOneMap, AreOneMapInView, IsAcceptable, ReportsMemoryOfAccepted, ReportsRefusalOfOne, ReportsRefusalOfOneRead};
+ghost use Rattle.tigercanon.specs.Faults.{ReportsRefusalOfRead};
+ghost use Rattle.tigercanon.specs.LentParts.{bytes_of_parts};
+ghost use Rattle.tigercanon.specs.Refusals.{reported_of};
+ghost use Rattle.tigercanon.specs.declared.fault.Fault.{Fault};
+ghost use Rattle.tigercanon.specs.Findings.{Finding, IsFound, IsFoundOfCounties, finding_of};
+ghost use Rattle.tigercanon.specs.Findings.Finding.{OneMap, TwoMaps};
+ghost use Rattle.tigercanon.specs.Sets.{CarriesSet, CarriesSetInView, IsCanonSetInView};
+ghost use Rattle.tigercanon.specs.Statuses.{stopped_by};
+ghost use Rattle.county_chart.specs.MaskedCounty.{masked};
+ghost use Rattle.county_chart.specs.Packing.{packed};
+ghost use Rattle.county_chart.specs.Renumbering.{Carries, Renumbering};
 ghost use Rattle.arranged_county.specs.Views.{arranged_county, source_of};
 
 use crate::fault::Fault;

@@ -1,8 +1,10 @@
 //! The fingerprint of a map, to cite it by, without a mask or under one.
 
 ghost use Rattle.std.specs.Prelude.{Err, IfErr, IfOk, List, ◌≢◌};
-ghost use Rattle.tigercanon.specs.{Faults.IsWantOfMemory, Faults.ReportsRefusal, Fingerprints.IsFingerprint};
-ghost use Rattle.tigercanon.specs.{Fingerprints.IsFingerprintInView, LentParts.bytes_of_parts, Sets.IsAcceptedSet};
+ghost use Rattle.tigercanon.specs.Faults.{IsWantOfMemory, ReportsRefusal};
+ghost use Rattle.tigercanon.specs.Fingerprints.{IsFingerprint, IsFingerprintInView};
+ghost use Rattle.tigercanon.specs.LentParts.{bytes_of_parts};
+ghost use Rattle.tigercanon.specs.Sets.{IsAcceptedSet};
 ghost use Rattle.county_chart.specs.MaskedCounty.{masked};
 ghost use Rattle.tl_layout.specs.declared.record_type.Record.{Record};
 

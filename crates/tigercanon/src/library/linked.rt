@@ -1,9 +1,11 @@
 //! Sets, the records that are linked from them, and their county, which reads the records' tables.
 
 ghost use Rattle.std.specs.Prelude.{IfErr, IfOk, IfSome, List, OnOk, [], ℕ, ◌≡◌};
-ghost use Rattle.tigercanon.specs.{Comparing.IsAcceptable, Faults.RefusesSpelled, Faults.ReportsRefusalOfRead, Sets.IsLinkedSet};
-ghost use Rattle.tigercanon.specs.Sets.{IsViewedSet};
-ghost use Rattle.county_chart.specs.{County.county_of, Packing.type_after_type};
+ghost use Rattle.tigercanon.specs.Comparing.{IsAcceptable};
+ghost use Rattle.tigercanon.specs.Faults.{RefusesSpelled, ReportsRefusalOfRead};
+ghost use Rattle.tigercanon.specs.Sets.{IsLinkedSet, IsViewedSet};
+ghost use Rattle.county_chart.specs.County.{county_of};
+ghost use Rattle.county_chart.specs.Packing.{type_after_type};
 ghost use Rattle.canonical_form.specs.CountyViews.{plain};
 
 use crate::fault::Fault;
@@ -46,8 +48,10 @@ impl<'a, 'b> UnlinkedSet for &'a [&'b [u8]] {
 
 /// What a loader was fed, if it has no fault of a device.
 impl UnlinkedSet for LoaderFor<Tables> {
-    ghost use Rattle.tl_layout.specs.{Limits.most_records, Tables.HoldsByType};
-    ghost use Rattle.tl_load.specs.{Keeping.WasFedInto, Loaded.IsNotDevice};
+    ghost use Rattle.tl_layout.specs.Limits.{most_records};
+    ghost use Rattle.tl_layout.specs.Tables.{HoldsByType};
+    ghost use Rattle.tl_load.specs.Keeping.{WasFedInto};
+    ghost use Rattle.tl_load.specs.Loaded.{IsNotDevice};
 
     ghost IsReady = { λ loader. ((parts : List (List ℕ)) × WasFedInto HoldsByType most_records loader parts [])
         × IfSome loader.fault IsNotDevice };

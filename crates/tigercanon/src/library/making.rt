@@ -1,8 +1,8 @@
 //! The one way from a set to a product of its map: the set is linked and admitted, put under a mask and into canonical form.
 
 ghost use Rattle.std.specs.Prelude.{IfErr, IfOk, List, ℕ, ◌≡◌};
-ghost use Rattle.tigercanon.specs.{Faults.RefusesSpelled, Faults.ReportsRefusalOfRead, Sets.IsLinkedSet, Sets.IsCanonSetInView};
-ghost use Rattle.tigercanon.specs.Sets.{IsViewedSet};
+ghost use Rattle.tigercanon.specs.Faults.{RefusesSpelled, ReportsRefusalOfRead};
+ghost use Rattle.tigercanon.specs.Sets.{IsCanonSetInView, IsLinkedSet, IsViewedSet};
 ghost use Rattle.county_chart.specs.MaskedCounty.{masked};
 ghost use Rattle.tl_layout.specs.declared.mask.Mask.{Mask};
 ghost use Rattle.arranged_county.specs.Views.{arranged_county, source_of};

@@ -1,12 +1,11 @@
 //! The canonical text of a set, without a mask or under one.
 
 ghost use Rattle.std.specs.Prelude.{All, Err, IfErr, IfOk, List, [], false, if◌then◌else◌, length, ℕ, ◌+◌, ◌<◌, ◌∷◌, ◌≡◌, ◌≢◌};
-ghost use Rattle.tigercanon.specs.Normalising.{AreNormalised, AreNormalisedInView, IsCutOff, IsCutOffInView, IsOnlyText, IsOnlyTextInView};
-ghost use Rattle.tigercanon.specs.Normalising.{ReportsRead, Took, is_of_sink, is_stopped};
+ghost use Rattle.tigercanon.specs.Normalising.{AreNormalised, AreNormalisedInView, IsCutOff, IsCutOffInView, IsOnlyText, IsOnlyTextInView, ReportsRead, Took, is_of_sink, is_stopped};
 ghost use Rattle.tigercanon.specs.Reading.{AreRead, NoneFailed, OneFailed};
-ghost use Rattle.tigercanon.specs.Sets.{CarriesSet, CarriesSetInView, IsAcceptedSet, IsCanonicalText, IsCanonicalTextInView};
-ghost use Rattle.tigercanon.specs.Sets.{IsOneCanonicalText, IsOneCanonicalTextInView};
-ghost use Rattle.tigercanon.specs.{Faults.IsWantOfMemory, Faults.ReportsRefusal, LentParts.bytes_of_parts, Sets.IsLinkedSet};
+ghost use Rattle.tigercanon.specs.Sets.{CarriesSet, CarriesSetInView, IsAcceptedSet, IsCanonicalText, IsCanonicalTextInView, IsLinkedSet, IsOneCanonicalText, IsOneCanonicalTextInView};
+ghost use Rattle.tigercanon.specs.Faults.{IsWantOfMemory, ReportsRefusal};
+ghost use Rattle.tigercanon.specs.LentParts.{bytes_of_parts};
 ghost use Rattle.county_chart.specs.MaskedCounty.{masked};
 ghost use Rattle.tl_layout.specs.declared.record_type.Record.{Record};
 ghost use Rattle.tl_write.specs.declared.fault.WriteFault.{WriteFault};

@@ -2,8 +2,10 @@
 
 ghost use Rattle.std.specs.Prelude.{IfOk, [], ◌<◌, ◌∷◌, ◌≡◌};
 ghost use Rattle.tigercanon.specs.Sets.{CarriesSetInView, IsCanonicalTextInView};
-ghost use Rattle.tigercanon.specs.{Fingerprints.IsFingerprintInView, Normalising.IsWrittenInView};
-ghost use Rattle.county_chart.specs.{MaskedCounty.masked, Packing.packed};
+ghost use Rattle.tigercanon.specs.Fingerprints.{IsFingerprintInView};
+ghost use Rattle.tigercanon.specs.Normalising.{IsWrittenInView};
+ghost use Rattle.county_chart.specs.MaskedCounty.{masked};
+ghost use Rattle.county_chart.specs.Packing.{packed};
 ghost use Rattle.tl_layout.specs.RecordText.{text_of};
 ghost use Rattle.arranged_county.specs.Views.{arranged_county};
 

@@ -7,9 +7,16 @@
 ghost use Rattle.std.specs.Io.KnownBytes.{IsAtEnd};
 ghost use Rattle.std.specs.Prelude.{All, Err, IfErr, IfOk, IfSome, List, OnOk, [], length, vec_len, ℕ, ◌+◌, ◌<◌, ◌≡◌, ◌≢◌, ◌≤◌};
 ghost use Rattle.tigercanon.specs.Reading.{AreRead, IsFaultOfRead, IsUnread, NoneFailed, OneFailed, SomeUnread, TakesPart};
-ghost use Rattle.tigercanon.specs.{Devices.StopsReading, LentParts.bytes_of_parts, Respelling.IsFirstFault};
-ghost use Rattle.tl_layout.specs.{Limits.most_records, declared.record_type.Record.Record};
-ghost use Rattle.tl_load.specs.{Choice.tiger, Keeping.WasFedInto, Loaded.IsNotDevice, Loaded.IsOfLines, Outcome.SpellsWithin, Sources.Gave};
+ghost use Rattle.tigercanon.specs.Devices.{StopsReading};
+ghost use Rattle.tigercanon.specs.LentParts.{bytes_of_parts};
+ghost use Rattle.tigercanon.specs.Respelling.{IsFirstFault};
+ghost use Rattle.tl_layout.specs.Limits.{most_records};
+ghost use Rattle.tl_layout.specs.declared.record_type.Record.{Record};
+ghost use Rattle.tl_load.specs.Choice.{tiger};
+ghost use Rattle.tl_load.specs.Keeping.{WasFedInto};
+ghost use Rattle.tl_load.specs.Loaded.{IsNotDevice, IsOfLines};
+ghost use Rattle.tl_load.specs.Outcome.{SpellsWithin};
+ghost use Rattle.tl_load.specs.Sources.{Gave};
 
 use crate::fault::Fault;
 use std::alloc::{AllocError, Global};

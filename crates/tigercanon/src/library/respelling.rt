@@ -1,9 +1,13 @@
 //! Records in canonical spelling, in the order of their lines.
 
 ghost use Rattle.std.specs.Prelude.{Err, IfErr, IfOk, List, ◌≢◌};
-ghost use Rattle.tigercanon.specs.{Faults.IsWantOfMemory, Faults.ReportsFirstFault, LentParts.bytes_of_parts, Respelling.IsRespelt};
-ghost use Rattle.tl_layout.specs.{Limits.most_records, declared.record_type.Record.Record};
-ghost use Rattle.tl_load.specs.{Choice.tiger, Outcome.SpellsWithin};
+ghost use Rattle.tigercanon.specs.Faults.{IsWantOfMemory, ReportsFirstFault};
+ghost use Rattle.tigercanon.specs.LentParts.{bytes_of_parts};
+ghost use Rattle.tigercanon.specs.Respelling.{IsRespelt};
+ghost use Rattle.tl_layout.specs.Limits.{most_records};
+ghost use Rattle.tl_layout.specs.declared.record_type.Record.{Record};
+ghost use Rattle.tl_load.specs.Choice.{tiger};
+ghost use Rattle.tl_load.specs.Outcome.{SpellsWithin};
 
 use crate::fault::Fault;
 use crate::library::reading::load;

@@ -3,8 +3,9 @@
 ghost use Rattle.std.specs.Prelude.{Contains, Err, [], ◌<◌, ◌∷◌, ◌≡◌, ◌≢◌, ◌≤◌};
 ghost use Rattle.tigercanon.specs.Devices.{DeviceFailed, NoFileFailed, ReportsNoDevice, set_of_counted, to_sink};
 ghost use Rattle.tigercanon.specs.TwoSets.{Does, IsDifferent, IsDone, IsReportedWhy};
-ghost use Rattle.tigercanon.specs.{Files.AreReadable, Files.lacks_file, Files.opened_of, Outcomes.ReportsLineTo, Running.IsMissingOne};
-ghost use Rattle.tigercanon.specs.{Running.ReportsMissing, Running.stopped_at_missing};
+ghost use Rattle.tigercanon.specs.Files.{AreReadable, lacks_file, opened_of};
+ghost use Rattle.tigercanon.specs.Outcomes.{ReportsLineTo};
+ghost use Rattle.tigercanon.specs.Running.{IsMissingOne, ReportsMissing, stopped_at_missing};
 
 use crate::program::ending::{Ending, Stopped, refuse_missing, report_outcome};
 use crate::program::files::{CountedFile, lacks_counted_file};

@@ -3,7 +3,9 @@
 ghost use Rattle.std.specs.IoError.{error_kind};
 ghost use Rattle.std.specs.Prelude.{IfErr, IfOk, IsTrue, None, OnOk, false, ◌<◌, ◌≡◌};
 ghost use Rattle.tigercanon.specs.Refusals.{IsUsage, fault_line, not_utf8, plan_text_of};
-ghost use Rattle.tigercanon.specs.{Devices.PrintsTo, Outcomes.ReportsLineTo, Running.lacks_one, Running.stopped_at_missing};
+ghost use Rattle.tigercanon.specs.Devices.{PrintsTo};
+ghost use Rattle.tigercanon.specs.Outcomes.{ReportsLineTo};
+ghost use Rattle.tigercanon.specs.Running.{lacks_one, stopped_at_missing};
 ghost use Rattle.tigercanon.specs.Statuses.{plan_status_of, set_of_job, status_of, status_of_outcome, stopped_by};
 
 use crate::fault::Fault;

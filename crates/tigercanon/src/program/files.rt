@@ -1,7 +1,9 @@
 //! The files of a set: the outcomes of opening them, and the files as sources.
 
 ghost use Rattle.std.specs.Prelude.{IfErr, IfOk, IsErr, Ok, slice_get, ◌≡◌, ◌≢◌};
-ghost use Rattle.std.specs.{Io.KnownBytes.ReadConsumes, Io.ReadsAtMost, IoError.error_kind};
+ghost use Rattle.std.specs.Io.KnownBytes.{ReadConsumes};
+ghost use Rattle.std.specs.Io.{ReadsAtMost};
+ghost use Rattle.std.specs.IoError.{error_kind};
 ghost use Rattle.tigercanon.specs.Files.{AreCounted, AreReadable, bytes_of, is_absent, is_failed, lacks_file, opened_of};
 ghost use Rattle.tigercanon.specs.Statuses.{set_of_job};
 

@@ -7,7 +7,9 @@ ghost use Rattle.hex.specs.Hex.{encode_lower};
 ghost use Rattle.std.specs.Prelude.{All, Err, IfErr, IfOk, [], string_bytes, ◌++◌, ◌<◌, ◌∷◌, ◌≡◌, ◌≢◌};
 ghost use Rattle.tigercanon.specs.Devices.{ReportsNoDevice, set_of_sources, to_sink};
 ghost use Rattle.tigercanon.specs.TwoSets.{Does, DoesAlone, IsTextOf, ReportsOne, line_of_ending};
-ghost use Rattle.tigercanon.specs.{Outcomes.IsAnswered, Outcomes.Reports, Reading.NoneFailed, Respelling.IsRespelt};
+ghost use Rattle.tigercanon.specs.Outcomes.{IsAnswered, Reports};
+ghost use Rattle.tigercanon.specs.Reading.{NoneFailed};
+ghost use Rattle.tigercanon.specs.Respelling.{IsRespelt};
 ghost use Rattle.tl_layout.specs.Masked.{no_mask};
 
 use crate::fault::Fault;

@@ -2,10 +2,11 @@
 
 ghost use Rattle.std.specs.Io.KnownBytes.{Keeps};
 ghost use Rattle.std.specs.Prelude.{Contains, Err, IfErr, IfOk, OnOk, [], ◌<◌, ◌∷◌, ◌≡◌, ◌≤◌};
-ghost use Rattle.tigercanon.specs.Running.{IsMissingOne, IsRefusedBy, IsUnopened, PrintsDifferent, PrintsDone, PrintsSome, ReportsMissing};
-ghost use Rattle.tigercanon.specs.Running.{ReportsWhy, set_of_files, stopped_at_missing};
-ghost use Rattle.tigercanon.specs.{Devices.to_sink, Files.AreCounted, Files.lacks_file, Outcomes.ReportsLine, Outcomes.ReportsLineTo};
-ghost use Rattle.tigercanon.specs.{TwoSets.HasRun};
+ghost use Rattle.tigercanon.specs.Running.{IsMissingOne, IsRefusedBy, IsUnopened, PrintsDifferent, PrintsDone, PrintsSome, ReportsMissing, ReportsWhy, set_of_files, stopped_at_missing};
+ghost use Rattle.tigercanon.specs.Devices.{to_sink};
+ghost use Rattle.tigercanon.specs.Files.{AreCounted, lacks_file};
+ghost use Rattle.tigercanon.specs.Outcomes.{ReportsLine, ReportsLineTo};
+ghost use Rattle.tigercanon.specs.TwoSets.{HasRun};
 
 use crate::library::comparing::{FIRST, SECOND};
 use crate::program::counted::run_counted;

@@ -1,7 +1,5 @@
 -- Marks by number, and uses whose FEATs all have names.
-use Rattle.tl_county.proofs.Common.{AllByRecursion, Bool, Fields4, IsLeastPassing, List, None, [], all_have_names, all_joined, all_map}
-use Rattle.tl_county.proofs.Common.{and_parts, ap, false, flat_map, is_unnamed, known_all, list_all, ltb-true, nat_cmp, not, refl, rules}
-use Rattle.tl_county.proofs.Common.{sequence_cmp, contains, times, true, uses_of, ℕ, ◌&&◌, ◌∷◌, ◌≡◌}
+use Rattle.tl_county.proofs.Common.{AllByRecursion, Bool, Fields4, IsLeastPassing, List, None, [], all_have_names, all_joined, all_map, and_parts, ap, contains, false, flat_map, is_unnamed, known_all, list_all, ltb-true, nat_cmp, not, refl, rules, sequence_cmp, times, true, uses_of, ℕ, ◌&&◌, ◌∷◌, ◌≡◌}
 use Rattle.tl_county.proofs.Rules.RuleTests.{sequence_keys}
 
 -- the FEAT of a use is one of the names

@@ -1,10 +1,5 @@
 -- Groups of records with one number, taken in turn from records in the order of their numbers.
-use Rattle.tl_county.proofs.Common.{AllByRecursion, Body7, BodyP, Chain, Fields1, Fields2, Fields4, Fields6, Fields7, Fields8, FieldsI}
-use Rattle.tl_county.proofs.Common.{FieldsP, IsStrictlySortedBy, LandmarkParts, Less, List, Option, PolygonKey, Some, [], ap, chain_with}
-use Rattle.tl_county.proofs.Common.{chains_along, cond, eight_land, eq_test, false, filter, filter-agree, first, four_tlid, group-flipped}
-use Rattle.tl_county.proofs.Common.{group-later, is_eq, is_gt, key_cmp, key_keys, landmark_of, later_than, map, nat_cmp, nat_keys}
-use Rattle.tl_county.proofs.Common.{of_number, one_done, one_tlid, ordering_reverse, p_key, polygon_body_of, refl, rules, same-itself}
-use Rattle.tl_county.proofs.Common.{seven_land, six_tlid, strict_head, strict_tail, subst, sym, two_tlid, ℕ, ◌++◌, ◌==◌, ◌∙◌, ◌∷◌, ◌≡◌}
+use Rattle.tl_county.proofs.Common.{AllByRecursion, Body7, BodyP, Chain, Fields1, Fields2, Fields4, Fields6, Fields7, Fields8, FieldsI, FieldsP, IsStrictlySortedBy, LandmarkParts, Less, List, Option, PolygonKey, Some, [], ap, chain_with, chains_along, cond, eight_land, eq_test, false, filter, filter-agree, first, four_tlid, group-flipped, group-later, is_eq, is_gt, key_cmp, key_keys, landmark_of, later_than, map, nat_cmp, nat_keys, of_number, one_done, one_tlid, ordering_reverse, p_key, polygon_body_of, refl, rules, same-itself, seven_land, six_tlid, strict_head, strict_tail, subst, sym, two_tlid, ℕ, ◌++◌, ◌==◌, ◌∙◌, ◌∷◌, ◌≡◌}
 
 -- by numbers
 module _ {X : Type 0} (number : X → ℕ) where

@@ -1,15 +1,5 @@
 -- The county depends on the packing of types 2 and 4 and on RTSQs only through the contents in their order.
-use Rattle.tl_county.proofs.Common.{AllByRecursion, P, PolygonUnknown, SequenceBroken, further_ranges, is_rule_broken, map_agree_everywhere}
-use Rattle.tl_county.proofs.Common.{ChainTwice, LinkedType, [], cases_order, cons_option, eight_land, named_feats, polygons_of, tied_itself}
-use Rattle.tl_county.proofs.Common.{Eight, Four, List, None, Seven, Some, Typed, ap, arith, is_gt, less, nat_lt, p_key, rtsqs, rules, times}
-use Rattle.tl_county.proofs.Common.{Fields1, Fields2, Fields4, Fields6, FieldsI, NoChain, all_map, six_rtsq, six_tlid, two_rtsq, two_tlid}
-use Rattle.tl_county.proofs.Common.{Five, chains_of, county_of, five_feat, four_rtsq, four_tlid, of_number, of_type_2, of_type_4, of_type_6}
-use Rattle.tl_county.proofs.Common.{IsLinked, LandUnknown, LinkMissing, NameUnknown, common_steps, linked_tlids, put_in_order, shape_points}
-use Rattle.tl_county.proofs.Common.{IsTrue, Memory, Option, Record, as_type, by_type, greater, i_tlid, key_cmp, lt-ltb, map-map, nat_cmp}
-use Rattle.tl_county.proofs.Common.{LinkFault, LinkTwice, NameTwice, all_known, all_unmap, filter_map, has_repeat, option_map, seven_land}
-use Rattle.tl_county.proofs.Common.{One, Six, Two, ap₂, map, not, on, refl, sym, ◌&&◌, ◌++◌, ◌<◌, ◌||◌, ◌∙◌, ◌∷◌, ◌≡◌}
-use Rattle.tl_county.proofs.Common.{Ordering, all_both, chain_of, flat_map, in_order, link_key, nat_keys, one_tlid, side_keys, contains, ℕ}
-use Rattle.tl_county.proofs.Common.{PolygonTwice, SequencedType, all-in_order, further_names, map_agree_all, nat_cmp_total, of_number-all}
+use Rattle.tl_county.proofs.Common.{AllByRecursion, ChainTwice, Eight, Fields1, Fields2, Fields4, Fields6, FieldsI, Five, Four, IsLinked, IsTrue, LandUnknown, LinkFault, LinkMissing, LinkTwice, LinkedType, List, Memory, NameTwice, NameUnknown, NoChain, None, One, Option, Ordering, P, PolygonTwice, PolygonUnknown, Record, SequenceBroken, SequencedType, Seven, Six, Some, Two, Typed, [], all-in_order, all_both, all_known, all_map, all_unmap, ap, ap₂, arith, as_type, by_type, cases_order, chain_of, chains_of, common_steps, cons_option, contains, county_of, eight_land, filter_map, five_feat, flat_map, four_rtsq, four_tlid, further_names, further_ranges, greater, has_repeat, i_tlid, in_order, is_gt, is_rule_broken, key_cmp, less, link_key, linked_tlids, lt-ltb, map, map-map, map_agree_all, map_agree_everywhere, named_feats, nat_cmp, nat_cmp_total, nat_keys, nat_lt, not, of_number, of_number-all, of_type_2, of_type_4, of_type_6, on, one_tlid, option_map, p_key, polygons_of, put_in_order, refl, rtsqs, rules, seven_land, shape_points, side_keys, six_rtsq, six_tlid, sym, tied_itself, times, two_rtsq, two_tlid, ℕ, ◌&&◌, ◌++◌, ◌<◌, ◌||◌, ◌∙◌, ◌∷◌, ◌≡◌}
 use Rattle.tl_county.proofs.Sameness.SameChains.{chains_alike}
 use Rattle.tl_layout.specs.declared.record_type.Record.TheVariants.{I}
 use Rattle.county_chart.specs.declared.fault.LinkedType.TheVariants.{Four as Type4, I as TypeI, Six as Type6, Two as Type2}

@@ -1,10 +1,5 @@
 -- Cutting a record of type 2 or 4 into two, or leaving out an empty one, changes neither whether a list is linked nor its county.
-use Rattle.tl_county.proofs.Common.{AllByRecursion, Bool, Fields2, Fields4, Four, IsLinked, IsPermutation, IsPermutation-sym, LinkFault}
-use Rattle.tl_county.proofs.Common.{List, NameUnknown, NoChain, Ordering, Record, SequenceBroken, Two, [], all-in_order, ap, append_assoc}
-use Rattle.tl_county.proofs.Common.{arith, chain_tlids, common_steps, cond, county_of, eqb-true, false, false≢true, flat_map, four_rtsq}
-use Rattle.tl_county.proofs.Common.{four_tlid, greater, has_repeat, in_order, inl, inr, is_eq, is_gt, is_rule_broken, less, lt-ltb, map}
-use Rattle.tl_county.proofs.Common.{nat_cmp, nat_keys, not, of_number, of_type_2, of_type_4, of_type_5, on, put_in_order, refl, rules}
-use Rattle.tl_county.proofs.Common.{contains, subst, sym, times-no, true, two_rtsq, two_tlid, ℕ, ◌&&◌, ◌++◌, ◌<◌, ◌==◌, ◌∙◌, ◌∷◌, ◌≡◌, ◌⊎◌}
+use Rattle.tl_county.proofs.Common.{AllByRecursion, Bool, Fields2, Fields4, Four, IsLinked, IsPermutation, IsPermutation-sym, LinkFault, List, NameUnknown, NoChain, Ordering, Record, SequenceBroken, Two, [], all-in_order, ap, append_assoc, arith, chain_tlids, common_steps, cond, contains, county_of, eqb-true, false, false≢true, flat_map, four_rtsq, four_tlid, greater, has_repeat, in_order, inl, inr, is_eq, is_gt, is_rule_broken, less, lt-ltb, map, nat_cmp, nat_keys, not, of_number, of_type_2, of_type_4, of_type_5, on, put_in_order, refl, rules, subst, sym, times-no, true, two_rtsq, two_tlid, ℕ, ◌&&◌, ◌++◌, ◌<◌, ◌==◌, ◌∙◌, ◌∷◌, ◌≡◌, ◌⊎◌}
 use Rattle.tl_county.proofs.Packing.Repacking.{AreRepacked, repacked-county}
 use Rattle.tl_county.proofs.Sameness.SameCounty.{reordered-county, reordered-linked}
 use Rattle.tl_county.specs.Repacked.{AreCut, IsCut, IsEmpty, IsSplit, LeavesEmptyOut}

@@ -1,16 +1,9 @@
 -- The parts that linking builds from tables in order are the county of their records.
-use Rattle.tl_county.proofs.Common.{AreInOrder, ArePermuted, Body5, Chain, Fields1, Fields2, Fields4, Fields5, Fields6, FieldsI, FitsRecord}
-use Rattle.tl_county.proofs.Common.{HoldsByType, HoldsWithinLimits, IsCounty, IsFirstBrokenRule, IsLinked, IsPermutation}
-use Rattle.tl_county.proofs.Common.{IsPermutation-trans, IsStrictlySortedBy, IsWithinLimits, LinkFault, LinksUnderLands, List, Record}
-use Rattle.tl_county.proofs.Common.{SameElements, Tables, Typed, [], all_places, ap, arith, by_type, by_type_of, chain_nodes, chains_along}
-use Rattle.tl_county.proofs.Common.{common_steps, county-is_county, county-within_limits, county_along, county_of, distinct, eight_land}
-use Rattle.tl_county.proofs.Common.{entries-equal, entry_keys, entry_values, five_feat, flat_map, flat_map-map, from_permutation, i_tlid}
-use Rattle.tl_county.proofs.Common.{keys-map_values, landmark_of, landmarks_along, length, topology_nodes, map, map-map, map_values}
-use Rattle.tl_county.proofs.Common.{most_records, nat_cmp, nodes, of_number-all, one_tlid, refl, rules, seven_land, subst, sym}
-use Rattle.tl_county.proofs.Common.{type_after_type, typed_of, values-map_values, values-zip, zip, ℕ, ◌++◌, ◌∙◌, ◌∷◌, ◌≡◌}
+use Rattle.tl_county.proofs.Common.{AreInOrder, ArePermuted, Body5, Chain, Fields1, Fields2, Fields4, Fields5, Fields6, FieldsI, FitsRecord, HoldsByType, HoldsWithinLimits, IsCounty, IsFirstBrokenRule, IsLinked, IsPermutation, IsPermutation-trans, IsStrictlySortedBy, IsWithinLimits, LinkFault, LinksUnderLands, List, Record, SameElements, Tables, Typed, [], all_places, ap, arith, by_type, by_type_of, chain_nodes, chains_along, common_steps, county-is_county, county-within_limits, county_along, county_of, distinct, eight_land, entries-equal, entry_keys, entry_values, five_feat, flat_map, flat_map-map, from_permutation, i_tlid, keys-map_values, landmark_of, landmarks_along, length, map, map-map, map_values, most_records, nat_cmp, nodes, of_number-all, one_tlid, refl, rules, seven_land, subst, sym, topology_nodes, type_after_type, typed_of, values-map_values, values-zip, zip, ℕ, ◌++◌, ◌∙◌, ◌∷◌, ◌≡◌}
 use Rattle.tl_county.proofs.Rules.LinkedTables.{county-built, feats-strict, side_by_side, tlids-strict}
 use Rattle.tl_county.proofs.Sameness.SameRules.{same-first, same-linked, same-sym}
-use Rattle.tl_county.proofs.{Rules.TypedRecords.grouped, Rules.TypedRecords.permuted-after, Sameness.SameCounty.reordered-county}
+use Rattle.tl_county.proofs.Rules.TypedRecords.{grouped, permuted-after}
+use Rattle.tl_county.proofs.Sameness.SameCounty.{reordered-county}
 
 pub length-chains_along : (twos : List Fields2) (fours : List Fields4) (sixes : List Fields6) (rs : List Fields1) (ls : List FieldsI)
     → map one_tlid rs ≡ map i_tlid ls → length (map one_tlid rs) ≡ length (chains_along twos fours sixes rs ls)

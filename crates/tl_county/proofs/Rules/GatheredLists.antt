@@ -1,10 +1,5 @@
 -- The lists gathered for linking: keys without repetition, landmarks in order, and tables that hold the records of a list.
-use Rattle.tl_county.proofs.Common.{AllByRecursion, Bool, Coordinates, Equal, Fields7, Greater, IsInOrder, IsKeyOrder, Less, List, None}
-use Rattle.tl_county.proofs.Common.{Option, Ordering, Some, [], all_known, all_weaker, ap, arith, before_all, bytes_cmp, cond, dedup}
-use Rattle.tl_county.proofs.Common.{dedup_from, distinct, false, false≢true, first_least, inl, inr, is_eq, is_gt, known_from_distinct}
-use Rattle.tl_county.proofs.Common.{landmark_cmp, less_from, lt-ltb, nat_cmp, nat_lt, optional_point_cmp, ordering_then, point_cmp}
-use Rattle.tl_county.proofs.Common.{put_in_order, refl, rules, same-itself, same_or_not, contains, subst, sym, times, times-cons}
-use Rattle.tl_county.proofs.Common.{times-yes, true, ◌∙◌, ◌∷◌, ◌≡◌, ◌⊎◌}
+use Rattle.tl_county.proofs.Common.{AllByRecursion, Bool, Coordinates, Equal, Fields7, Greater, IsInOrder, IsKeyOrder, Less, List, None, Option, Ordering, Some, [], all_known, all_weaker, ap, arith, before_all, bytes_cmp, cond, contains, dedup, dedup_from, distinct, false, false≢true, first_least, inl, inr, is_eq, is_gt, known_from_distinct, landmark_cmp, less_from, lt-ltb, nat_cmp, nat_lt, optional_point_cmp, ordering_then, point_cmp, put_in_order, refl, rules, same-itself, same_or_not, subst, sym, times, times-cons, times-yes, true, ◌∙◌, ◌∷◌, ◌≡◌, ◌⊎◌}
 
 module _ {K : Type 0} {cmp : K → K → Ordering} (o : IsKeyOrder cmp) where
   -- a list in order without its repetitions has each key once

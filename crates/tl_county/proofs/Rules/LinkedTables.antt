@@ -1,18 +1,7 @@
 -- The county of linked records in the order of their numbers is the one built by walking their tables.
-use Rattle.tl_county.proofs.Common.{AllByRecursion, Bool, all_themselves, in_order-filter, in_order-itself, in_order-strict, known-distinct}
-use Rattle.tl_county.proofs.Common.{Among, Fields1, Fields5, link_cmp, ltb-true, nat_keys, one_link, one_tlid, six_tlid, the_link, two_tlid}
-use Rattle.tl_county.proofs.Common.{AreInOrder, Record, all_weaker, chain_with, eight_land, false≢true, filter_all, later_than, tied_itself}
-use Rattle.tl_county.proofs.Common.{Equal, Fields7, Fields8, FieldsI, NoChain, [], by_type, eq-eqb, filter, i_tlid, lt-ltb, nat_cmp, needed}
-use Rattle.tl_county.proofs.Common.{I, Known, arith, cond, false, inr, is_eq, is_gt, is_lt, map, not, refl, rules, subst, times, true, ◌++◌}
-use Rattle.tl_county.proofs.Common.{IsInOrder, LinkTwice, NameTwice, among-map, chains_of, county_of, five_feat, four_tlid, inl, seven_land}
-use Rattle.tl_county.proofs.Common.{IsLinked, Ordering, chain_of, distinct, flat_map, in_order, of_type_8, of_type_i, contains, to_filter}
-use Rattle.tl_county.proofs.Common.{IsStrictlySortedBy, LandUnknown, distinct-strict, group-and_later, landmark_body_cmp, strict_from_order}
-use Rattle.tl_county.proofs.Common.{LandmarkParts, among_known, known_is_among, landmark_entry, link_part_cmp, nat_cmp_total, of_number-all}
-use Rattle.tl_county.proofs.Common.{Less, apart_chains, chains_along, common_steps, county_along, in_order-map, linked_tlids, ordering_then}
-use Rattle.tl_county.proofs.Common.{List, link_part, ltb-false, of_number, of_type_1, of_type_2, of_type_4, of_type_5, of_type_6, of_type_7}
-use Rattle.tl_county.proofs.Common.{ap, on, sym, zip, ℕ, ◌<◌, ◌∙◌, ◌∷◌, ◌≡◌, ◌⊎◌}
-use Rattle.tl_county.proofs.Common.{chain_tlids, first_least, known_cases, landmark_of, lt_reversed, strict-equal, strict_head, strict_tail}
-use Rattle.tl_county.proofs.{Lists.Groups.group-of_number, Lists.Groups.number-later, Rules.RuleTests.in_order-first}
+use Rattle.tl_county.proofs.Common.{AllByRecursion, Among, AreInOrder, Bool, Equal, Fields1, Fields5, Fields7, Fields8, FieldsI, I, IsInOrder, IsLinked, IsStrictlySortedBy, Known, LandUnknown, LandmarkParts, Less, LinkTwice, List, NameTwice, NoChain, Ordering, Record, [], all_themselves, all_weaker, among-map, among_known, ap, apart_chains, arith, by_type, chain_of, chain_tlids, chain_with, chains_along, chains_of, common_steps, cond, contains, county_along, county_of, distinct, distinct-strict, eight_land, eq-eqb, false, false≢true, filter, filter_all, first_least, five_feat, flat_map, four_tlid, group-and_later, i_tlid, in_order, in_order-filter, in_order-itself, in_order-map, in_order-strict, inl, inr, is_eq, is_gt, is_lt, known-distinct, known_cases, known_is_among, landmark_body_cmp, landmark_entry, landmark_of, later_than, link_cmp, link_part, link_part_cmp, linked_tlids, lt-ltb, lt_reversed, ltb-false, ltb-true, map, nat_cmp, nat_cmp_total, nat_keys, needed, not, of_number, of_number-all, of_type_1, of_type_2, of_type_4, of_type_5, of_type_6, of_type_7, of_type_8, of_type_i, on, one_link, one_tlid, ordering_then, refl, rules, seven_land, six_tlid, strict-equal, strict_from_order, strict_head, strict_tail, subst, sym, the_link, tied_itself, times, to_filter, true, two_tlid, zip, ℕ, ◌++◌, ◌<◌, ◌∙◌, ◌∷◌, ◌≡◌, ◌⊎◌}
+use Rattle.tl_county.proofs.Lists.Groups.{group-of_number, number-later}
+use Rattle.tl_county.proofs.Rules.RuleTests.{in_order-first}
 
 -- in a group with one number, an order by the number and something else is an order by the other
 pub group_order : {X : Type 0} (number : X → ℕ) (next : X → X → Ordering) (n : ℕ) (xs : List X) → AllByRecursion (λ x. number x ≡ n) xs

@@ -1,10 +1,5 @@
 -- The rules in turn: what each search finds about its rule, and how stretches of rules are joined.
-use Rattle.tl_county.proofs.Common.{Among, Greater, IsLinked, NoChain, Ordering, eqb-true, list_all, list_any, ltb-true, nat_cmp, slice_cmp}
-use Rattle.tl_county.proofs.Common.{Bool, Equal, Less, List, Memory, None, Record, Some, arith, false, is_gt, lt-ltb, nat_lt, number, rules}
-use Rattle.tl_county.proofs.Common.{ChainTwice, IsFirstFrom, LandUnknown, LinkMissing, NameUnknown, PolygonTwice, false≢true, ordering_then}
-use Rattle.tl_county.proofs.Common.{I, ap, cond, inr, not, part, refl, suc, sym, true, ℕ, ◌++◌, ◌<◌, ◌==◌, ◌||◌, ◌∙◌, ◌∷◌, ◌≡◌, ◌≤◌}
-use Rattle.tl_county.proofs.Common.{IsFirstBrokenRule, IsLeastPassing, PolygonUnknown, SequenceBroken, [], is_rule_broken, link_fault_place}
-use Rattle.tl_county.proofs.Common.{LinkFault, LinkTwice, NameTwice, RulesHold, and_parts, any_among, inl, ltb-false, place_cmp, rule_place}
+use Rattle.tl_county.proofs.Common.{Among, Bool, ChainTwice, Equal, Greater, I, IsFirstBrokenRule, IsFirstFrom, IsLeastPassing, IsLinked, LandUnknown, Less, LinkFault, LinkMissing, LinkTwice, List, Memory, NameTwice, NameUnknown, NoChain, None, Ordering, PolygonTwice, PolygonUnknown, Record, RulesHold, SequenceBroken, Some, [], and_parts, any_among, ap, arith, cond, eqb-true, false, false≢true, inl, inr, is_gt, is_rule_broken, link_fault_place, list_all, list_any, lt-ltb, ltb-false, ltb-true, nat_cmp, nat_lt, not, number, ordering_then, part, place_cmp, refl, rule_place, rules, slice_cmp, suc, sym, true, ℕ, ◌++◌, ◌<◌, ◌==◌, ◌||◌, ◌∙◌, ◌∷◌, ◌≡◌, ◌≤◌}
 use Rattle.county_chart.specs.declared.fault.LinkedType.TheVariants.{Four, Six, Two}
 use Rattle.county_chart.specs.declared.fault.SequencedType.TheVariants as sequenced
 

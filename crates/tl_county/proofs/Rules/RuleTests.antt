@@ -1,15 +1,5 @@
 -- The rules for records that fit together, each as its search finds it.
-use Rattle.tl_county.proofs.Common.{Bool, PolygonKey, all_weaker, eight_land, false≢true, has_repeat, same-itself, same_or_not, tied_itself}
-use Rattle.tl_county.proofs.Common.{Equal, List, Record, Typed, arith, eq-eqb, false, is_eq, is_gt, lt-ltb, nat_lt, ne_eqb, number, uses_of}
-use Rattle.tl_county.proofs.Common.{Fields4, Greater, by_type, key_cmp, nat_cmp, six_rtsq, six_tlid, times-no, two_rtsq, two_tlid, zero-add}
-use Rattle.tl_county.proofs.Common.{IsInOrder, LandUnknown, NameUnknown, common_steps, first_least, is_repeated, sequence_cmp, times-append}
-use Rattle.tl_county.proofs.Common.{IsKeyOrder, IsPermutation, SequenceBroken, is_rule_broken, nat_cmp_total, ordering_then, times-distinct}
-use Rattle.tl_county.proofs.Common.{IsLeastPassing, PolygonTwice, PolygonUnknown, apart_from_no_repeat, link_fault_place, times-permutation}
-use Rattle.tl_county.proofs.Common.{Less, NameTwice, and_parts, bytes_cmp, five_feat, four_rtsq, four_tlid, of_number, pair_keys, place_cmp}
-use Rattle.tl_county.proofs.Common.{LinkFault, Ordering, is_unknown, is_unnamed, known-here, least-same, rule_place, seven_land, times-cons}
-use Rattle.tl_county.proofs.Common.{None, Some, bit, cond, find, inl, inr, p_key, part, refl, rules, subst, times, true, ◌&&◌, ◌++◌, ◌==◌}
-use Rattle.tl_county.proofs.Common.{[], ap, map, not, sym, ℕ, ◌+◌, ◌<◌, ◌∙◌, ◌∷◌, ◌≡◌, ◌⊎◌}
-use Rattle.tl_county.proofs.Common.{distinct, flat_map, key_keys, link_key, ltb-true, nat_keys, or_cases, side_keys, contains, times-yes}
+use Rattle.tl_county.proofs.Common.{Bool, Equal, Fields4, Greater, IsInOrder, IsKeyOrder, IsLeastPassing, IsPermutation, LandUnknown, Less, LinkFault, List, NameTwice, NameUnknown, None, Ordering, PolygonKey, PolygonTwice, PolygonUnknown, Record, SequenceBroken, Some, Typed, [], all_weaker, and_parts, ap, apart_from_no_repeat, arith, bit, by_type, bytes_cmp, common_steps, cond, contains, distinct, eight_land, eq-eqb, false, false≢true, find, first_least, five_feat, flat_map, four_rtsq, four_tlid, has_repeat, inl, inr, is_eq, is_gt, is_repeated, is_rule_broken, is_unknown, is_unnamed, key_cmp, key_keys, known-here, least-same, link_fault_place, link_key, lt-ltb, ltb-true, map, nat_cmp, nat_cmp_total, nat_keys, nat_lt, ne_eqb, not, number, of_number, or_cases, ordering_then, p_key, pair_keys, part, place_cmp, refl, rule_place, rules, same-itself, same_or_not, sequence_cmp, seven_land, side_keys, six_rtsq, six_tlid, subst, sym, tied_itself, times, times-append, times-cons, times-distinct, times-no, times-permutation, times-yes, true, two_rtsq, two_tlid, uses_of, zero-add, ℕ, ◌&&◌, ◌++◌, ◌+◌, ◌<◌, ◌==◌, ◌∙◌, ◌∷◌, ◌≡◌, ◌⊎◌}
 use Rattle.tl_county.proofs.Rules.RuleOrders.{IsRule, fault_of_rule}
 use Rattle.county_chart.specs.County.{i_tlid, one_tlid}
 use Rattle.county_chart.specs.declared.fault.LinkFault.TheVariants.{ChainTwice, NoChain}

@@ -1,7 +1,5 @@
 -- The numbers of tables in order are in order, and so are the tables by their first number.
-use Rattle.tl_county.proofs.Common.{AreInOrder, Fields2, Fields4, Fields6, Fields7, Fields8, IsInOrder, List, Typed, eight_land, four_rtsq}
-use Rattle.tl_county.proofs.Common.{four_tlid, i_tlid, in_order-map, landmark_body_cmp, link_part, link_part_cmp, map, nat_cmp, on}
-use Rattle.tl_county.proofs.Common.{one_tlid, rules, seven_land, six_rtsq, six_tlid, subst, sym, two_rtsq, two_tlid, ℕ, ◌≡◌}
+use Rattle.tl_county.proofs.Common.{AreInOrder, Fields2, Fields4, Fields6, Fields7, Fields8, IsInOrder, List, Typed, eight_land, four_rtsq, four_tlid, i_tlid, in_order-map, landmark_body_cmp, link_part, link_part_cmp, map, nat_cmp, on, one_tlid, rules, seven_land, six_rtsq, six_tlid, subst, sym, two_rtsq, two_tlid, ℕ, ◌≡◌}
 use Rattle.tl_county.proofs.Rules.RuleTests.{in_order-first}
 
 -- the TLIDs of the type 1 records

@@ -1,8 +1,5 @@
 -- Records type after type are the records of a list in another order.
-use Rattle.tl_county.proofs.Common.{ArePermuted, Eight, Five, Four, IsPermutation, IsPermutation-append, IsPermutation-append_right}
-use Rattle.tl_county.proofs.Common.{IsPermutation-cons, IsPermutation-map, IsPermutation-middle, IsPermutation-refl, IsPermutation-sym}
-use Rattle.tl_county.proofs.Common.{IsPermutation-trans, List, One, P, Record, Seven, Six, Two, Typed, [], by_type, map, of_type, record_of}
-use Rattle.tl_county.proofs.Common.{take, type_after_type, types, ℕ, ◌++◌, ◌∷◌}
+use Rattle.tl_county.proofs.Common.{ArePermuted, Eight, Five, Four, IsPermutation, IsPermutation-append, IsPermutation-append_right, IsPermutation-cons, IsPermutation-map, IsPermutation-middle, IsPermutation-refl, IsPermutation-sym, IsPermutation-trans, List, One, P, Record, Seven, Six, Two, Typed, [], by_type, map, of_type, record_of, take, type_after_type, types, ℕ, ◌++◌, ◌∷◌}
 use Rattle.tl_layout.specs.declared.record_type.Record.TheVariants.{I}
 
 -- these lists one after another, and then the rest

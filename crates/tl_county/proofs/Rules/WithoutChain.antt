@@ -1,12 +1,5 @@
 -- Polygons with a type P record that are on no side: in the tables of linked records, and in their county.
-use Rattle.tl_county.proofs.Common.{AllByRecursion, Among, Bool, Chain, Fields1, FieldsI, IsKeyOrder, IsLeastPassing, IsLinked, Known, List}
-use Rattle.tl_county.proofs.Common.{None, Option, Ordering, PolygonKey, Record, Some, [], all_among, among-pieces, among-unpieces}
-use Rattle.tl_county.proofs.Common.{among_known, ap, ap₂, arith, chain_of, chain_polygons, chains_all, chains_of, cond, count-map}
-use Rattle.tl_county.proofs.Common.{county_of, distinct, distinct_same, each_from, false, false≢true, filter, first, flat_map, has_body}
-use Rattle.tl_county.proofs.Common.{is_eq, is_some, is_unknown, is_without_chain, key_cmp, key_keys, known-append, known-left, known-right}
-use Rattle.tl_county.proofs.Common.{known_is_among, length, linked_chain, list_any, lt-ltb, ltb-true, map, map-id, nat_lt, needed, not}
-use Rattle.tl_county.proofs.Common.{of_type_1, of_type_i, of_type_p, p_key, polygon_body, polygons_along, refl, rules, same-true, side_keys}
-use Rattle.tl_county.proofs.Common.{contains_alike, contains, contains-distinct, suc, sym, true, ℕ, ◌&&◌, ◌++◌, ◌||◌, ◌∙◌, ◌∷◌, ◌≡◌}
+use Rattle.tl_county.proofs.Common.{AllByRecursion, Among, Bool, Chain, Fields1, FieldsI, IsKeyOrder, IsLeastPassing, IsLinked, Known, List, None, Option, Ordering, PolygonKey, Record, Some, [], all_among, among-pieces, among-unpieces, among_known, ap, ap₂, arith, chain_of, chain_polygons, chains_all, chains_of, cond, contains, contains-distinct, contains_alike, count-map, county_of, distinct, distinct_same, each_from, false, false≢true, filter, first, flat_map, has_body, is_eq, is_some, is_unknown, is_without_chain, key_cmp, key_keys, known-append, known-left, known-right, known_is_among, length, linked_chain, list_any, lt-ltb, ltb-true, map, map-id, nat_lt, needed, not, of_type_1, of_type_i, of_type_p, p_key, polygon_body, polygons_along, refl, rules, same-true, side_keys, suc, sym, true, ℕ, ◌&&◌, ◌++◌, ◌||◌, ◌∙◌, ◌∷◌, ◌≡◌}
 
 -- a list has a first element exactly if it isn't empty
 first_there : {X Y : Type 0} (f : X → Y) (xs : List X) → is_some (first (map f xs)) ≡ nat_lt 0 (length xs)

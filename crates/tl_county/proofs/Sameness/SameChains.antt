@@ -1,6 +1,5 @@
 -- The chains of two lists of records that agree on the records of each chain.
-use Rattle.tl_county.proofs.Common.{Fields1, FieldsI, List, Record, ap, chain_of, chains_of, flat_map, flat_map_agree, i_tlid, in_order}
-use Rattle.tl_county.proofs.Common.{map, map_agree_everywhere, nat_cmp, of_number, of_type_1, of_type_i, on, one_tlid, ℕ, ◌∙◌, ◌≡◌}
+use Rattle.tl_county.proofs.Common.{Fields1, FieldsI, List, Record, ap, chain_of, chains_of, flat_map, flat_map_agree, i_tlid, in_order, map, map_agree_everywhere, nat_cmp, of_number, of_type_1, of_type_i, on, one_tlid, ℕ, ◌∙◌, ◌≡◌}
 
 pub chains_alike : (xs ys : List Record) → ((r : Fields1) (link : FieldsI) → chain_of xs r link ≡ chain_of ys r link)
     → ((n : ℕ) → of_number i_tlid n (of_type_i xs) ≡ of_number i_tlid n (of_type_i ys))

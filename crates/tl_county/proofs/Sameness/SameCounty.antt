@@ -1,14 +1,5 @@
 -- The county depends neither on the order of the records, nor on the packing of types 2 and 4, nor on the choice of RTSQs.
-use Rattle.tl_county.proofs.Common.{ChainTwice, LinkTwice, NameTwice, PolygonKey, RecordType, chains_of, has_repeat, seven_land, times-same}
-use Rattle.tl_county.proofs.Common.{Fields1, SameElements, common_steps, landmarks_of, ordered_same, polygon_body, polygons_of, same-filter}
-use Rattle.tl_county.proofs.Common.{Fields2, Fields4, Fields5, Fields6, Fields7, FieldsI, FieldsP, key_cmp, six_tlid, two_rtsq, two_tlid, ℕ}
-use Rattle.tl_county.proofs.Common.{IsLinked, Type1, of_type_2, of_type_4, of_type_5, of_type_6, of_type_7, of_type_8, of_type_i, of_type_p}
-use Rattle.tl_county.proofs.Common.{IsPermutation, PolygonTwice, SequenceBroken, chain_tlids, distinct_same, numbered_same, times-of_number}
-use Rattle.tl_county.proofs.Common.{List, count-map, county_of, five_feat, four_rtsq, four_tlid, link_keys, ltb-false, of_number, of_type_1}
-use Rattle.tl_county.proofs.Common.{Record, Type2, Type4, Type5, Type6, Type7, Type8, filter, i_tlid, length, nat_cmp, nat_lt, of_type, sym}
-use Rattle.tl_county.proofs.Common.{TypeI, TypeP, ap, arith, false, first, is_eq, on, p_key, rules, times, ◌++◌, ◌==◌, ◌∙◌, ◌∷◌, ◌≡◌, ◌≤◌}
-use Rattle.tl_county.proofs.Common.{[], apart_from_no_repeat, from_permutation, landmark_body_cmp, landmark_body_keys, map_agree_everywhere}
-use Rattle.tl_county.proofs.Common.{chain_of, distinct, few_same, flat_map, in_order, key_keys, map, nat_keys, one_tlid, same-map, six_rtsq}
+use Rattle.tl_county.proofs.Common.{ChainTwice, Fields1, Fields2, Fields4, Fields5, Fields6, Fields7, FieldsI, FieldsP, IsLinked, IsPermutation, LinkTwice, List, NameTwice, PolygonKey, PolygonTwice, Record, RecordType, SameElements, SequenceBroken, Type1, Type2, Type4, Type5, Type6, Type7, Type8, TypeI, TypeP, [], ap, apart_from_no_repeat, arith, chain_of, chain_tlids, chains_of, common_steps, count-map, county_of, distinct, distinct_same, false, few_same, filter, first, five_feat, flat_map, four_rtsq, four_tlid, from_permutation, has_repeat, i_tlid, in_order, is_eq, key_cmp, key_keys, landmark_body_cmp, landmark_body_keys, landmarks_of, length, link_keys, ltb-false, map, map_agree_everywhere, nat_cmp, nat_keys, nat_lt, numbered_same, of_number, of_type, of_type_1, of_type_2, of_type_4, of_type_5, of_type_6, of_type_7, of_type_8, of_type_i, of_type_p, on, one_tlid, ordered_same, p_key, polygon_body, polygons_of, rules, same-filter, same-map, seven_land, six_rtsq, six_tlid, sym, times, times-of_number, times-same, two_rtsq, two_tlid, ℕ, ◌++◌, ◌==◌, ◌∙◌, ◌∷◌, ◌≡◌, ◌≤◌}
 use Rattle.tl_county.proofs.Sameness.SameChains.{chains_alike}
 use Rattle.tl_county.proofs.Sameness.SameRules.{keys_alike, same-linked, same_in_type, same_of_type}
 use Rattle.county_chart.specs.declared.fault.SequencedType.TheVariants as sequenced

@@ -1,15 +1,5 @@
 -- Lists with the same records break the same rules at the same places.
-use Rattle.tl_county.proofs.Common.{Among, FieldsP, Memory, NoChain, Record, as_type, i_tlid, key_cmp, nat_cmp, of_type, two_rtsq, two_tlid}
-use Rattle.tl_county.proofs.Common.{Bool, LinkFault, LinkTwice, NameTwice, among-map, five_feat, four_rtsq, four_tlid, of_number, of_type_2}
-use Rattle.tl_county.proofs.Common.{ChainTwice, LinkedType, PolygonKey, among_known, ap, chain_tlids, known-right, named_feats, same-filter}
-use Rattle.tl_county.proofs.Common.{Fields4, NameUnknown, among-pieces, among-unmap, known-append, linked_tlids, pieces_alike, contains_alike}
-use Rattle.tl_county.proofs.Common.{FieldsI, RecordType, apart-same, eight_land, false≢true, has_repeat, known-left, seven_land, times-same}
-use Rattle.tl_county.proofs.Common.{FieldsOf, IsLinked, ap₂, flat_map, key_keys, link_key, nat_keys, one_tlid, same-map, six_rtsq, six_tlid}
-use Rattle.tl_county.proofs.Common.{I, inl, inr, map, not, subst, sym, true, ℕ, ◌&&◌, ◌++◌, ◌==◌, ◌∙◌, ◌≡◌, ◌⊎◌}
-use Rattle.tl_county.proofs.Common.{IsFirstBrokenRule, LandUnknown, PolygonUnknown, apart_from_no_repeat, has_repeat-apart, same-filter_map}
-use Rattle.tl_county.proofs.Common.{Known, Type1, Type2, Type4, Type5, Type6, Type7, Type8, TypeI, TypeP, false, nat_lt, p_key, refl, rtsqs}
-use Rattle.tl_county.proofs.Common.{LinkMissing, PolygonTwice, SameElements, SequenceBroken, among-unpieces, is_rule_broken, known_is_among}
-use Rattle.tl_county.proofs.Common.{List, of_type_4, of_type_5, of_type_6, of_type_7, of_type_8, of_type_i, of_type_p, side_keys, contains}
+use Rattle.tl_county.proofs.Common.{Among, Bool, ChainTwice, Fields4, FieldsI, FieldsOf, FieldsP, I, IsFirstBrokenRule, IsLinked, Known, LandUnknown, LinkFault, LinkMissing, LinkTwice, LinkedType, List, Memory, NameTwice, NameUnknown, NoChain, PolygonKey, PolygonTwice, PolygonUnknown, Record, RecordType, SameElements, SequenceBroken, Type1, Type2, Type4, Type5, Type6, Type7, Type8, TypeI, TypeP, among-map, among-pieces, among-unmap, among-unpieces, among_known, ap, apart-same, apart_from_no_repeat, ap₂, as_type, chain_tlids, contains, contains_alike, eight_land, false, false≢true, five_feat, flat_map, four_rtsq, four_tlid, has_repeat, has_repeat-apart, i_tlid, inl, inr, is_rule_broken, key_cmp, key_keys, known-append, known-left, known-right, known_is_among, link_key, linked_tlids, map, named_feats, nat_cmp, nat_keys, nat_lt, not, of_number, of_type, of_type_2, of_type_4, of_type_5, of_type_6, of_type_7, of_type_8, of_type_i, of_type_p, one_tlid, p_key, pieces_alike, refl, rtsqs, same-filter, same-filter_map, same-map, seven_land, side_keys, six_rtsq, six_tlid, subst, sym, times-same, true, two_rtsq, two_tlid, ℕ, ◌&&◌, ◌++◌, ◌==◌, ◌∙◌, ◌≡◌, ◌⊎◌}
 use Rattle.county_chart.specs.declared.fault.LinkedType.TheVariants.{Four, Six, Two}
 use Rattle.county_chart.specs.declared.fault.SequencedType.TheVariants as sequenced
 

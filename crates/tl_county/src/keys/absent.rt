@@ -1,6 +1,7 @@
 //! Keys of one list that another doesn't have.
 
-ghost use Rattle.ordered_lists.specs.{Keyed.IsLeastPassing, Keyed.is_unknown, Orders.IsInOrder};
+ghost use Rattle.ordered_lists.specs.Keyed.{IsLeastPassing, is_unknown};
+ghost use Rattle.ordered_lists.specs.Orders.{IsInOrder};
 ghost use Rattle.std.specs.Ordering.{on};
 ghost use Rattle.std.specs.Prelude.{map, true, ◌≡◌};
 

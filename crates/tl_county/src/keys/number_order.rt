@@ -1,8 +1,10 @@
 //! The order of items by their numbers. The items stay where they are and are read at their places.
 
-ghost use Rattle.ordered_lists.specs.{Orders.IsInOrder, Places.at_places};
+ghost use Rattle.ordered_lists.specs.Orders.{IsInOrder};
+ghost use Rattle.ordered_lists.specs.Places.{at_places};
 ghost use Rattle.std.specs.Prelude.{IfOk, IsPermutation, OnOk, get_or, length, map, slice_get, ◌≡◌};
-ghost use Rattle.std.specs.{List.range_with_len, Ordering.nat_cmp, Ordering.on};
+ghost use Rattle.std.specs.List.{range_with_len};
+ghost use Rattle.std.specs.Ordering.{nat_cmp, on};
 
 use crate::keys::repeated::keys_of;
 use county_chart::{Keyed, are_in_order};

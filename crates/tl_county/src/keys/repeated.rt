@@ -2,7 +2,8 @@
 
 ghost use Rattle.std.specs.Ordering.{on};
 ghost use Rattle.std.specs.Prelude.{IfOk, IsPermutation, None, OnOk, map, true, ◌≡◌};
-ghost use Rattle.ordered_lists.specs.{Keyed.IsLeastPassing, Keyed.is_repeated, Orders.IsInOrder};
+ghost use Rattle.ordered_lists.specs.Keyed.{IsLeastPassing, is_repeated};
+ghost use Rattle.ordered_lists.specs.Orders.{IsInOrder};
 
 use county_chart::{Keyed, sort_by_keys};
 use ordered_lists::Key;

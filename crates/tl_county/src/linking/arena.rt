@@ -3,7 +3,8 @@
 
 ghost use Rattle.std.specs.List.{AllByRecursion};
 ghost use Rattle.std.specs.Prelude.{IfOk, [], flat_map, map, ◌++◌, ◌∷◌, ◌≡◌};
-ghost use Rattle.tl_layout.specs.{Fields.Fields2, Fields.Fields4, Fields.Fields5, Fields.Fields6, Numbers.IsNumber};
+ghost use Rattle.tl_layout.specs.Fields.{Fields2, Fields4, Fields5, Fields6};
+ghost use Rattle.tl_layout.specs.Numbers.{IsNumber};
 
 use crate::linking::building::{
     ChainBuilder, LandmarkBuilder, OneChain, join_bodies, join_feats, join_points, join_ranges,

@@ -1,13 +1,16 @@
 //! The parts of a county, built by walking tables in order side by side.
 
 ghost use Rattle.std.specs.Prelude.{IfOk, OnOk, Some, [], filter, flat_map, map, option_to_list, ◌++◌, ◌∷◌, ◌≡◌};
-ghost use Rattle.std.specs.{List.AllByRecursion, List.Sorted.IsStrictlySortedBy, Ordering.is_gt, Ordering.nat_cmp, Ordering.on};
-ghost use Rattle.tl_county.specs.Building.{chain_with, chains_along, landmark_of, topology_nodes, polygon_body_of};
+ghost use Rattle.std.specs.List.{AllByRecursion};
+ghost use Rattle.std.specs.List.Sorted.{IsStrictlySortedBy};
+ghost use Rattle.std.specs.Ordering.{is_gt, nat_cmp, on};
+ghost use Rattle.tl_county.specs.Building.{chain_with, chains_along, landmark_of, polygon_body_of, topology_nodes};
 ghost use Rattle.county_chart.specs.County.{eight_land, first, four_tlid, one_tlid, p_key, seven_land, six_tlid, two_tlid};
 ghost use Rattle.county_chart.specs.PolygonKeys.{key_cmp};
 ghost use Rattle.ordered_lists.specs.Orders.{IsInOrder, distinct};
 ghost use Rattle.tl_layout.specs.Fields.{Fields2, Fields4, Fields5, Fields6, Fields7, FieldsP};
-ghost use Rattle.tl_layout.specs.{ByType.of_number, Numbers.IsNumber, Numbers.IsNumberOrNone};
+ghost use Rattle.tl_layout.specs.ByType.{of_number};
+ghost use Rattle.tl_layout.specs.Numbers.{IsNumber, IsNumberOrNone};
 
 use crate::keys::absent::have_same_keys;
 use crate::keys::repeated::keys_of;

@@ -1,6 +1,6 @@
 //! The records of types 1 and I at their places, read before the chains are built from them.
 
-ghost use Rattle.std.specs.Prelude.{◌≡◌, IfOk, slice_get};
+ghost use Rattle.std.specs.Prelude.{IfOk, slice_get, ◌≡◌};
 ghost use Rattle.ordered_lists.specs.Places.{at_places};
 
 use std::alloc::{AllocError, Global};

@@ -1,10 +1,14 @@
 //! What linking gathers from tables in order: uses of names, linked polygons, and all polygons, with whether each is on a side.
 
 ghost use Rattle.std.specs.Prelude.{IfOk, IsPermutation, OnOk, flat_map, map, ◌++◌, ◌≡◌};
-ghost use Rattle.std.specs.{List.Sorted.IsStrictlySortedBy, Ordering.on};
+ghost use Rattle.std.specs.List.Sorted.{IsStrictlySortedBy};
+ghost use Rattle.std.specs.Ordering.{on};
 ghost use Rattle.county_chart.specs.County.{link_key, p_key, side_keys};
-ghost use Rattle.county_chart.specs.{BodyOrder.bytes_cmp, PolygonKeys.key_cmp, SequenceKeys.sequence_cmp, SequenceKeys.uses_of};
-ghost use Rattle.ordered_lists.specs.{Keyed.IsLeastPassing, Keyed.is_unknown, Orders.IsInOrder, Orders.distinct};
+ghost use Rattle.county_chart.specs.BodyOrder.{bytes_cmp};
+ghost use Rattle.county_chart.specs.PolygonKeys.{key_cmp};
+ghost use Rattle.county_chart.specs.SequenceKeys.{sequence_cmp, uses_of};
+ghost use Rattle.ordered_lists.specs.Keyed.{IsLeastPassing, is_unknown};
+ghost use Rattle.ordered_lists.specs.Orders.{IsInOrder, distinct};
 
 use crate::keys::absent::least_absent;
 use crate::keys::repeated::keys_of;

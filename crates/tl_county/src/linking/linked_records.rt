@@ -2,10 +2,15 @@
 
 ghost use Rattle.std.specs.Prelude.{IfErr, IfOk, List, ◌≡◌, ◌≢◌};
 ghost use Rattle.county_chart.specs.LinkRules.{IsFirstBrokenRule, IsLinked};
-ghost use Rattle.county_chart.specs.{County.county_of, CountyRules.is_without_chain, Limits.HoldsWithinLimits, Packing.type_after_type};
-ghost use Rattle.county_chart.specs.{PolygonKeys.key_cmp, declared.fault.LinkFault.TheVariants.Memory};
+ghost use Rattle.county_chart.specs.County.{county_of};
+ghost use Rattle.county_chart.specs.CountyRules.{is_without_chain};
+ghost use Rattle.county_chart.specs.Limits.{HoldsWithinLimits};
+ghost use Rattle.county_chart.specs.Packing.{type_after_type};
+ghost use Rattle.county_chart.specs.PolygonKeys.{key_cmp};
+ghost use Rattle.county_chart.specs.declared.fault.LinkFault.TheVariants.{Memory};
 ghost use Rattle.ordered_lists.specs.Keyed.{IsLeastPassing};
-ghost use Rattle.tl_layout.specs.{Tables.HoldsByType, declared.record_type.Record.Record};
+ghost use Rattle.tl_layout.specs.Tables.{HoldsByType};
+ghost use Rattle.tl_layout.specs.declared.record_type.Record.{Record};
 
 use crate::linking::arena::{InArena, names_in, names_over};
 use crate::linking::building::name_bodies;
@@ -30,9 +35,13 @@ pub struct LinkedRecords {
 impl Model for LinkedRecords {
     ghost use Rattle.std.specs.Prelude.{IsPermutation, flat_map, map, ◌++◌, ◌≡◌};
     ghost use Rattle.county_chart.specs.County.{county_of, five_feat, one_tlid, p_key, side_keys};
-    ghost use Rattle.county_chart.specs.{Limits.IsWithinLimits, Limits.most_records, LinkRules.IsLinked, Packing.Typed};
-    ghost use Rattle.county_chart.specs.{Packing.type_after_type, PolygonKeys.key_cmp};
-    ghost use Rattle.ordered_lists.specs.{Keyed.IsLeastPassing, Keyed.is_unknown, Orders.distinct};
+    ghost use Rattle.county_chart.specs.Limits.{IsWithinLimits};
+    ghost use Rattle.tl_layout.specs.Limits.{most_records};
+    ghost use Rattle.county_chart.specs.LinkRules.{IsLinked};
+    ghost use Rattle.county_chart.specs.Packing.{Typed, type_after_type};
+    ghost use Rattle.county_chart.specs.PolygonKeys.{key_cmp};
+    ghost use Rattle.ordered_lists.specs.Keyed.{IsLeastPassing, is_unknown};
+    ghost use Rattle.ordered_lists.specs.Orders.{distinct};
     ghost use Rattle.tl_county.specs.OrderedTables.{AreInOrder, ordered_of};
 
     ghost Value = { Typed };

@@ -1,7 +1,9 @@
 //! Puts tables whose records are copied in order: first close to it, in linear time, and then, if need be, by comparisons.
 
-ghost use Rattle.ordered_lists.specs.{Keyed.IsLeastPassing, Keyed.is_repeated, Orders.IsInOrder};
-ghost use Rattle.std.specs.{Ordering.on, Prelude.IfOk, Prelude.IsPermutation, Prelude.OnOk, Prelude.map};
+ghost use Rattle.ordered_lists.specs.Keyed.{IsLeastPassing, is_repeated};
+ghost use Rattle.ordered_lists.specs.Orders.{IsInOrder};
+ghost use Rattle.std.specs.Ordering.{on};
+ghost use Rattle.std.specs.Prelude.{IfOk, IsPermutation, OnOk, map};
 
 use crate::keys::repeated::put_in_order_with_repeated;
 use county_chart::{Keyed, PolygonKey, polygon_number};

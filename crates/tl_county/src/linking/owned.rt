@@ -1,6 +1,6 @@
 //! The parts of an owned county: each list is a separate vector.
 
-ghost use Rattle.std.specs.Prelude.{◌≡◌, ◌∷◌, [], ◌++◌, IfOk, flat_map};
+ghost use Rattle.std.specs.Prelude.{IfOk, [], flat_map, ◌++◌, ◌∷◌, ◌≡◌};
 ghost use Rattle.tl_layout.specs.Fields.{Fields2};
 
 use crate::linking::building::{

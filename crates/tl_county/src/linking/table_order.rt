@@ -8,8 +8,10 @@ ghost use Rattle.std.specs.Ordering.{nat_cmp, on};
 ghost use Rattle.std.specs.Prelude.{IfOk, IsPermutation, OnOk, map, ◌≡◌};
 ghost use Rattle.county_chart.specs.County.{five_feat, i_tlid, one_tlid, p_key};
 ghost use Rattle.county_chart.specs.SequenceKeys.{four_sequence, sequence_cmp, six_sequence, two_sequence};
-ghost use Rattle.county_chart.specs.{BodyOrder.landmark_cmp, BodyOrder.link_cmp, PolygonKeys.key_cmp};
-ghost use Rattle.ordered_lists.specs.{Keyed.IsLeastPassing, Keyed.is_repeated, PutInOrder.IsPutInOrder};
+ghost use Rattle.county_chart.specs.BodyOrder.{landmark_cmp, link_cmp};
+ghost use Rattle.county_chart.specs.PolygonKeys.{key_cmp};
+ghost use Rattle.ordered_lists.specs.Keyed.{IsLeastPassing, is_repeated};
+ghost use Rattle.ordered_lists.specs.PutInOrder.{IsPutInOrder};
 ghost use Rattle.tl_county.specs.OrderedTables.{AreInOrder, ArePermuted, ordered_of, typed_of};
 ghost use Rattle.tl_county.specs.RepeatedKeys.{AreLeastRepeated};
 

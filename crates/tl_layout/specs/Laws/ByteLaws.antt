@@ -1,6 +1,8 @@
 -- The literal bytes in spellings are allowed.
 use Rattle.std.proofs.Common.{IsTrue, List, codes, refl, true, ℕ, ◌≡◌}
-use Rattle.std.proofs.{lemmas.List.Elements.All-replicate, lemmas.List.Sums.AllPass-from_list_all, lemmas.List.length-replicate}
+use Rattle.std.proofs.lemmas.List.Elements.{All-replicate}
+use Rattle.std.proofs.lemmas.List.Sums.{AllPass-from_list_all}
+use Rattle.std.proofs.lemmas.List.{length-replicate}
 use Rattle.std.specs.List.{list_all}
 use Rattle.tl_layout.specs.Bytes.{AreAllowed, IsText, blanks, is_allowed}
 

@@ -1,8 +1,9 @@
 -- What the columns of a line hold if the line is made of texts with these widths.
-use Rattle.std.proofs.Common.{IsTrue, List, [], ap, append_assoc, arith, drop, length, refl, subst, sym, take, ℕ, ◌++◌, ◌+◌, ◌-◌, ◌∙◌, ◌∷◌}
-use Rattle.std.proofs.Common.{◌≡◌, ◌≤◌}
-use Rattle.std.proofs.lemmas.{List.Elements.All-drop, List.Elements.All-take, List.append-nil, List.length-drop, List.length-take-le}
-use Rattle.tl_layout.specs.{Bytes.AreAllowed, Bytes.IsText, Bytes.columns, Bytes.is_allowed, Columns.joined}
+use Rattle.std.proofs.Common.{IsTrue, List, [], ap, append_assoc, arith, drop, length, refl, subst, sym, take, ℕ, ◌++◌, ◌+◌, ◌-◌, ◌∙◌, ◌∷◌, ◌≡◌, ◌≤◌}
+use Rattle.std.proofs.lemmas.List.Elements.{All-drop, All-take}
+use Rattle.std.proofs.lemmas.List.{append-nil, length-drop, length-take-le}
+use Rattle.tl_layout.specs.Bytes.{AreAllowed, IsText, columns, is_allowed}
+use Rattle.tl_layout.specs.Columns.{joined}
 
 -- text before the joined texts can be prepended afterwards
 pub joined-before : (before : List ℕ) (texts : List (List ℕ)) → joined before texts ≡ before ++ joined [] texts

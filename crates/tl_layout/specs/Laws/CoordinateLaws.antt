@@ -1,18 +1,19 @@
 -- A coordinate's field is read as the value that it spells, and the canonical text is among the spellings.
-use Rattle.std.proofs.Common.{IsTrue, List, None, Option, Some, [], ap, arith, length, nat_eq, nat_le, negsuc, pos, refl, subst, suc, sym}
-use Rattle.std.proofs.Common.{true, unsigned_abs, zero, ℕ, ℤ, ◌%◌, ◌*◌, ◌++◌, ◌+◌, ◌-◌, ◌/◌, ◌<◌, ◌^◌, ◌∙◌, ◌∷◌, ◌≡◌, ◌≤◌}
+use Rattle.std.proofs.Common.{IsTrue, List, None, Option, Some, [], ap, arith, length, nat_eq, nat_le, negsuc, pos, refl, subst, suc, sym, true, unsigned_abs, zero, ℕ, ℤ, ◌%◌, ◌*◌, ◌++◌, ◌+◌, ◌-◌, ◌/◌, ◌<◌, ◌^◌, ◌∙◌, ◌∷◌, ◌≡◌, ◌≤◌}
 use Rattle.std.proofs.lemmas.Bool.{and_from, and_parts, cond_both, eqb-true, le-leb, leb-true, ne_eqb}
-use Rattle.std.proofs.lemmas.{List.Elements.All-cons, List.Elements.All-nil, List.Elements.All-push, List.append-nil, List.length_push}
+use Rattle.std.proofs.lemmas.List.Elements.{All-cons, All-nil, All-push}
+use Rattle.std.proofs.lemmas.List.{append-nil, length_push}
 use Rattle.std.specs.List.{list_all}
-use Rattle.tl_layout.specs.Laws.NumberLaws.{digit_not_blank, drop_blanks-append, drop_blanks-blanks, number_after_found, number_after_only}
-use Rattle.tl_layout.specs.Laws.NumberLaws.{splits_blanks}
+use Rattle.tl_layout.specs.Laws.NumberLaws.{digit_not_blank, drop_blanks-append, drop_blanks-blanks, number_after_found, number_after_only, splits_blanks}
 use Rattle.tl_layout.specs.Laws.NumberTextLaws.{digit_allowed, digits_push, last_is_digit, tenth_below, value_after-push}
 use Rattle.tl_layout.specs.CoordinateField.{IsBlankField, IsCoordinateField, IsSigned, minus, negated, plus, unsigned}
 use Rattle.tl_layout.specs.CoordinateReading.{coordinate_of, made_of, magnitude_of, minus_of, plus_of, signed_of, within}
-use Rattle.tl_layout.specs.{Bytes.AreAllowed, Bytes.IsText, Bytes.is_allowed, FieldTexts.coordinate_text, FieldTexts.digits_text}
-use Rattle.tl_layout.specs.{FieldTexts.sign_of, NumberField.is_blank, NumberField.is_digit, NumberField.value_after}
-use Rattle.tl_layout.specs.{NumberReading.drop_blanks, NumberReading.number_after, declared.coordinate.Coordinate.Coordinate}
-use Rattle.tl_layout.specs.{declared.coordinate.Coordinate.TheVariants.Blank, declared.coordinate.Coordinate.TheVariants.Value}
+use Rattle.tl_layout.specs.Bytes.{AreAllowed, IsText, is_allowed}
+use Rattle.tl_layout.specs.FieldTexts.{coordinate_text, digits_text, sign_of}
+use Rattle.tl_layout.specs.NumberField.{is_blank, is_digit, value_after}
+use Rattle.tl_layout.specs.NumberReading.{drop_blanks, number_after}
+use Rattle.tl_layout.specs.declared.coordinate.Coordinate.{Coordinate}
+use Rattle.tl_layout.specs.declared.coordinate.Coordinate.TheVariants.{Blank, Value}
 
 -- one or more digits within the limit, followed only by blanks
 pub record IsMagnitude (limit : ℕ) (bytes : List ℕ) (n : ℕ) : Type 0 where

@@ -1,23 +1,27 @@
 -- The fields of a line are read as what they spell, the values that are read are in range, and the canonical texts spell their
 -- values.
-use Rattle.std.proofs.Common.{Bool, Err, IfSome, List, None, Ok, Option, Result, Some, ap, arith, cond, drop, false, inl, inr, length, lit<}
-use Rattle.std.proofs.Common.{nat_eq, negsuc, pos, refl, rules, subst, suc, sym, true, unsigned_abs, unwrap_or, zero, ℕ, ℤ, ◌+◌, ◌-◌, ◌<◌}
-use Rattle.std.proofs.Common.{◌^◌, ◌∙◌, ◌≡◌, ◌≤◌}
+use Rattle.std.proofs.Common.{Bool, Err, IfSome, List, None, Ok, Option, Result, Some, ap, arith, cond, drop, false, inl, inr, length, lit<, nat_eq, negsuc, pos, refl, rules, subst, suc, sym, true, unsigned_abs, unwrap_or, zero, ℕ, ℤ, ◌+◌, ◌-◌, ◌<◌, ◌^◌, ◌∙◌, ◌≡◌, ◌≤◌}
 use Rattle.std.proofs.lemmas.Bool.{eqb-false, eqb-true, ne_eqb}
-use Rattle.std.proofs.{Math.Nat.one-le-pow, lemmas.List.length-drop, lemmas.List.length-take-le}
+use Rattle.std.proofs.Math.Nat.{one-le-pow}
+use Rattle.std.proofs.lemmas.List.{length-drop, length-take-le}
 use Rattle.tl_layout.specs.Coordinates.{Coordinates, IsOnMap, most_latitude, most_longitude}
 use Rattle.tl_layout.specs.FieldTexts.{coordinate_text, lat_text, long_text, number_text}
-use Rattle.tl_layout.specs.Laws.CoordinateLaws.{blank_found, blank_only, coordinate_found, coordinate_only, coordinate_text_is_text}
-use Rattle.tl_layout.specs.Laws.CoordinateLaws.{coordinate_text_spells, coordinate_within}
-use Rattle.tl_layout.specs.FieldReading.{and_then, demanded, number_at, number_or_none_at, coordinates_of, point_at, point_or_none}
-use Rattle.tl_layout.specs.FieldReading.{point_or_none_at, possible_number}
+use Rattle.tl_layout.specs.Laws.CoordinateLaws.{blank_found, blank_only, coordinate_found, coordinate_only, coordinate_text_is_text, coordinate_text_spells, coordinate_within}
+use Rattle.tl_layout.specs.FieldReading.{and_then, coordinates_of, demanded, number_at, number_or_none_at, point_at, point_or_none, point_or_none_at, possible_number}
 use Rattle.tl_layout.specs.FieldMeaning.{SpellsNumber, SpellsNumberOrNone, SpellsPoint, SpellsPointOrNone}
 use Rattle.tl_layout.specs.declared.coordinate.Coordinate.TheVariants.{Blank, Malformed, Value}
-use Rattle.tl_layout.specs.{Bytes.IsText, Bytes.columns, CoordinateField.IsCoordinateField, CoordinateReading.coordinate_of}
-use Rattle.tl_layout.specs.{FieldFaults.bad_number, FieldFaults.bad_point, Laws.ByteLaws.blanks_are_text, Laws.NumberLaws.number_found}
-use Rattle.tl_layout.specs.{Laws.NumberLaws.number_only, Laws.NumberTextLaws.number_below, Laws.NumberTextLaws.number_text_spells}
-use Rattle.tl_layout.specs.{NumberField.is_blank, NumberReading.number_of, Numbers.IsNumber, Numbers.IsNumberOrNone}
-use Rattle.tl_layout.specs.{declared.coordinate.Coordinate.Coordinate, declared.fault.FieldFault.FieldFault}
+use Rattle.tl_layout.specs.Bytes.{IsText, columns}
+use Rattle.tl_layout.specs.CoordinateField.{IsCoordinateField}
+use Rattle.tl_layout.specs.CoordinateReading.{coordinate_of}
+use Rattle.tl_layout.specs.FieldFaults.{bad_number, bad_point}
+use Rattle.tl_layout.specs.Laws.ByteLaws.{blanks_are_text}
+use Rattle.tl_layout.specs.Laws.NumberLaws.{number_found, number_only}
+use Rattle.tl_layout.specs.Laws.NumberTextLaws.{number_below, number_text_spells}
+use Rattle.tl_layout.specs.NumberField.{is_blank}
+use Rattle.tl_layout.specs.NumberReading.{number_of}
+use Rattle.tl_layout.specs.Numbers.{IsNumber, IsNumberOrNone}
+use Rattle.tl_layout.specs.declared.coordinate.Coordinate.{Coordinate}
+use Rattle.tl_layout.specs.declared.fault.FieldFault.{FieldFault}
 use Rattle.std.specs.List.{list_all}
 
 -- the value that was read first, before reading continued

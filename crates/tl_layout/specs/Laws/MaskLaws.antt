@@ -1,7 +1,11 @@
 -- Blanking twice under one mask is blanking once.
 use Rattle.std.proofs.Common.{Bool, List, false, refl, true, ℕ, ◌≡◌}
-use Rattle.tl_layout.specs.{Bytes.blanks_if, Masked.masked_body_1, Masked.masked_body_7, Masked.masked_body_i, declared.mask.Mask.Mask}
-use Rattle.tl_layout.specs.{declared.type1.fields.Body1Fields.Body1Fields, declared.type7.Body7.Body7, declared.type_i.BodyI.BodyI}
+use Rattle.tl_layout.specs.Bytes.{blanks_if}
+use Rattle.tl_layout.specs.Masked.{masked_body_1, masked_body_7, masked_body_i}
+use Rattle.tl_layout.specs.declared.mask.Mask.{Mask}
+use Rattle.tl_layout.specs.declared.type1.fields.Body1Fields.{Body1Fields}
+use Rattle.tl_layout.specs.declared.type7.Body7.{Body7}
+use Rattle.tl_layout.specs.declared.type_i.BodyI.{BodyI}
 
 -- a text that is blank or kept stays so
 hidden_twice : (is_hidden : Bool) (width : ℕ) (text : List ℕ)

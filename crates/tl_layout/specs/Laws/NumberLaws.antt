@@ -1,10 +1,11 @@
 -- A number field is read as the number that it spells, and the canonical text is among the spellings.
-use Rattle.std.proofs.Common.{Bool, List, None, Some, [], ap, arith, cond, false, refl, suc, sym, true, unwrap_or, zero, ℕ, ◌*◌, ◌++◌, ◌+◌}
-use Rattle.std.proofs.Common.{◌-◌, ◌∙◌, ◌∷◌, ◌≡◌, ◌≤◌}
-use Rattle.std.proofs.lemmas.{Bool.and_from, Bool.and_parts, Bool.cond_both, Bool.eqb-true, Bool.leb-true, Bool.ne_eqb, List.append-nil}
+use Rattle.std.proofs.Common.{Bool, List, None, Some, [], ap, arith, cond, false, refl, suc, sym, true, unwrap_or, zero, ℕ, ◌*◌, ◌++◌, ◌+◌, ◌-◌, ◌∙◌, ◌∷◌, ◌≡◌, ◌≤◌}
+use Rattle.std.proofs.lemmas.Bool.{and_from, and_parts, cond_both, eqb-true, leb-true, ne_eqb}
+use Rattle.std.proofs.lemmas.List.{append-nil}
 use Rattle.std.specs.List.{list_all}
 use Rattle.tl_layout.specs.NumberField.{IsNumberField, is_blank, is_digit, value_after}
-use Rattle.tl_layout.specs.{NumberReading.drop_blanks, NumberReading.number_after, NumberReading.number_of, Numbers.none_if_zero}
+use Rattle.tl_layout.specs.NumberReading.{drop_blanks, number_after, number_of}
+use Rattle.tl_layout.specs.Numbers.{none_if_zero}
 
 -- no digit is a blank
 pub digit_not_blank : (byte : ℕ) → is_digit byte ≡ true → is_blank byte ≡ false

@@ -1,13 +1,15 @@
 -- The canonical text of a number spells it, has the field's width, and consists of allowed bytes.
-use Rattle.std.proofs.Common.{Bool, IsTrue, List, [], ap, append_assoc, arith, cond, false, length, lit<, nat_eq, nat_le, refl, suc, sym}
-use Rattle.std.proofs.Common.{true, zero, ℕ, ◌%◌, ◌*◌, ◌++◌, ◌+◌, ◌-◌, ◌/◌, ◌<◌, ◌^◌, ◌∙◌, ◌∷◌, ◌≡◌, ◌≤◌}
+use Rattle.std.proofs.Common.{Bool, IsTrue, List, [], ap, append_assoc, arith, cond, false, length, lit<, nat_eq, nat_le, refl, suc, sym, true, zero, ℕ, ◌%◌, ◌*◌, ◌++◌, ◌+◌, ◌-◌, ◌/◌, ◌<◌, ◌^◌, ◌∙◌, ◌∷◌, ◌≡◌, ◌≤◌}
 use Rattle.std.proofs.lemmas.Bool.{and_from, and_parts, eqb-false, eqb-true, le-leb, leb-true}
-use Rattle.std.proofs.{Math.Nat.mul-le-mul_left, Math.Nat.pow-le-pow_right, Math.Nat.pow-succ', lemmas.Bool.Decides.nat_tests}
-use Rattle.std.proofs.{lemmas.List.Elements.All-nil, lemmas.List.Elements.All-push, lemmas.List.Folds.list_all-append}
-use Rattle.std.proofs.{lemmas.List.append-nil, lemmas.List.length-append, lemmas.List.length_push}
+use Rattle.std.proofs.Math.Nat.{mul-le-mul_left, pow-le-pow_right, pow-succ'}
+use Rattle.std.proofs.lemmas.Bool.Decides.{nat_tests}
+use Rattle.std.proofs.lemmas.List.Elements.{All-nil, All-push}
+use Rattle.std.proofs.lemmas.List.Folds.{list_all-append}
+use Rattle.std.proofs.lemmas.List.{append-nil, length-append, length_push}
 use Rattle.std.specs.List.{list_all}
 use Rattle.tl_layout.specs.NumberField.{IsNumberField, is_blank, is_digit, value_after}
-use Rattle.tl_layout.specs.{Bytes.AreAllowed, Bytes.IsText, Bytes.is_allowed, FieldTexts.number_text}
+use Rattle.tl_layout.specs.Bytes.{AreAllowed, IsText, is_allowed}
+use Rattle.tl_layout.specs.FieldTexts.{number_text}
 
 -- the value of digits with one more appended
 pub value_after-push : (n : ℕ) (digits : List ℕ) (digit : ℕ)

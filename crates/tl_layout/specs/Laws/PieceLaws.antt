@@ -1,7 +1,9 @@
 -- The pieces of a text: what they join to, and where else they occur.
 use Rattle.std.proofs.Common.{List, [], ap, arith, drop, length, refl, sym, take, ℕ, ◌++◌, ◌+◌, ◌-◌, ◌∙◌, ◌∷◌, ◌≡◌, ◌≤◌}
 use Rattle.std.proofs.lemmas.List.{drop-drop, drop-take, drop_all, take-append-drop, take-take}
-use Rattle.tl_layout.specs.{Columns.joined, Laws.ColumnLaws.joined-before, Pieces.pieces_from, Pieces.total_width}
+use Rattle.tl_layout.specs.Columns.{joined}
+use Rattle.tl_layout.specs.Laws.ColumnLaws.{joined-before}
+use Rattle.tl_layout.specs.Pieces.{pieces_from, total_width}
 
 -- pieces up to the end of the text join to the rest of it
 pub pieces_join : (at : ℕ) (widths text : List ℕ) → at + total_width widths ≡ length text → joined [] (pieces_from at widths text) ≡ drop at text

@@ -1,9 +1,11 @@
 -- Places: reading them fails exactly at the leftmost faulty place.
-use Rattle.std.proofs.Common.{Bool, Err, List, None, Ok, Option, Result, Some, [], ap, arith, cond, false, inl, inr, length, refl, subst}
-use Rattle.std.proofs.Common.{suc, sym, true, zero, ℕ, ◌*◌, ◌+◌, ◌<◌, ◌∷◌, ◌≡◌, ◌⊎◌}
-use Rattle.tl_layout.specs.{FieldFaults.IsGap, FieldFaults.IsPlaceFault, FieldFaults.gap, FieldMeaning.SpellsPlaces, FieldReading.and_then}
-use Rattle.tl_layout.specs.{FieldReading.at_place, FieldReading.places_reading, Laws.FieldLaws.reads_on, Laws.ValueLaws.err_value}
-use Rattle.tl_layout.specs.{Laws.ValueLaws.fails, Laws.ValueLaws.fails_first, declared.fault.FieldFault.FieldFault}
+use Rattle.std.proofs.Common.{Bool, Err, List, None, Ok, Option, Result, Some, [], ap, arith, cond, false, inl, inr, length, refl, subst, suc, sym, true, zero, ℕ, ◌*◌, ◌+◌, ◌<◌, ◌∷◌, ◌≡◌, ◌⊎◌}
+use Rattle.tl_layout.specs.FieldFaults.{IsGap, IsPlaceFault, gap}
+use Rattle.tl_layout.specs.FieldMeaning.{SpellsPlaces}
+use Rattle.tl_layout.specs.FieldReading.{and_then, at_place, places_reading}
+use Rattle.tl_layout.specs.Laws.FieldLaws.{reads_on}
+use Rattle.tl_layout.specs.Laws.ValueLaws.{err_value, fails, fails_first}
+use Rattle.tl_layout.specs.declared.fault.FieldFault.{FieldFault}
 
 next_column : (column width before : ℕ) → column + width + width * before ≡ column + width * suc before
 next_column column width before = grind arith

@@ -1,18 +1,21 @@
 -- Places are read as what they spell, and the canonical text is among the spellings.
-use Rattle.std.proofs.Common.{Bool, Err, IfSome, IsTrue, List, None, Ok, Option, Result, Some, [], ap, append_assoc, arith, cond, drop}
-use Rattle.std.proofs.Common.{false, inr, length, lit<, lit≤, pos, refl, subst, suc, sym, take, true, unwrap_or, zero, ℕ, ◌*◌, ◌++◌, ◌+◌}
-use Rattle.std.proofs.Common.{◌-◌, ◌∙◌, ◌∷◌, ◌≡◌, ◌≤◌}
+use Rattle.std.proofs.Common.{Bool, Err, IfSome, IsTrue, List, None, Ok, Option, Result, Some, [], ap, append_assoc, arith, cond, drop, false, inr, length, lit<, lit≤, pos, refl, subst, suc, sym, take, true, unwrap_or, zero, ℕ, ◌*◌, ◌++◌, ◌+◌, ◌-◌, ◌∙◌, ◌∷◌, ◌≡◌, ◌≤◌}
 use Rattle.std.proofs.lemmas.List.{drop_at, length-append, length-take, take_at}
-use Rattle.std.proofs.{Math.Nat.pow-le-pow_right, lemmas.List.Elements.All-append, lemmas.List.Elements.All-nil}
+use Rattle.std.proofs.Math.Nat.{pow-le-pow_right}
+use Rattle.std.proofs.lemmas.List.Elements.{All-append, All-nil}
 use Rattle.std.specs.List.{AllByRecursion}
 use Rattle.tl_layout.specs.Laws.FieldLaws.{number_or_none_again, ok_value, point_again, reads, reads_on}
-use Rattle.tl_layout.specs.{Bytes.AreAllowed, Coordinates.IsOnMap, FieldReading.and_then, FieldReading.at_place, Numbers.IsNumberOrNone}
-use Rattle.tl_layout.specs.{Bytes.IsText, Bytes.is_allowed, FieldFaults.gap, Numbers.IsNumber}
-use Rattle.tl_layout.specs.{Bytes.columns, CoordinateField.IsCoordinateField, FieldMeaning.SpellsNumberPlace, FieldMeaning.SpellsPointPlace}
-use Rattle.tl_layout.specs.{Coordinates.Coordinates, FieldReading.places_reading, FieldTexts.number_place_text, FieldTexts.point_place_text}
-use Rattle.tl_layout.specs.{Coordinates.most_latitude, Coordinates.most_longitude, FieldMeaning.SpellsPlaces, FieldTexts.coordinate_text}
-use Rattle.tl_layout.specs.{FieldTexts.places_text, Laws.CoordinateLaws.coordinate_text_is_text, Laws.CoordinateLaws.coordinate_text_spells}
-use Rattle.tl_layout.specs.{Laws.NumberTextLaws.number_below, Laws.NumberTextLaws.number_text_is_text, declared.fault.FieldFault.FieldFault}
+use Rattle.tl_layout.specs.Bytes.{AreAllowed, IsText, columns, is_allowed}
+use Rattle.tl_layout.specs.Coordinates.{Coordinates, IsOnMap, most_latitude, most_longitude}
+use Rattle.tl_layout.specs.FieldReading.{and_then, at_place, places_reading}
+use Rattle.tl_layout.specs.Numbers.{IsNumber, IsNumberOrNone}
+use Rattle.tl_layout.specs.FieldFaults.{gap}
+use Rattle.tl_layout.specs.CoordinateField.{IsCoordinateField}
+use Rattle.tl_layout.specs.FieldMeaning.{SpellsNumberPlace, SpellsPlaces, SpellsPointPlace}
+use Rattle.tl_layout.specs.FieldTexts.{coordinate_text, number_place_text, places_text, point_place_text}
+use Rattle.tl_layout.specs.Laws.CoordinateLaws.{coordinate_text_is_text, coordinate_text_spells}
+use Rattle.tl_layout.specs.Laws.NumberTextLaws.{number_below, number_text_is_text}
+use Rattle.tl_layout.specs.declared.fault.FieldFault.{FieldFault}
 
 -- two texts side by side
 pub pair_of_texts : (m n : ℕ) (a b : List ℕ) → IsText m a → IsText n b → IsText (m + n) (a ++ b)

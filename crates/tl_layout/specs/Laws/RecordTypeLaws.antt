@@ -2,9 +2,9 @@
 use Rattle.std.proofs.Common.{Bool, None, Option, Some, ap, false, inl, inr, refl, subst, sym, true, ◌==◌, ◌∙◌, ◌≡◌, ◌⊎◌}
 use Rattle.std.proofs.lemmas.Bool.{eq-eqb}
 use Rattle.tl_layout.specs.RecordText.{FitsRecord, spelling_of, type_of}
-use Rattle.tl_layout.specs.RecordTypes.{FieldsOf, FitsFields, RecordType, Type1, Type2, Type4, Type5, Type6, Type7, Type8, TypeI, TypeP}
-use Rattle.tl_layout.specs.RecordTypes.{as_type, byte_of, fields_spelling, own_type, record_of}
-use Rattle.tl_layout.specs.{declared.record_type.Record.Record, declared.record_type.Record.TheVariants.One}
+use Rattle.tl_layout.specs.RecordTypes.{FieldsOf, FitsFields, RecordType, Type1, Type2, Type4, Type5, Type6, Type7, Type8, TypeI, TypeP, as_type, byte_of, fields_spelling, own_type, record_of}
+use Rattle.tl_layout.specs.declared.record_type.Record.{Record}
+use Rattle.tl_layout.specs.declared.record_type.Record.TheVariants.{One}
 
 -- a record is the record of its type with its fields
 pub typed : (r : Record) → (t : RecordType) × (fields : FieldsOf t) × (r ≡ record_of t fields)

@@ -1,16 +1,16 @@
 -- Reading a line by a column table fails exactly with the leftmost fault of the table.
 use Rattle.std.proofs.Common.{Err, List, Ok, Result, [], ap, inl, inr, refl, subst, sym, ℕ, ◌++◌, ◌+◌, ◌∙◌, ◌∷◌, ◌≡◌}
 use Rattle.std.specs.List.{AllByRecursion}
-use Rattle.tl_layout.specs.ColumnTable.{Filler, Kind, Number, NumberOrNone, NumberPlaces, Opaque, Pair, PairOrNone, PointPlaces, Row}
-use Rattle.tl_layout.specs.ColumnTable.{SpellsField, ValueOf}
-use Rattle.tl_layout.specs.Laws.ValueLaws.{fails, fails_first, nothing_spelled, number_or_none_reported, number_reported, one_reported}
-use Rattle.tl_layout.specs.Laws.ValueLaws.{point_or_none_reported, point_reported, value_found, value_only}
-use Rattle.tl_layout.specs.{Bytes.columns, FieldFaults.IsLeftmostFault, FieldReading.point_or_none_at, declared.fault.FieldFault.FieldFault}
-use Rattle.tl_layout.specs.{FieldFaults.IsBadField, FieldReading.number_at, FieldReading.point_at, TableReading.Makes}
-use Rattle.tl_layout.specs.{FieldFaults.IsValueFault, Laws.FieldLaws.reads_on, TableReading.rows_reading, TableReading.value_reading}
-use Rattle.tl_layout.specs.{FieldMeaning.SpellsNumberPlace, Laws.FieldLaws.number_or_none_at_found, Laws.PlaceFaultLaws.places_fault_found}
-use Rattle.tl_layout.specs.{FieldMeaning.SpellsPointPlace, Laws.FieldLaws.point_or_none_at_only, Laws.PlaceFaultLaws.places_fault_only}
-use Rattle.tl_layout.specs.{FieldReading.number_or_none_at, Laws.FieldLaws.number_or_none_at_only, Laws.FieldLaws.point_or_none_at_found}
+use Rattle.tl_layout.specs.ColumnTable.{Filler, Kind, Number, NumberOrNone, NumberPlaces, Opaque, Pair, PairOrNone, PointPlaces, Row, SpellsField, ValueOf}
+use Rattle.tl_layout.specs.Laws.ValueLaws.{fails, fails_first, nothing_spelled, number_or_none_reported, number_reported, one_reported, point_or_none_reported, point_reported, value_found, value_only}
+use Rattle.tl_layout.specs.Bytes.{columns}
+use Rattle.tl_layout.specs.FieldFaults.{IsBadField, IsLeftmostFault, IsValueFault}
+use Rattle.tl_layout.specs.FieldReading.{number_at, number_or_none_at, point_at, point_or_none_at}
+use Rattle.tl_layout.specs.declared.fault.FieldFault.{FieldFault}
+use Rattle.tl_layout.specs.TableReading.{Makes, rows_reading, value_reading}
+use Rattle.tl_layout.specs.Laws.FieldLaws.{number_or_none_at_found, number_or_none_at_only, point_or_none_at_found, point_or_none_at_only, reads_on}
+use Rattle.tl_layout.specs.FieldMeaning.{SpellsNumberPlace, SpellsPointPlace}
+use Rattle.tl_layout.specs.Laws.PlaceFaultLaws.{places_fault_found, places_fault_only}
 
 -- the faults of a number or none, and of a point or none, as separate fields or places
 number_or_none_fault_found : (line : List ℕ) (first last : ℕ) (fault : FieldFault) → number_or_none_at first last line ≡ Err fault

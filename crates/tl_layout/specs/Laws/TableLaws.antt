@@ -1,21 +1,23 @@
 -- The laws of a record type, derived from its column table.
-use Rattle.std.proofs.Common.{IfSome, IsTrue, List, Ok, Option, Some, [], ap, append_assoc, arith, codes, length, nat_eq, refl, subst, suc}
-use Rattle.std.proofs.Common.{sym, true, unwrap_or, ℕ, ◌&&◌, ◌++◌, ◌+◌, ◌-◌, ◌∙◌, ◌∷◌, ◌≡◌, ◌≤◌}
-use Rattle.std.proofs.{lemmas.Bool.and_parts, lemmas.Bool.eqb-true, lemmas.Bool.leb-true, lemmas.List.Elements.All-append}
-use Rattle.std.proofs.{lemmas.List.Elements.All-cons, lemmas.List.Elements.All-nil, lemmas.List.length-append}
+use Rattle.std.proofs.Common.{IfSome, IsTrue, List, Ok, Option, Some, [], ap, append_assoc, arith, codes, length, nat_eq, refl, subst, suc, sym, true, unwrap_or, ℕ, ◌&&◌, ◌++◌, ◌+◌, ◌-◌, ◌∙◌, ◌∷◌, ◌≡◌, ◌≤◌}
+use Rattle.std.proofs.lemmas.Bool.{and_parts, eqb-true, leb-true}
+use Rattle.std.proofs.lemmas.List.Elements.{All-append, All-cons, All-nil}
+use Rattle.std.proofs.lemmas.List.{length-append}
 use Rattle.tl_layout.specs.FieldTexts.{lat_text, long_text, number_place_text, point_place_text, rows_spelling, rows_texts, value_texts}
-use Rattle.tl_layout.specs.Laws.FieldLaws.{lat_text_is_text, long_text_is_text, number_again, number_fits, point_on_map, reads, reads_on}
-use Rattle.tl_layout.specs.Laws.FieldLaws.{number_or_none_again, number_or_none_fits, ok_value, point_or_none_again, point_or_none_on_map}
-use Rattle.tl_layout.specs.Laws.PlaceLaws.{columns_behind, number_place_again, number_place_fits, number_place_is_text, pair_of_texts}
-use Rattle.tl_layout.specs.Laws.PlaceLaws.{places_again, places_each, places_len, places_text_is_text, point_place_again}
-use Rattle.tl_layout.specs.Laws.PlaceLaws.{point_place_is_text, two_parts}
-use Rattle.tl_layout.specs.ColumnTable.{Filler, FitsRows, FitsValue, Kind, Number, NumberOrNone, NumberPlaces, Opaque, Pair, PairOrNone}
-use Rattle.tl_layout.specs.ColumnTable.{PointPlaces, Row, SpellsField, SpellsRows, SpellsValue, ValueOf, is_laid_out, is_suited, width_of}
-use Rattle.tl_layout.specs.{Bytes.AreAllowed, Bytes.IsLine, Bytes.IsText, Bytes.columns, Bytes.is_allowed, Numbers.IsNumber}
-use Rattle.tl_layout.specs.{Columns.joined, CoordinateReading.within, Coordinates.Coordinates, Coordinates.IsOnMap, Laws.ByteLaws.text_2006}
-use Rattle.tl_layout.specs.{FieldMeaning.SpellsNumberPlace, Laws.ColumnLaws.columns_of_text, Laws.NumberTextLaws.number_text_is_text}
-use Rattle.tl_layout.specs.{FieldMeaning.SpellsPointPlace, Laws.ByteLaws.blanks_are_text, Laws.ColumnLaws.joined-before, TableReading.Makes}
-use Rattle.tl_layout.specs.{Laws.ValueLaws.value_found, Laws.ValueLaws.value_only, TableReading.rows_reading, TableReading.value_reading}
+use Rattle.tl_layout.specs.Laws.FieldLaws.{lat_text_is_text, long_text_is_text, number_again, number_fits, number_or_none_again, number_or_none_fits, ok_value, point_on_map, point_or_none_again, point_or_none_on_map, reads, reads_on}
+use Rattle.tl_layout.specs.Laws.PlaceLaws.{columns_behind, number_place_again, number_place_fits, number_place_is_text, pair_of_texts, places_again, places_each, places_len, places_text_is_text, point_place_again, point_place_is_text, two_parts}
+use Rattle.tl_layout.specs.ColumnTable.{Filler, FitsRows, FitsValue, Kind, Number, NumberOrNone, NumberPlaces, Opaque, Pair, PairOrNone, PointPlaces, Row, SpellsField, SpellsRows, SpellsValue, ValueOf, is_laid_out, is_suited, width_of}
+use Rattle.tl_layout.specs.Bytes.{AreAllowed, IsLine, IsText, columns, is_allowed}
+use Rattle.tl_layout.specs.Numbers.{IsNumber}
+use Rattle.tl_layout.specs.Columns.{joined}
+use Rattle.tl_layout.specs.CoordinateReading.{within}
+use Rattle.tl_layout.specs.Coordinates.{Coordinates, IsOnMap}
+use Rattle.tl_layout.specs.Laws.ByteLaws.{blanks_are_text, text_2006}
+use Rattle.tl_layout.specs.FieldMeaning.{SpellsNumberPlace, SpellsPointPlace}
+use Rattle.tl_layout.specs.Laws.ColumnLaws.{columns_of_text, joined-before}
+use Rattle.tl_layout.specs.Laws.NumberTextLaws.{number_text_is_text}
+use Rattle.tl_layout.specs.TableReading.{Makes, rows_reading, value_reading}
+use Rattle.tl_layout.specs.Laws.ValueLaws.{value_found, value_only}
 
 -- ---- the values of a record
 

@@ -1,16 +1,26 @@
 -- The content of record type 1 and its columns determine each other.
-use Rattle.std.proofs.Common.{List, Ok, [], ap, append_assoc, arith, codes, drop, get_or, length, lit≤, pos, refl, subst, sym, take, ℕ}
-use Rattle.std.proofs.Common.{◌++◌, ◌+◌, ◌∙◌, ◌∷◌, ◌≡◌, ◌≤◌}
+use Rattle.std.proofs.Common.{List, Ok, [], ap, append_assoc, arith, codes, drop, get_or, length, lit≤, pos, refl, subst, sym, take, ℕ, ◌++◌, ◌+◌, ◌∙◌, ◌∷◌, ◌≡◌, ◌≤◌}
 use Rattle.std.proofs.lemmas.List.{length-append}
 use Rattle.tl_layout.specs.Laws.ColumnLaws.{columns_of_text, joined-before, part_of_text}
 use Rattle.tl_layout.specs.RecordTypes.{FitsFields, Type1, byte_of, fields_spelling, make_of, reading_of}
 use Rattle.tl_layout.specs.Type1Groups.{FitsBody1, body_1_at, body_1_texts, entities_at, point_texts}
-use Rattle.tl_layout.specs.{Bytes.IsText, Columns.joined, FieldReading.point_at, Fields.Fields1, Laws.FieldLaws.reads, Pieces.pieces_from}
-use Rattle.tl_layout.specs.{Bytes.columns, Coordinates.Coordinates, FieldTexts.number_text, Laws.FieldLaws.ok_value, Type1Columns.body_1_of}
-use Rattle.tl_layout.specs.{Coordinates.IsOnMap, Laws.CoordinateLaws.coordinate_text_is_text, declared.type1.fields.Body1Fields.Body1Fields}
-use Rattle.tl_layout.specs.{FieldReading.number_at, Laws.PieceLaws.pieces_join, Laws.PlaceLaws.columns_behind, Laws.PlaceLaws.pair_of_texts}
-use Rattle.tl_layout.specs.{Laws.NumberTextLaws.number_text_is_text, Laws.PieceLaws.pieces_of_part, Laws.Type1Laws.type_1_reading_is_short}
-use Rattle.tl_layout.specs.{Laws.Type1Laws.type_1_fits, Laws.TypeLaws.layout_laws, Type1.type_1_short_reading, Type1Columns.body_1_text}
+use Rattle.tl_layout.specs.Bytes.{IsText, columns}
+use Rattle.tl_layout.specs.Columns.{joined}
+use Rattle.tl_layout.specs.FieldReading.{number_at, point_at}
+use Rattle.tl_layout.specs.Fields.{Fields1}
+use Rattle.tl_layout.specs.Laws.FieldLaws.{ok_value, reads}
+use Rattle.tl_layout.specs.Pieces.{pieces_from}
+use Rattle.tl_layout.specs.Coordinates.{Coordinates, IsOnMap}
+use Rattle.tl_layout.specs.FieldTexts.{number_text}
+use Rattle.tl_layout.specs.Type1Columns.{body_1_of, body_1_text}
+use Rattle.tl_layout.specs.Laws.CoordinateLaws.{coordinate_text_is_text}
+use Rattle.tl_layout.specs.declared.type1.fields.Body1Fields.{Body1Fields}
+use Rattle.tl_layout.specs.Laws.PieceLaws.{pieces_join, pieces_of_part}
+use Rattle.tl_layout.specs.Laws.PlaceLaws.{columns_behind, pair_of_texts}
+use Rattle.tl_layout.specs.Laws.NumberTextLaws.{number_text_is_text}
+use Rattle.tl_layout.specs.Laws.Type1Laws.{type_1_fits, type_1_reading_is_short}
+use Rattle.tl_layout.specs.Laws.TypeLaws.{layout_laws}
+use Rattle.tl_layout.specs.Type1.{type_1_short_reading}
 
 -- the widths of the fields, from column 16 to column 190
 widths : List ℕ

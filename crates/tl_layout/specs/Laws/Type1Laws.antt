@@ -2,7 +2,11 @@
 use Rattle.std.proofs.Common.{List, refl, rules, ℕ, ◌≡◌}
 use Rattle.tl_layout.specs.RecordTypes.{FitsFields, Type1, reading_of}
 use Rattle.tl_layout.specs.Type1Groups.{FitsBody1, body_1_at, entities_at}
-use Rattle.tl_layout.specs.{Coordinates.IsOnMap, FieldReading.and_then, Fields.Fields1, Numbers.IsNumber, Type1.type_1_short_reading}
+use Rattle.tl_layout.specs.Coordinates.{IsOnMap}
+use Rattle.tl_layout.specs.FieldReading.{and_then}
+use Rattle.tl_layout.specs.Fields.{Fields1}
+use Rattle.tl_layout.specs.Numbers.{IsNumber}
+use Rattle.tl_layout.specs.Type1.{type_1_short_reading}
 
 pub type_1_reading_is_short : (line : List ℕ) → reading_of Type1 line ≡ type_1_short_reading line
 unfolding reading_of type_1_short_reading body_1_at entities_at and_then

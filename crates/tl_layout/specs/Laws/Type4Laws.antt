@@ -3,7 +3,10 @@ use Rattle.std.proofs.Common.{List, Ok, false, ℕ, ◌+◌, ◌≡◌}
 use Rattle.std.specs.List.{AllByRecursion}
 use Rattle.tl_layout.specs.FieldReading.{number_or_none_at, places_reading}
 use Rattle.tl_layout.specs.Laws.PlaceLaws.{number_place_fits, places_each}
-use Rattle.tl_layout.specs.{ColumnTable.NumberPlaces, FieldMeaning.SpellsNumberPlace, Laws.ValueLaws.value_found, Numbers.IsNumber}
+use Rattle.tl_layout.specs.ColumnTable.{NumberPlaces}
+use Rattle.tl_layout.specs.FieldMeaning.{SpellsNumberPlace}
+use Rattle.tl_layout.specs.Laws.ValueLaws.{value_found}
+use Rattle.tl_layout.specs.Numbers.{IsNumber}
 
 -- FEATs that are read are in range
 pub feats_in_range : (line : List ℕ) (feats : List ℕ)

@@ -1,10 +1,11 @@
 -- The laws of each record type, from its column table.
 use Rattle.std.specs.Prelude.{Err, List, Ok, refl, ℕ, ◌↔◌, ◌≡◌}
-use Rattle.tl_layout.specs.RecordTypes.{FieldsOf, FitsFields, RecordType, SpellsFields, Type1, byte_of, fields_spelling, line_length}
-use Rattle.tl_layout.specs.RecordTypes.{make_of, reading_of, table_of}
-use Rattle.tl_layout.specs.{Bytes.IsLine, FieldFaults.IsLeftmostFault, Laws.TableFaultLaws.leftmost_only, Laws.TableLaws.IsTable}
-use Rattle.tl_layout.specs.{Laws.TableFaultLaws.leftmost_found, Laws.TableLaws.table_spelled_is_read, Laws.TableLaws.table_spelling_is_line}
-use Rattle.tl_layout.specs.{Laws.TableLaws.table_reads_spelled, Laws.TableLaws.table_reads_spelling, declared.fault.FieldFault.FieldFault}
+use Rattle.tl_layout.specs.RecordTypes.{FieldsOf, FitsFields, RecordType, SpellsFields, Type1, byte_of, fields_spelling, line_length, make_of, reading_of, table_of}
+use Rattle.tl_layout.specs.Bytes.{IsLine}
+use Rattle.tl_layout.specs.FieldFaults.{IsLeftmostFault}
+use Rattle.tl_layout.specs.Laws.TableFaultLaws.{leftmost_found, leftmost_only}
+use Rattle.tl_layout.specs.Laws.TableLaws.{IsTable, table_reads_spelled, table_reads_spelling, table_spelled_is_read, table_spelling_is_line}
+use Rattle.tl_layout.specs.declared.fault.FieldFault.{FieldFault}
 
 -- what a record type promises, as `Layout` requires
 pub record AreLaws (t : RecordType) : Type 0 where

@@ -1,20 +1,20 @@
 -- For each kind of field: its columns are read as the value that they spell, and if they spell none, as the reported fault.
-use Rattle.std.proofs.Common.{Err, List, None, Ok, Option, Result, Some, ap, false, inl, inr, pos, refl, rules, subst, suc, sym, zero, ℕ}
-use Rattle.std.proofs.Common.{◌+◌, ◌∙◌, ◌≡◌, ◌⊎◌}
+use Rattle.std.proofs.Common.{Err, List, None, Ok, Option, Result, Some, ap, false, inl, inr, pos, refl, rules, subst, suc, sym, zero, ℕ, ◌+◌, ◌∙◌, ◌≡◌, ◌⊎◌}
 use Rattle.tl_layout.specs.Laws.CoordinateLaws.{blank_found, blank_only, coordinate_found, coordinate_only}
 use Rattle.tl_layout.specs.Coordinates.{Coordinates, most_latitude, most_longitude}
-use Rattle.tl_layout.specs.FieldReading.{and_then, demanded, number_at, number_or_none_at, coordinates_of, point_at, point_or_none_at}
-use Rattle.tl_layout.specs.FieldReading.{possible_number}
+use Rattle.tl_layout.specs.FieldReading.{and_then, coordinates_of, demanded, number_at, number_or_none_at, point_at, point_or_none_at, possible_number}
 use Rattle.tl_layout.specs.FieldMeaning.{SpellsNumberPlace, SpellsPointOrNone, SpellsPointPlace}
 use Rattle.tl_layout.specs.FieldFaults.{HasMalformedLatitude, HasMalformedLongitude, IsMalformed, IsReportedOfPair, bad_number, bad_point}
-use Rattle.tl_layout.specs.Laws.FieldLaws.{number_at_found, number_at_only, number_or_none_at_found, number_or_none_at_only, ok_value}
-use Rattle.tl_layout.specs.Laws.FieldLaws.{point_at_found, point_at_only, point_or_none_at_found, point_or_none_at_only}
+use Rattle.tl_layout.specs.Laws.FieldLaws.{number_at_found, number_at_only, number_or_none_at_found, number_or_none_at_only, ok_value, point_at_found, point_at_only, point_or_none_at_found, point_or_none_at_only}
 use Rattle.tl_layout.specs.Laws.PlaceLaws.{places_found, places_only}
-use Rattle.tl_layout.specs.ColumnTable.{Filler, Kind, Number, NumberOrNone, NumberPlaces, Opaque, Pair, PairOrNone, PointPlaces}
-use Rattle.tl_layout.specs.ColumnTable.{SpellsValue, ValueOf}
+use Rattle.tl_layout.specs.ColumnTable.{Filler, Kind, Number, NumberOrNone, NumberPlaces, Opaque, Pair, PairOrNone, PointPlaces, SpellsValue, ValueOf}
 use Rattle.tl_layout.specs.declared.coordinate.Coordinate.TheVariants.{Blank, Malformed, Value}
-use Rattle.tl_layout.specs.{Bytes.columns, CoordinateReading.coordinate_of, NumberReading.number_of, TableReading.value_reading}
-use Rattle.tl_layout.specs.{declared.coordinate.Coordinate.Coordinate, declared.fault.FieldFault.FieldFault}
+use Rattle.tl_layout.specs.Bytes.{columns}
+use Rattle.tl_layout.specs.CoordinateReading.{coordinate_of}
+use Rattle.tl_layout.specs.NumberReading.{number_of}
+use Rattle.tl_layout.specs.TableReading.{value_reading}
+use Rattle.tl_layout.specs.declared.coordinate.Coordinate.{Coordinate}
+use Rattle.tl_layout.specs.declared.fault.FieldFault.{FieldFault}
 
 -- ---- reading
 

@@ -1,7 +1,8 @@
 //! The content of a record of type 1, stored as its columns.
 
 ghost use Rattle.std.specs.Prelude.{length, take, ◌≡◌, ◌≤◌};
-ghost use Rattle.tl_layout.specs.{Bytes.AreAllowed, Bytes.IsText, Columns.joined};
+ghost use Rattle.tl_layout.specs.Bytes.{AreAllowed, IsText};
+ghost use Rattle.tl_layout.specs.Columns.{joined};
 
 use crate::field::text_at;
 use crate::writing::write_text;
@@ -21,7 +22,9 @@ pub struct Body1 {
 impl Model for Body1 {
     ghost use Rattle.std.proofs.Common.{ap};
     ghost use Rattle.tl_layout.specs.Type1Columns.{body_1_of, body_1_text};
-    ghost use Rattle.tl_layout.specs.{Bytes.IsText, Laws.Type1ColumnLaws.text_of_columns, declared.type1.fields.Body1Fields.Body1Fields};
+    ghost use Rattle.tl_layout.specs.Bytes.{IsText};
+    ghost use Rattle.tl_layout.specs.Laws.Type1ColumnLaws.{text_of_columns};
+    ghost use Rattle.tl_layout.specs.declared.type1.fields.Body1Fields.{Body1Fields};
 
     ghost Value = { Body1Fields };
 

@@ -2,7 +2,8 @@
 
 ghost use Rattle.std.specs.Prelude.{length, take, ◌≡◌, ◌≤◌};
 ghost use Rattle.tl_layout.specs.Type1Groups.{FitsBody1, FitsEntities, body_1_at, body_1_texts, entities_at, entities_texts};
-ghost use Rattle.tl_layout.specs.{Bytes.AreAllowed, Columns.joined};
+ghost use Rattle.tl_layout.specs.Bytes.{AreAllowed};
+ghost use Rattle.tl_layout.specs.Columns.{joined};
 
 use crate::field::text_at;
 use crate::writing::write_text;

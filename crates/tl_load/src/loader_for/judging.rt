@@ -2,9 +2,13 @@
 
 ghost use Rattle.std.specs.Prelude.{Err, IfErr, IfOk, IsTrue, Ok, OnOk, [], false, take, ◌+◌, ◌<◌, ◌∷◌, ◌≡◌};
 ghost use Rattle.tl_layout.specs.Bytes.{AreAllowed};
-ghost use Rattle.tl_load.specs.{Choice.as_record, Choice.judged, Keeping.IsSamePart, Keeping.Lifts, Keeping.total, LineOf.judged_as};
-ghost use Rattle.tl_load.specs.{Loaded.IsNotDevice, Steps.Adds, Steps.JudgesLine};
-ghost use Rattle.tl_load.specs.{declared.fault.LineFault.TheVariants.UnknownType, declared.fault.LoadFault.TheVariants.Memory};
+ghost use Rattle.tl_load.specs.Choice.{as_record, judged};
+ghost use Rattle.tl_load.specs.Keeping.{IsSamePart, Lifts, total};
+ghost use Rattle.tl_load.specs.LineOf.{judged_as};
+ghost use Rattle.tl_load.specs.Loaded.{IsNotDevice};
+ghost use Rattle.tl_load.specs.Steps.{Adds, JudgesLine};
+ghost use Rattle.tl_load.specs.declared.fault.LineFault.TheVariants.{UnknownType};
+ghost use Rattle.tl_load.specs.declared.fault.LoadFault.TheVariants.{Memory};
 
 use crate::judge::{is_full_line, judge_line};
 use crate::{Collector, LineFault, LoadFault, LoaderFor};

@@ -1,13 +1,12 @@
 -- The records of type 6 of two choices, from the first chain on whose ranges differ.
-use Rattle.tl_number.proofs.Common.{DirectedChain, List, Ranges, Record, Some, [], ap, chosen_county, directed_chain, drop}
-use Rattle.tl_number.proofs.Common.{groups_cmp, kept_entry, map, nat_list_cmp_total, numbered_from, option_map, ordering_then, packed_sixes}
-use Rattle.tl_number.proofs.Common.{refl, slice_get, slice_get-map, spelling_of, suc, sym, take, tied_itself, type_6_by_chain}
-use Rattle.tl_number.proofs.Common.{zero, ℕ, ◌+◌, ◌∙◌, ◌∷◌, ◌≡◌}
+use Rattle.tl_number.proofs.Common.{DirectedChain, List, Ranges, Record, Some, [], ap, chosen_county, directed_chain, drop, groups_cmp, kept_entry, map, nat_list_cmp_total, numbered_from, option_map, ordering_then, packed_sixes, refl, slice_get, slice_get-map, spelling_of, suc, sym, take, tied_itself, type_6_by_chain, zero, ℕ, ◌+◌, ◌∙◌, ◌∷◌, ◌≡◌}
 use Rattle.tl_number.proofs.Ties.OrderedCounty.{OrderedCounty, chains_at, chains_numbered, directed_in, new_in, read_in, stated}
 use Rattle.tl_number.specs.AlikeRanges.{ranges_towards}
 use Rattle.canonical_form.specs.Arrangement.{arranged}
-use Rattle.canonical_form.proofs.{Arrangements.PolygonNumbers.numbered_at, Views.ViewChains.read_there}
-use Rattle.county_chart.proofs.Common.{ranges_of, same_next}
+use Rattle.canonical_form.proofs.Arrangements.PolygonNumbers.{numbered_at}
+use Rattle.canonical_form.proofs.Views.ViewChains.{read_there}
+use Rattle.county_chart.specs.ChartWords.{ranges_of}
+use Rattle.ordered_lists.proofs.Lists.ByPlace.{same_next}
 use Rattle.tl_layout.specs.Fields.{Fields6}
 
 -- a group that both lists begin with decides nothing

@@ -1,11 +1,6 @@
 -- The lesser of two choices, choice by choice.
-use Rattle.tl_number.proofs.Common.{AllKeysContained, Bool, County, Equal, Four, Greater, IfSome, IsCounty, IsNotAfter, List, Some, [], all_append, all_weaker, slice_get, suc, take, zero, ◌++◌, ◌∷◌}
+use Rattle.tl_number.proofs.Common.{AllKeysContained, Bool, County, Equal, Four, Greater, IfSome, IsCounty, IsNotAfter, IsWithinLimits, Less, List, None, Option, Ordering, Some, Two, [], all_append, all_weaker, ap, arith, arrangement_within, choice_list, choices_cmp, choices_same, chosen_county, cond, decided, false, false≢true, groups_cmp, is_gt, is_le, lesser_choice, most_records, numbered_choice, numbered_is_choice, ones_cmp, ordering_then, polygon_keys, polygons_along, refl, slice_get, subst, suc, sym, take, texts_in_order, true, type_2_by_chain, type_4_by_chain, types_5_to_7_cmp, types_8_to_p_cmp, zero, ℕ, ◌++◌, ◌+◌, ◌∙◌, ◌∷◌, ◌≡◌}
 use Rattle.tl_number.specs.LeastOnes.{IsLeastAmong}
-use Rattle.tl_number.proofs.Common.{IsWithinLimits, Less, None, Option, Ordering, Two, ap, arith, arrangement_within, choice_list}
-use Rattle.tl_number.proofs.Common.{choices_cmp, choices_same, chosen_county, cond, decided, false, false≢true, groups_cmp, is_gt, is_le}
-use Rattle.tl_number.proofs.Common.{lesser_choice, ltb-false, ltb-true, most_records, nat_lt, numbered_choice, numbered_is_choice, ones_cmp}
-use Rattle.tl_number.proofs.Common.{ordering_then, polygon_keys, polygons_along, refl, subst, sym, texts_in_order, true, type_2_by_chain}
-use Rattle.tl_number.proofs.Common.{type_4_by_chain, types_5_to_7_cmp, types_8_to_p_cmp, ℕ, ◌+◌, ◌∙◌, ◌≡◌, ◌≤◌}
 use Rattle.tl_number.proofs.Choices.LeastNumbers.{lesser_of, not_after_both}
 use Rattle.canonical_form.proofs.Arrangements.ArrangedCounties.{arranged_county}
 

@@ -1,5 +1,11 @@
 -- The least of the values of numbers below a bound, number by number, and digit by digit.
-use Rattle.ordered_lists.proofs.Common.{AllByRecursion, Bool, Equal, Greater, IsTotalOrder, Less, List, Ordering, [], ap, append-nil, arith, cond, false, false≢true, is_eq, is_gt, length, length-append, lt-ltb, ltb-true, map, nat_cmp, ordering_reverse, refl, contains, subst, sym, tied_itself, times, true, upto, ℕ, ◌++◌, ◌+◌, ◌<◌, ◌∙◌, ◌∷◌, ◌≡◌, ◌≤◌, inl, inr}
+use Rattle.std.specs.List.{AllByRecursion}
+use Rattle.std.proofs.Common.{Bool, Equal, Greater, Less, List, Ordering, [], ap, append-nil, arith, below_more, cond, false, get_or, inl, inr, is_eq, is_gt, length, length-append, map, nat_cmp, refl, subst, sym, true, ℕ, ◌%◌, ◌*◌, ◌++◌, ◌+◌, ◌/◌, ◌<◌, ◌∙◌, ◌∷◌, ◌≡◌, ◌≤◌}
+use Rattle.std.specs.Cmp.{IsTotalOrder}
+use Rattle.std.proofs.lemmas.Bool.{false≢true, lt-ltb, ltb-true}
+use Rattle.std.specs.Ordering.{ordering_reverse}
+use Rattle.ordered_lists.specs.Orders.{contains, times}
+use Rattle.std.proofs.lemmas.Cmp.{tied_itself, upto}
 use Rattle.ordered_lists.proofs.ByKey.Keys.{Known, known-here, known-left, known-right, known_all, nat_keys}
 use Rattle.ordered_lists.proofs.Lists.Among.{Among, among_left, among_right}
 use Rattle.ordered_lists.proofs.Lists.Members.{among-map, among_known, known_is_among}
@@ -7,7 +13,6 @@ use Rattle.ordered_lists.proofs.Lists.Elements.{all_append, all_both, all_left, 
 use Rattle.ordered_lists.proofs.Lists.InOrder.{not_greater}
 use Rattle.std.proofs.lemmas.Nat.{div_below, mod_below, mul-add-lt}
 use Rattle.std.proofs.Math.Nat.{div-add-mod}
-use Rattle.std.proofs.Common.{below_more, get_or, ◌*◌, ◌/◌, ◌%◌}
 use Rattle.tl_number.specs.LeastOnes.{AreLeastBelow, combined}
 
 contained : (n : ℕ) (ns : List ℕ) → Known nat_cmp ns n → contains nat_cmp n ns ≡ true

@@ -1,9 +1,6 @@
 -- The least of the texts of numbered choices, number by number.
 use Rattle.tl_number.specs.LeastOnes.{IsLeastAmong}
-use Rattle.tl_number.proofs.Common.{[], get_or, length, take, ◌<◌, ◌∷◌}
-use Rattle.tl_number.proofs.Common.{Bool, County, IsNotAfter, List, Ordering, ap, arith, bytes_keys, choice_list, choices_cmp}
-use Rattle.tl_number.proofs.Common.{cond, false, is_gt, nat_cmp, not_after_itself, not_greater, refl, slice_cmp, sym, text_of}
-use Rattle.tl_number.proofs.Common.{true, upto, ℕ, ◌∙◌, ◌≡◌}
+use Rattle.tl_number.proofs.Common.{Bool, County, IsNotAfter, List, Ordering, [], ap, arith, bytes_keys, choice_list, choices_cmp, cond, false, get_or, is_gt, length, nat_cmp, not_after_itself, not_greater, refl, slice_cmp, sym, take, text_of, true, upto, ℕ, ◌<◌, ◌∙◌, ◌∷◌, ◌≡◌}
 
 module _ (county : County) where
   abbrev text_at : ℕ → List ℕ

@@ -1,6 +1,6 @@
 -- Records of type 1 by the digits of choices, and the least choice among those with the least records of type 1.
-use Rattle.std.specs.Prelude.{Bool, List, false, length, nat_lt, true, ℕ, ◌*◌, ◌++◌, ◌+◌, ◌<◌, ◌≡◌, ◌≤◌, drop, slice_get, suc, take, zero, ◌-◌}
-use Rattle.std.specs.{Ordering.is_gt}
+use Rattle.std.specs.Prelude.{Bool, List, drop, false, length, nat_lt, slice_get, suc, take, true, zero, ℕ, ◌*◌, ◌++◌, ◌+◌, ◌-◌, ◌<◌, ◌≡◌, ◌≤◌}
+use Rattle.std.specs.Ordering.{is_gt}
 use Rattle.std.proofs.Common.{Some, ap, arith, get_or, refl, sym, ◌∙◌}
 use Rattle.std.proofs.lemmas.Bool.{false≢true, ltb-false, ltb-true}
 use Rattle.std.proofs.lemmas.Option.{slice_get-get_or, slice_get_past}

@@ -1,9 +1,9 @@
 -- Moves at open places in two parts: the later places take the last digits of a number, and the earlier places the others.
-use Rattle.std.proofs.Common.{List, None, Some, [], ap, append_assoc, arith, drop, length, refl, slice_get, suc, sym, take, zero, ℕ, ◌%◌, ◌++◌, ◌+◌, ◌*◌, ◌/◌, ◌<◌, ◌∙◌, ◌∷◌, ◌≡◌, ◌≤◌, take-append-drop, length-take, length-drop, subst}
+use Rattle.std.proofs.Common.{List, None, Some, [], ap, append_assoc, arith, drop, length, length-drop, length-take, refl, slice_get, subst, suc, sym, take, take-append-drop, zero, ℕ, ◌%◌, ◌*◌, ◌++◌, ◌+◌, ◌/◌, ◌<◌, ◌∙◌, ◌∷◌, ◌≡◌, ◌≤◌}
 use Rattle.std.specs.List.{AllByRecursion}
 use Rattle.std.proofs.lemmas.Nat.{div_below, mod_below}
 use Rattle.std.proofs.Math.Nat.{div-add-mod}
-use Rattle.std.proofs.lemmas.List.{take-append-le, drop-append-le}
+use Rattle.std.proofs.lemmas.List.{drop-append-le, take-append-le}
 use Rattle.ordered_lists.proofs.Lists.Elements.{all_weaker}
 use Rattle.county_chart.specs.Choices.{ways_at}
 use Rattle.county_chart.specs.declared.open_place.OpenPlace.{OpenPlace}

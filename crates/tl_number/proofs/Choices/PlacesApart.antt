@@ -1,5 +1,5 @@
 -- Open places in two parts: one ends before the other begins.
-use Rattle.std.proofs.Common.{List, None, Some, [], arith, drop, false, ltb-false, nat_lt, slice_get, suc, take, zero, ℕ, ◌+◌, ◌∷◌, ◌≡◌, ◌≤◌, length, subst, sym}
+use Rattle.std.proofs.Common.{List, None, Some, [], arith, drop, false, length, ltb-false, nat_lt, slice_get, subst, suc, sym, take, zero, ℕ, ◌+◌, ◌∷◌, ◌≡◌, ◌≤◌}
 use Rattle.std.proofs.Math.Seq.{drop-length}
 use Rattle.std.specs.List.{AllByRecursion, list_any}
 use Rattle.std.proofs.lemmas.Bool.{or_parts}

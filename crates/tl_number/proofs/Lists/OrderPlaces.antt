@@ -1,10 +1,5 @@
 -- Lists in order: elements that tie keep the order of their numbers, and the place of an element is how many come before it.
-use Rattle.tl_number.proofs.Common.{AllByRecursion, IsPermutation, entries_equal, filter, from_permutation, ordering_reverse, ordering_then}
-use Rattle.tl_number.proofs.Common.{Equal, Greater, Known, arith, differ, false, in_order, inr, is_gt, is_lt, length, nat_cmp, subst, up_to}
-use Rattle.tl_number.proofs.Common.{IsInOrder, IsKeyOrder, Ordering, all_unmap, all_weaker, entry_keys, false≢true, known_all, less_from, ℕ}
-use Rattle.tl_number.proofs.Common.{IsPermutation-map, IsPermutation-sym, IsPermutation-trans, [], in_order-permutation, length_permutation}
-use Rattle.tl_number.proofs.Common.{Less, List, ap, cond, inl, is_eq, map, not, refl, suc, sym, true, ◌+◌, ◌∙◌, ◌∷◌, ◌≡◌, ◌⊎◌}
-use Rattle.tl_number.proofs.Common.{all-in_order, differ_apart, entry_values, known_cases, place_in, put_in_order, same-itself, tied_itself}
+use Rattle.tl_number.proofs.Common.{AllByRecursion, Equal, Greater, IsInOrder, IsKeyOrder, IsPermutation, IsPermutation-map, IsPermutation-sym, IsPermutation-trans, Known, Less, List, Ordering, [], all-in_order, all_unmap, all_weaker, ap, arith, cond, differ, differ_apart, entries_equal, entry_keys, entry_values, false, false≢true, filter, from_permutation, in_order, in_order-permutation, inl, inr, is_eq, is_gt, is_lt, known_all, known_cases, length, length_permutation, less_from, map, nat_cmp, not, ordering_reverse, ordering_then, place_in, put_in_order, refl, same-itself, subst, suc, sym, tied_itself, true, up_to, ℕ, ◌+◌, ◌∙◌, ◌∷◌, ◌≡◌, ◌⊎◌}
 use Rattle.arranged_county.proofs.Lists.Classes.{agree_in_order}
 use Rattle.std.specs.List.Sorted.{IsStrictlySortedBy}
 

@@ -1,9 +1,5 @@
 -- Names are ordered by their content first, so two arrangements of a county have the same names.
-use Rattle.tl_number.proofs.Common.{Arrangement, Arranges, Body5, County, IsCounty, [], all_uses, ap, arranged, carried_name}
-use Rattle.tl_number.proofs.Common.{feats_arranged, in_order-in_order, in_order-map, in_order-weaker, map, map-map, name_body_cmp}
-use Rattle.tl_number.proofs.Common.{name_body_keys, name_key, name_key_cmp, name_key_keys, names_arranged, names_in_order}
-use Rattle.tl_number.proofs.Common.{names_permutation, on, on_total, packed_five, placed, renaming_of, slice_cmp, then-first}
-use Rattle.tl_number.proofs.Common.{type_5_by_name, use_cmp, uses_of_name, ℕ, ◌∙◌, ◌∷◌, ◌≡◌}
+use Rattle.tl_number.proofs.Common.{Arrangement, Arranges, Body5, County, IsCounty, [], all_uses, ap, arranged, carried_name, feats_arranged, in_order-in_order, in_order-map, in_order-weaker, map, map-map, name_body_cmp, name_body_keys, name_key, name_key_cmp, name_key_keys, names_arranged, names_in_order, names_permutation, on, on_total, packed_five, placed, renaming_of, slice_cmp, then-first, type_5_by_name, use_cmp, uses_of_name, ℕ, ◌∙◌, ◌∷◌, ◌≡◌}
 use Rattle.tl_number.proofs.Lists.OrderPlaces.{IsByValue, same_made}
 
 module _ (county : County) (is : IsCounty county) where

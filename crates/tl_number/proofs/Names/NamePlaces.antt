@@ -1,15 +1,5 @@
 -- The FEATs of names in their new order are in order by content, rank and FEAT, so a name's place is how many come before it.
-use Rattle.tl_number.proofs.Common.{AllByRecursion, AreWhole, Arrangement, Body5, County, DirectedChain, IsCounty, IsInOrder, IsKeyOrder}
-use Rattle.tl_number.proofs.Common.{IsPermutation, IsPermutation-map, Known, Less, List, Ordering, Some, Use, [], all-in_order, all_both}
-use Rattle.tl_number.proofs.Common.{all_unmap, all_uses, all_weaker, ap, ap₂, arith, arrangement_of, arranges, by_uses, cond, differ}
-use Rattle.tl_number.proofs.Common.{differ_apart, entry_keys, exact_unsigned, false, feats, feats_along_arrangement, feats_in_order}
-use Rattle.tl_number.proofs.Common.{filter-agree, first_seen, greater, in_order-in_order, in_order-map, inl, inr, is_eq, is_lt}
-use Rattle.tl_number.proofs.Common.{known-permutation, length, length_permutation, less, name_body_cmp, name_body_keys, name_key}
-use Rattle.tl_number.proofs.Common.{name_key_cmp, name_key_keys, name_under, names_in_order, names_permutation, nat_cmp, nat_cmp_total}
-use Rattle.tl_number.proofs.Common.{nat_keys, on, on_total, one_cmp, option_cmp, options_total, ordering_then, place_in, placed, rank_of}
-use Rattle.tl_number.proofs.Common.{ranked_there, refl, same-itself, same_or_not, slice_cmp, slice_get, subst, suc, sym, then-equal}
-use Rattle.tl_number.proofs.Common.{then_assoc, then_total, tied_itself, times, times-permutation, unknown_at_end, unranked, use_cmp}
-use Rattle.tl_number.proofs.Common.{uses_of_name, value_under, zero, ℕ, ◌<◌, ◌∙◌, ◌∷◌, ◌≡◌, ◌≤◌, ◌⊎◌}
+use Rattle.tl_number.proofs.Common.{AllByRecursion, AreWhole, Arrangement, Body5, County, DirectedChain, IsCounty, IsInOrder, IsKeyOrder, IsPermutation, IsPermutation-map, Known, Less, List, Ordering, Some, Use, [], all-in_order, all_both, all_unmap, all_uses, all_weaker, ap, ap₂, arith, arrangement_of, arranges, by_uses, cond, differ, differ_apart, entry_keys, exact_unsigned, false, feats, feats_along_arrangement, feats_in_order, filter-agree, first_seen, greater, in_order-in_order, in_order-map, inl, inr, is_eq, is_lt, known-permutation, length, length_permutation, less, name_body_cmp, name_body_keys, name_key, name_key_cmp, name_key_keys, name_under, names_in_order, names_permutation, nat_cmp, nat_cmp_total, nat_keys, on, on_total, one_cmp, option_cmp, options_total, ordering_then, place_in, placed, rank_of, ranked_there, refl, same-itself, same_or_not, slice_cmp, slice_get, subst, suc, sym, then-equal, then_assoc, then_total, tied_itself, times, times-permutation, unknown_at_end, unranked, use_cmp, uses_of_name, value_under, zero, ℕ, ◌<◌, ◌∙◌, ◌∷◌, ◌≡◌, ◌≤◌, ◌⊎◌}
 use Rattle.tl_number.proofs.Lists.OrderPlaces.{by_number, in_order-among, numbered_order, place_counted}
 use Rattle.tl_number.proofs.Ties.Keys.{AreAlike, there_found}
 use Rattle.canonical_form.proofs.Numbering.FirstSeen.{known_within}

@@ -1,9 +1,5 @@
 -- All choices of a county have the same points, chain by chain, and so the same type 2 records.
-use Rattle.tl_number.proofs.Common.{AllKeysContained, AreSame, Chain, Coordinates, County, Fields2, IsArranged, IsCounty, IsTidy, List}
-use Rattle.tl_number.proofs.Common.{SameElements, ap, arranged, choices_same, entries_equal, entry_points, entry_shape, in_order-equal}
-use Rattle.tl_number.proofs.Common.{in_pieces, inner_points, is_arranged, length, length-map, map, map-map, numbered_choice, numbered_from}
-use Rattle.tl_number.proofs.Common.{numbered_is_choice, packed_twos, points_cmp, points_in_order, points_keys, polygon_keys, polygons_along}
-use Rattle.tl_number.proofs.Common.{shapes_carried, subst, sym, tidy_shapes, times-same, type_2_by_chain, up_to, ℕ, ◌∙◌, ◌≡◌}
+use Rattle.tl_number.proofs.Common.{AllKeysContained, AreSame, Chain, Coordinates, County, Fields2, IsArranged, IsCounty, IsTidy, List, SameElements, ap, arranged, choices_same, entries_equal, entry_points, entry_shape, in_order-equal, in_pieces, inner_points, is_arranged, length, length-map, map, map-map, numbered_choice, numbered_from, numbered_is_choice, packed_twos, points_cmp, points_in_order, points_keys, polygon_keys, polygons_along, shapes_carried, subst, sym, tidy_shapes, times-same, type_2_by_chain, up_to, ℕ, ◌∙◌, ◌≡◌}
 
 -- the type 2 records of a chain, from its TLID and its points
 abbrev twos : ℕ → List Coordinates → List Fields2

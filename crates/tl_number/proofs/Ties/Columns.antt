@@ -1,13 +1,6 @@
 -- Records of one type are in the order of their columns: the first column that differs decides.
-use Rattle.tl_number.proofs.Common.{AllByRecursion, joined-append, joined-before, length-append, number_order, number_text, ordering_then}
-use Rattle.tl_number.proofs.Common.{Coordinates, RecordType, cmp-append, layout_laws, lists_keys, reading_of, spelling_of, tied_itself, ◌<◌}
-use Rattle.tl_number.proofs.Common.{Equal, IsNumber, Option, Ordering, arith, byte_of, codes, joined, lat_text, length, nat_cmp, table_of}
-use Rattle.tl_number.proofs.Common.{FieldsOf, Result, long_text, nat_keys, pow-succ', record_of, slice_cmp, slice_get, then_same, unwrap_or}
-use Rattle.tl_number.proofs.Common.{IsNumberOrNone, lat_text_is_text, long_text_is_text, nat_list_cmp_total, point_place_text, spelling_cmp}
-use Rattle.tl_number.proofs.Common.{List, None, Ok, Some, Type1, [], ap, ap₂, map, refl, suc, sym, zero, ℕ, ◌++◌, ◌+◌, ◌^◌, ◌∙◌, ◌∷◌, ◌≡◌}
-use Rattle.tl_number.proofs.Common.{length-number_text, number_place_is_text, places_text_is_text, point_place_is_text, spelling_of_record}
-use Rattle.tl_layout.specs.ColumnTable.{Filler, FitsRows, FitsValue, Kind, Number, NumberOrNone, NumberPlaces, Opaque, Pair, PairOrNone}
-use Rattle.tl_layout.specs.ColumnTable.{PointPlaces, Row, ValueOf, width_of}
+use Rattle.tl_number.proofs.Common.{AllByRecursion, Coordinates, Equal, FieldsOf, IsNumber, IsNumberOrNone, List, None, Ok, Option, Ordering, RecordType, Result, Some, Type1, [], ap, ap₂, arith, byte_of, cmp-append, codes, joined, joined-append, joined-before, lat_text, lat_text_is_text, layout_laws, length, length-append, length-number_text, lists_keys, long_text, long_text_is_text, map, nat_cmp, nat_keys, nat_list_cmp_total, number_order, number_place_is_text, number_text, ordering_then, places_text_is_text, point_place_is_text, point_place_text, pow-succ', reading_of, record_of, refl, slice_cmp, slice_get, spelling_cmp, spelling_of, spelling_of_record, suc, sym, table_of, then_same, tied_itself, unwrap_or, zero, ℕ, ◌++◌, ◌+◌, ◌<◌, ◌^◌, ◌∙◌, ◌∷◌, ◌≡◌}
+use Rattle.tl_layout.specs.ColumnTable.{Filler, FitsRows, FitsValue, Kind, Number, NumberOrNone, NumberPlaces, Opaque, Pair, PairOrNone, PointPlaces, Row, ValueOf, width_of}
 use Rattle.tl_layout.specs.FieldTexts.{number_place_text, places_text, rows_texts, value_texts}
 use Rattle.tl_layout.specs.RecordText.{FitsRecord}
 use Rattle.tl_layout.specs.RecordTypes.{FitsFields, fields_spelling}

@@ -1,15 +1,5 @@
 -- A part of a county is a county, it's within the same limits, and all its polygons are on sides.
-use Rattle.tl_number.proofs.Common.{AllByRecursion, IsWithinLimits, by_type_within, contains-filter, grouped_selected, length-in_order, map}
-use Rattle.tl_number.proofs.Common.{AllContained, FitsLandmark, FitsNameBody, length-append, length-filter, packed_sevens, packed_within, ℕ}
-use Rattle.tl_number.proofs.Common.{AllKeysContained, IsStrictlySortedBy-filter, count_by-le-length, landmark_body_cmp, recursion_from_All}
-use Rattle.tl_number.proofs.Common.{Body5, Body7, BodyP, IfSome, IsText, IsTrue, Option, filter, key_cmp, length, lt-ltb, nat_cmp, packed}
-use Rattle.tl_number.proofs.Common.{Bool, IsKeyOrder, PolygonKey, all_filter, all_pieces, all_weaker, feats_along, packed_five, packed_twos}
-use Rattle.tl_number.proofs.Common.{Chain, List, ap, arith, cond, false, feats, on, subst, sym, times, true, ◌||◌, ◌∙◌, ◌∷◌, ◌≡◌, ◌≤◌}
-use Rattle.tl_number.proofs.Common.{County, Fields8, all_map, is_some, link_key, ltb-true, nat_keys, or_right, p_polyid, packed_i, packed_p}
-use Rattle.tl_number.proofs.Common.{FitsChain, chain_polygons, filter-mapped, filter_passes, option_to_list, packed_by_type, polygons_along}
-use Rattle.tl_number.proofs.Common.{FitsLink, FitsNumbers, FitsPolygon, IsAscending, packed_fours, packed_sixes, polygon_keys, strict-unmap}
-use Rattle.tl_number.proofs.Common.{HasAtMost, IsInOrder, all_known, by_type_of, cond_both, filter_map, length-map, packed_one, strict-map}
-use Rattle.tl_number.proofs.Common.{IsCounty, IsNumber, ListsFit, Ordering, [], all_both, contains, flat_map, key_keys, known_all, link_cmp}
+use Rattle.tl_number.proofs.Common.{AllByRecursion, AllContained, AllKeysContained, Body5, Body7, BodyP, Bool, Chain, County, Fields8, FitsChain, FitsLandmark, FitsLink, FitsNameBody, FitsNumbers, FitsPolygon, HasAtMost, IfSome, IsAscending, IsCounty, IsInOrder, IsKeyOrder, IsNumber, IsStrictlySortedBy-filter, IsText, IsTrue, IsWithinLimits, List, ListsFit, Option, Ordering, PolygonKey, [], all_both, all_filter, all_known, all_map, all_pieces, all_weaker, ap, arith, by_type_of, by_type_within, chain_polygons, cond, cond_both, contains, contains-filter, count_by-le-length, false, feats, feats_along, filter, filter-mapped, filter_map, filter_passes, flat_map, grouped_selected, is_some, key_cmp, key_keys, known_all, landmark_body_cmp, length, length-append, length-filter, length-in_order, length-map, link_cmp, link_key, lt-ltb, ltb-true, map, nat_cmp, nat_keys, on, option_to_list, or_right, p_polyid, packed, packed_by_type, packed_five, packed_fours, packed_i, packed_one, packed_p, packed_sevens, packed_sixes, packed_twos, packed_within, polygon_keys, polygons_along, recursion_from_All, strict-map, strict-unmap, subst, sym, times, true, ℕ, ◌||◌, ◌∙◌, ◌∷◌, ◌≡◌, ◌≤◌}
 use Rattle.ordered_lists.proofs.Lists.Elements.{all_joined, flat_map-map}
 use Rattle.std.specs.List.Sorted.{IsStrictlySortedBy}
 use Rattle.tl_number.specs.CountyParts.{part_of}

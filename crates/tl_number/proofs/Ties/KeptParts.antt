@@ -1,10 +1,6 @@
 -- Records made of parts of chains at kept places: in a county they have the number of the place, and in its small county that of the place
 -- among the kept ones.
-use Rattle.tl_number.proofs.Common.{AllByRecursion, AllPairs, AllPairs-filter, Bool, List, None, Option, Ordering, Some, [], all_append}
-use Rattle.tl_number.proofs.Common.{all_filter, all_map, all_weaker, ap, ap₂, arith, at_places, cons_option, filter, get_or-range_with_len}
-use Rattle.tl_number.proofs.Common.{get_or_from_slice_get, grouped, length, length-range_with_len, map, map-append, map-map, nat_cmp}
-use Rattle.tl_number.proofs.Common.{numbered_from, one_cmp, ordering_then, range_bounds, range_with_len, refl, same_Some, slice_cmp}
-use Rattle.tl_number.proofs.Common.{slice_get, slice_get_within, some_at, subst, suc, sym, zero, ℕ, ◌++◌, ◌+◌, ◌<◌, ◌∙◌, ◌∷◌, ◌≡◌, ◌≤◌}
+use Rattle.tl_number.proofs.Common.{AllByRecursion, AllPairs, AllPairs-filter, Bool, List, None, Option, Ordering, Some, [], all_append, all_filter, all_map, all_weaker, ap, ap₂, arith, at_places, cons_option, filter, get_or-range_with_len, get_or_from_slice_get, grouped, length, length-range_with_len, map, map-append, map-map, nat_cmp, numbered_from, one_cmp, ordering_then, range_bounds, range_with_len, refl, same_Some, slice_cmp, slice_get, slice_get_within, some_at, subst, suc, sym, zero, ℕ, ◌++◌, ◌+◌, ◌<◌, ◌∙◌, ◌∷◌, ◌≡◌, ◌≤◌}
 
 -- lists whose elements compare alike in pairs compare alike
 pub lists_alike : {V W X : Type 0} (cmp : X → X → Ordering) (f h : V → X) (g k : W → X) (P : V → Type 0) (Q : W → Type 0)

@@ -1,23 +1,12 @@
 -- Kinds of keys of chains, as nodes, polygons and names: their numbers in choices, and the order in which they first appear.
-use Rattle.tl_number.proofs.Common.{AllContained, DirectedChain, map-at_places, names_renamed, numbered_from, slice_get-map, to_first_seen}
-use Rattle.tl_number.proofs.Common.{Among, County, IsTrue, Known, arith, brings, false, feats, image, key_on, length, subst, times, turned}
-use Rattle.tl_number.proofs.Common.{Bool, List, Some, [], ap₂, map, refl, sym, ℕ, ◌++◌, ◌+◌, ◌∙◌, ◌≡◌}
-use Rattle.tl_number.proofs.Common.{Chain, Option, filter, grouped, is_kept, is_open, key_cmp, ltb-true, nat_cmp, or_left, place_in, placed}
-use Rattle.tl_number.proofs.Common.{IsKeyOrder, all_among, at_places, false≢true, first_seen, keys_along, length-map, none_past, renumbered}
-use Rattle.tl_number.proofs.Common.{Ordering, contains, flat_map, group_at, key_keys, nat_keys, other_way, slice_get, to_filter, unwrap_or}
-use Rattle.tl_number.proofs.Common.{PolygonKey, append-nil, chain_nodes, first_open, grouped_map, known-left, nodes_along, option_map, true}
-use Rattle.tl_number.proofs.Common.{Renumbering, among-get, among-pieces, among_known, chain_feats, flat_map-map, from_placed, keys_at_open}
-use Rattle.tl_number.proofs.Common.{among-unpieces, chain_polygons, directed_chain, map-map, option_to_list, polygons_along, range_with_len}
-use Rattle.tl_number.proofs.Common.{ap, feats_in_order, from_first_seen, image-numbered, known_is_among, nodes_to_placed, polygons_in_order}
-use Rattle.tl_number.proofs.Common.{chain_nodes-renumbered, chain_polygons-renumbered, group_of, polygons_from_placed, rights-numbered_from}
-use Rattle.tl_number.proofs.Common.{false_from_ne_true, image-under_cenid, known-permutation, lt-ltb, nodes_from_placed, polygons_to_placed}
+use Rattle.tl_number.proofs.Common.{AllContained, Among, Bool, Chain, County, DirectedChain, IsKeyOrder, IsTrue, Known, List, Option, Ordering, PolygonKey, Renumbering, Some, [], all_among, among-get, among-pieces, among-unpieces, among_known, ap, append-nil, ap₂, arith, at_places, brings, chain_feats, chain_nodes, chain_nodes-renumbered, chain_polygons, chain_polygons-renumbered, contains, directed_chain, false, false_from_ne_true, false≢true, feats, feats_in_order, filter, first_open, first_seen, flat_map, flat_map-map, from_first_seen, from_placed, group_at, group_of, grouped, grouped_map, image, image-numbered, image-under_cenid, is_kept, is_open, key_cmp, key_keys, key_on, keys_along, keys_at_open, known-left, known-permutation, known_is_among, length, length-map, lt-ltb, ltb-true, map, map-at_places, map-map, names_renamed, nat_cmp, nat_keys, nodes_along, nodes_from_placed, nodes_to_placed, none_past, numbered_from, option_map, option_to_list, or_left, other_way, place_in, placed, polygons_along, polygons_from_placed, polygons_in_order, polygons_to_placed, range_with_len, refl, renumbered, rights-numbered_from, slice_get, slice_get-map, subst, sym, times, to_filter, to_first_seen, true, turned, unwrap_or, ℕ, ◌++◌, ◌+◌, ◌∙◌, ◌≡◌}
 use Rattle.tl_number.proofs.Ties.Keys.{AreAlike, alike_itself, fixed_before, groups_at, groups_listed, swapped_alike, turned_alike}
-use Rattle.tl_number.proofs.Ties.OrderedCounty.{IsKeptPart, OrderedCounty, arranges_in, cenid_kept, chains_at, count_in, directed_in}
-use Rattle.tl_number.proofs.Ties.OrderedCounty.{fixed_there, length_at, new_in, order_in, places_in, read_in, whole_in}
-use Rattle.tl_number.proofs.Ties.Ranks.{AreReordered, IsBrought, in_filtered, in_range, masked_by, next_cmp, places_alike, reordered_all}
-use Rattle.tl_number.proofs.Ties.Ranks.{reordered_back, reordered_then, same_place, same_wanted, to_filtered}
+use Rattle.tl_number.proofs.Ties.OrderedCounty.{IsKeptPart, OrderedCounty, arranges_in, cenid_kept, chains_at, count_in, directed_in, fixed_there, length_at, new_in, order_in, places_in, read_in, whole_in}
+use Rattle.tl_number.proofs.Ties.Ranks.{AreReordered, IsBrought, in_filtered, in_range, masked_by, next_cmp, places_alike, reordered_all, reordered_back, reordered_then, same_place, same_wanted, to_filtered}
 use Rattle.tl_number.proofs.Ties.WantedMoves.{AreMet, all_kept, all_moved, first_met, kept_keys, kept_there, wanted_met}
-use Rattle.tl_number.proofs.{Names.NamePlaces.feats_permuted, Ties.ListsAlike.among_filtered, Ties.Places.covered_among}
+use Rattle.tl_number.proofs.Names.NamePlaces.{feats_permuted}
+use Rattle.tl_number.proofs.Ties.ListsAlike.{among_filtered}
+use Rattle.tl_number.proofs.Ties.Places.{covered_among}
 use Rattle.arranged_county.proofs.Views.ViewTables.{keys_paired, nodes_paired}
 use Rattle.canonical_form.proofs.Sameness.CarriedCounty.{feats-turned}
 

@@ -1,12 +1,5 @@
 -- Keys along chains: which are seen first, their places, their groups, and the first fixed places of each.
-use Rattle.tl_number.proofs.Common.{Bool, DirectedChain, append_assoc, directed_chain, grouped_map, known-append, pieces_next, times-append}
-use Rattle.tl_number.proofs.Common.{Chain, Known, List, None, Some, [], arith, false, filter, is_eq, refl, subst, times, true, turned, zero}
-use Rattle.tl_number.proofs.Common.{County, IsApart, Option, Ordering, brings, chain_at, contains, group_at, grouped, length, ltb-true, ◌+◌}
-use Rattle.tl_number.proofs.Common.{IsKeyOrder, OpenPlace, apart_tail, fixed_keys, known-left, newly_seen, slice_get, times-yes, unwrap_or}
-use Rattle.tl_number.proofs.Common.{among-get, among_any, at_places, flat_map, is_open, ltb-false, other_way, place_in, times-no, turned_if}
-use Rattle.tl_number.proofs.Common.{among_known, append-nil, cons_option, fill_by_all, known-right, option_map, same-itself, same_or_not, ℕ}
-use Rattle.tl_number.proofs.Common.{ap, ap₂, cond, inl, inr, map, min, not, suc, sym, ◌&&◌, ◌++◌, ◌-◌, ◌<◌, ◌∙◌, ◌∷◌, ◌≡◌, ◌≤◌, ◌⊎◌}
-use Rattle.tl_number.proofs.Common.{contains_alike, first_seen_after, known_is_among, option_to_list, range_with_len, unwrap_or-slice_get}
+use Rattle.tl_number.proofs.Common.{Bool, Chain, County, DirectedChain, IsApart, IsKeyOrder, Known, List, None, OpenPlace, Option, Ordering, Some, [], among-get, among_any, among_known, ap, apart_tail, append-nil, append_assoc, ap₂, arith, at_places, brings, chain_at, cond, cons_option, contains, contains_alike, directed_chain, false, fill_by_all, filter, first_seen_after, fixed_keys, flat_map, group_at, grouped, grouped_map, inl, inr, is_eq, is_open, known-append, known-left, known-right, known_is_among, length, ltb-false, ltb-true, map, min, newly_seen, not, option_map, option_to_list, other_way, pieces_next, place_in, range_with_len, refl, same-itself, same_or_not, slice_get, subst, suc, sym, times, times-append, times-no, times-yes, true, turned, turned_if, unwrap_or, unwrap_or-slice_get, zero, ℕ, ◌&&◌, ◌++◌, ◌+◌, ◌-◌, ◌<◌, ◌∙◌, ◌∷◌, ◌≡◌, ◌≤◌, ◌⊎◌}
 use Rattle.canonical_form.proofs.Numbering.SeenKeys.{found_key}
 
 -- two lists have the same members

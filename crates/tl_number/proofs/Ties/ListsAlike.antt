@@ -1,8 +1,5 @@
 -- Lists put in order by orders that compare their elements alike, and lists filtered by tests.
-use Rattle.tl_number.proofs.Common.{Among, Bool, IsKeyOrder, List, Ordering, Some, [], all_among, all_filter, all_themselves, ap, ap₂, cond}
-use Rattle.tl_number.proofs.Common.{cond-false, cond_both, differ, false, false≢true, filter, filter-agree, filter-filtered, from_in_order}
-use Rattle.tl_number.proofs.Common.{in_order, inl, inr, is_eq, is_gt, map, on, put_in_order, refl, sym, true, value_under, ◌&&◌, ◌∙◌, ◌∷◌}
-use Rattle.tl_number.proofs.Common.{◌≡◌}
+use Rattle.tl_number.proofs.Common.{Among, Bool, IsKeyOrder, List, Ordering, Some, [], all_among, all_filter, all_themselves, ap, ap₂, cond, cond-false, cond_both, differ, false, false≢true, filter, filter-agree, filter-filtered, from_in_order, in_order, inl, inr, is_eq, is_gt, map, on, put_in_order, refl, sym, true, value_under, ◌&&◌, ◌∙◌, ◌∷◌, ◌≡◌}
 use Rattle.tl_number.proofs.Ties.CountyParts.{all_pass}
 
 -- an element is put before the same one by orders that compare it alike

@@ -1,13 +1,5 @@
 -- A county with an order of its shapes, and its choices.
-use Rattle.tl_number.proofs.Common.{AgreeApart, AgreeButOpen, AllKeysContained, Among, AreSame, AreWhole, AreWithin, Arrangement, Arranges}
-use Rattle.tl_number.proofs.Common.{Bool, Chain, County, DirectedChain, Fields8, IsCounty, IsTrue, IsWithinLimits, Known, LeavesChoices}
-use Rattle.tl_number.proofs.Common.{List, None, Option, OrderOfShapes, PolygonKey, Renumbering, Some, agree_both, all_among, ap, arranged}
-use Rattle.tl_number.proofs.Common.{arrangement_carries, arrangement_of, arrangement_of_number, arrangement_of_number_once}
-use Rattle.tl_number.proofs.Common.{arrangement_of_number_there, arranges, at_places, bodies_read, chains, chains_arranged, choices_same}
-use Rattle.tl_number.proofs.Common.{contains, directed_chain, false, few_chains, filter, image, image-keeps, is_open, kept_entry, key_cmp}
-use Rattle.tl_number.proofs.Common.{key_keys, known_all, length, link_key, ltb-true, map, most_records, numbered_arrangement}
-use Rattle.tl_number.proofs.Common.{numbered_choice, numbered_from, option_map, polygon_keys, polygons_along, range_with_len, read_length}
-use Rattle.tl_number.proofs.Common.{refl, renaming_of, slice_get, slice_get-map, subst, sym, times, whole_arrangement, ℕ, ◌∙◌, ◌≡◌}
+use Rattle.tl_number.proofs.Common.{AgreeApart, AgreeButOpen, AllKeysContained, Among, AreSame, AreWhole, AreWithin, Arrangement, Arranges, Bool, Chain, County, DirectedChain, Fields8, IsCounty, IsTrue, IsWithinLimits, Known, LeavesChoices, List, None, Option, OrderOfShapes, PolygonKey, Renumbering, Some, agree_both, all_among, ap, arranged, arrangement_carries, arrangement_of, arrangement_of_number, arrangement_of_number_once, arrangement_of_number_there, arranges, at_places, bodies_read, chains, chains_arranged, choices_same, contains, directed_chain, false, few_chains, filter, image, image-keeps, is_open, kept_entry, key_cmp, key_keys, known_all, length, link_key, ltb-true, map, most_records, numbered_arrangement, numbered_choice, numbered_from, option_map, polygon_keys, polygons_along, range_with_len, read_length, refl, renaming_of, slice_get, slice_get-map, subst, sym, times, whole_arrangement, ℕ, ◌∙◌, ◌≡◌}
 use Rattle.tl_number.proofs.Ties.Places.{closed_apart}
 use Rattle.canonical_form.proofs.Choices.ChosenArrangements.{arrangement_of_number_apart, arrangement_of_number_count, places_in_order}
 

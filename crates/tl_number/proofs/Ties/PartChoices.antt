@@ -1,15 +1,5 @@
 -- The choices of a part of a list, and of a county that has some of another county's chains.
-use Rattle.tl_number.proofs.Common.{AllByRecursion, filter-agree_all, filter-filtered, numbered_choice, shapes_ascending, turned_directed}
-use Rattle.tl_number.proofs.Common.{Bool, Chain, List, Some, arith, cond, map, on, refl, subst, suc, take, true, upto, zero, ◌/◌, ◌==◌, ◌≤◌}
-use Rattle.tl_number.proofs.Common.{County, [], choices, chosen, false, filter, insert, is_eq, is_gt, is_open, length, shapes, stood, times}
-use Rattle.tl_number.proofs.Common.{IsCounty, OpenPlace, Ordering, all_take, eqb-true, flat_map, in_order, not-true, on_total, take-take, ⊤}
-use Rattle.tl_number.proofs.Common.{IsInOrder, all_everywhere, directed_shape, filter-mapped, in_order-unmap, map_agree_all, order_antisymm}
-use Rattle.tl_number.proofs.Common.{IsKeyOrder, all_filter, all_weaker, cases_Bool, cond-false, entries_of, is_settled, points_cmp, running}
-use Rattle.tl_number.proofs.Common.{IsPermutation-map, choices_of_shapes, from_permutation, in_order-in_order, in_order-is_permutation, ◌⊎◌}
-use Rattle.tl_number.proofs.Common.{IsTotalOrder, comes_turned, differ_apart, in_order-map, is_either_way, open_place_at, order_itself, ◌%◌}
-use Rattle.tl_number.proofs.Common.{and_parts, ascending, cond-true, cond_both, count-map, same-true, slice_get, times-yes, turned_by, ◌&&◌}
-use Rattle.tl_number.proofs.Common.{ap, inl, inr, not, sym, ℕ, ◌*◌, ◌+◌, ◌<◌, ◌∙◌, ◌∷◌, ◌≡◌}
-use Rattle.tl_number.proofs.Common.{entry_shape, false≢true, open_places, points_keys, put_in_order, running-same, same_or_not, stated_here}
+use Rattle.tl_number.proofs.Common.{AllByRecursion, Bool, Chain, County, IsCounty, IsInOrder, IsKeyOrder, IsPermutation-map, IsTotalOrder, List, OpenPlace, Ordering, Some, [], all_everywhere, all_filter, all_take, all_weaker, and_parts, ap, arith, ascending, cases_Bool, choices, choices_of_shapes, chosen, comes_turned, cond, cond-false, cond-true, cond_both, count-map, differ_apart, directed_shape, entries_of, entry_shape, eqb-true, false, false≢true, filter, filter-agree_all, filter-filtered, filter-mapped, flat_map, from_permutation, in_order, in_order-in_order, in_order-is_permutation, in_order-map, in_order-unmap, inl, inr, insert, is_either_way, is_eq, is_gt, is_open, is_settled, length, map, map_agree_all, not, not-true, numbered_choice, on, on_total, open_place_at, open_places, order_antisymm, order_itself, points_cmp, points_keys, put_in_order, refl, running, running-same, same-true, same_or_not, shapes, shapes_ascending, slice_get, stated_here, stood, subst, suc, sym, take, take-take, times, times-yes, true, turned_by, turned_directed, upto, zero, ℕ, ⊤, ◌%◌, ◌&&◌, ◌*◌, ◌+◌, ◌/◌, ◌<◌, ◌==◌, ◌∙◌, ◌∷◌, ◌≡◌, ◌≤◌, ◌⊎◌}
 use Rattle.tl_number.proofs.Ties.CountyParts.{all_pass}
 use Rattle.tl_number.proofs.Ties.Places.{AreMarked, covered_open, later_open}
 

@@ -1,13 +1,5 @@
 -- The tables of a part of a county hold its keys, and the places of its entries in the county.
-use Rattle.tl_number.proofs.Common.{AreReadAt, Body7, Bool, Chain, County, DirectedChain, HoldsPart, IfSome, IsKeyOrder, IsPicked, List}
-use Rattle.tl_number.proofs.Common.{Option, Ordering, PartTables, PolygonKey, Some, [], ap, append-nil, ap₂, arith, at_places, bodies_at}
-use Rattle.tl_number.proofs.Common.{chain_feats, chain_nodes, chain_polygons, cond, contains, contains_alike, distinct, distinct-in_order}
-use Rattle.tl_number.proofs.Common.{distinct_same, entry_keys, entry_values, false, feats, feats_along, filter, first_seen, flat_map}
-use Rattle.tl_number.proofs.Common.{from_first_seen, get_or, grouped, in_order-strict, key_cmp, key_keys, keys_along, lands, length}
-use Rattle.tl_number.proofs.Common.{length-map, links_at, links_with, list_any, map, map-map, nat_cmp, nat_keys, nodes_along, option_map}
-use Rattle.tl_number.proofs.Common.{option_to_list, part_with, places_among, polygon_keys, polygons_along, range_with_len, refl, slice_get}
-use Rattle.tl_number.proofs.Common.{slice_get-map, slice_get_past, slice_get_within, subst, suc, sym, tlids, to_first_seen, true, turned_if}
-use Rattle.tl_number.proofs.Common.{unwrap_or, zero, ℕ, ◌++◌, ◌<◌, ◌||◌, ◌∙◌, ◌∷◌, ◌≡◌}
+use Rattle.tl_number.proofs.Common.{AreReadAt, Body7, Bool, Chain, County, DirectedChain, HoldsPart, IfSome, IsKeyOrder, IsPicked, List, Option, Ordering, PartTables, PolygonKey, Some, [], ap, append-nil, ap₂, arith, at_places, bodies_at, chain_feats, chain_nodes, chain_polygons, cond, contains, contains_alike, distinct, distinct-in_order, distinct_same, entry_keys, entry_values, false, feats, feats_along, filter, first_seen, flat_map, from_first_seen, get_or, grouped, in_order-strict, key_cmp, key_keys, keys_along, lands, length, length-map, links_at, links_with, list_any, map, map-map, nat_cmp, nat_keys, nodes_along, option_map, option_to_list, part_with, places_among, polygon_keys, polygons_along, range_with_len, refl, slice_get, slice_get-map, slice_get_past, slice_get_within, subst, suc, sym, tlids, to_first_seen, true, turned_if, unwrap_or, zero, ℕ, ◌++◌, ◌<◌, ◌||◌, ◌∙◌, ◌∷◌, ◌≡◌}
 use Rattle.tl_number.proofs.Ties.Places.{marked_read}
 use Rattle.tl_number.specs.CountyParts.{part_of}
 use Rattle.arranged_county.proofs.Names.NameOrder.{filter_map_all}

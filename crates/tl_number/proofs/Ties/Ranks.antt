@@ -1,15 +1,6 @@
 -- Lists of keys that differ in wanted keys alone: the places of all other keys, and how wanted keys compare.
-use Rattle.tl_number.proofs.Common.{AllByRecursion, Among, Bool, Equal, Greater, IsApart, IsKeyOrder, Known, Less, List, None, Option}
-use Rattle.tl_number.proofs.Common.{Ordering, Some, [], all_among, all_everywhere, all_filter, all_known, among-get, among-pieces}
-use Rattle.tl_number.proofs.Common.{among_known, ap, apart-permutation_of, append-nil, ap₂, arith, cases_Bool, cond, contains, differ}
-use Rattle.tl_number.proofs.Common.{false, filter, filter-append, filter_all, first_seen, first_seen_after, flat_map, from_permutation}
-use Rattle.tl_number.proofs.Common.{get_or-range_with_len, inl, inr, is_eq, known-here, known-later, known_is_among, length}
-use Rattle.tl_number.proofs.Common.{length-range_with_len, lt-ltb, ltb-true, map, map-append, nat_cmp, nat_cmp_is, nat_lt, nat_tests}
-use Rattle.tl_number.proofs.Common.{newly_seen, not, one_cmp, ordering_then, pieces_next, place_in, range_with_len, refl, same_Some}
-use Rattle.tl_number.proofs.Common.{seen_append, slice_cmp, slice_get, slice_get-get_or, slice_get_within, subst, suc, sym, times}
-use Rattle.tl_number.proofs.Common.{times-filter, to_first_seen, true, zero, ℕ, ◌++◌, ◌+◌, ◌<◌, ◌||◌, ◌∙◌, ◌∷◌, ◌≡◌, ◌⊎◌}
-use Rattle.tl_number.proofs.Ties.Keys.{AreAlike, alike_append, alike_itself, flat_map_filter, found_there, newly_alike, newly_apart}
-use Rattle.tl_number.proofs.Ties.Keys.{newly_both, newly_known, newly_unseen, place_later, seen_newly, there_found}
+use Rattle.tl_number.proofs.Common.{AllByRecursion, Among, Bool, Equal, Greater, IsApart, IsKeyOrder, Known, Less, List, None, Option, Ordering, Some, [], all_among, all_everywhere, all_filter, all_known, among-get, among-pieces, among_known, ap, apart-permutation_of, append-nil, ap₂, arith, cases_Bool, cond, contains, differ, false, filter, filter-append, filter_all, first_seen, first_seen_after, flat_map, from_permutation, get_or-range_with_len, inl, inr, is_eq, known-here, known-later, known_is_among, length, length-range_with_len, lt-ltb, ltb-true, map, map-append, nat_cmp, nat_cmp_is, nat_lt, nat_tests, newly_seen, not, one_cmp, ordering_then, pieces_next, place_in, range_with_len, refl, same_Some, seen_append, slice_cmp, slice_get, slice_get-get_or, slice_get_within, subst, suc, sym, times, times-filter, to_first_seen, true, zero, ℕ, ◌++◌, ◌+◌, ◌<◌, ◌||◌, ◌∙◌, ◌∷◌, ◌≡◌, ◌⊎◌}
+use Rattle.tl_number.proofs.Ties.Keys.{AreAlike, alike_append, alike_itself, flat_map_filter, found_there, newly_alike, newly_apart, newly_both, newly_known, newly_unseen, place_later, seen_newly, there_found}
 use Rattle.tl_number.proofs.Ties.ListsAlike.{among_filtered}
 
 -- the keys with nothing instead of each wanted one

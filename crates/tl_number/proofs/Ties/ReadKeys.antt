@@ -1,6 +1,5 @@
 -- The keys of a chain are those that are read at its ends and on its sides.
-use Rattle.tl_number.proofs.Common.{Chain, None, Option, Some, append-nil, ap₂, chain_nodes, chain_polygons, flat_map, key_on}
-use Rattle.tl_number.proofs.Common.{option_flatten, option_map, option_to_list, refl, sym, ◌++◌, ◌∙◌, ◌≡◌}
+use Rattle.tl_number.proofs.Common.{Chain, None, Option, Some, append-nil, ap₂, chain_nodes, chain_polygons, flat_map, key_on, option_flatten, option_map, option_to_list, refl, sym, ◌++◌, ◌∙◌, ◌≡◌}
 
 pub nodes_read : (o : Option Chain) → option_to_list (option_flatten (option_map (λ chain. chain.start_node) o))
     ++ option_to_list (option_flatten (option_map (λ chain. chain.end_node) o)) ≡ flat_map chain_nodes (option_to_list o)

@@ -1,17 +1,9 @@
 -- Finding the open keys and the kept chains, step by step.
-use Rattle.tl_number.proofs.Common.{Bool, List, [], ap, ap₂, cond, map, not, refl, sym, ◌++◌, ◌+◌, ◌<◌, ◌∙◌, ◌∷◌, ◌≡◌}
-use Rattle.tl_number.proofs.Common.{Chain, County, Option, Some, arith, brings, drop, false, lt-ltb, nat_lt, subst, times, true, ◌&&◌, ◌||◌}
-use Rattle.tl_number.proofs.Common.{Fields8, IsCounty, Ordering, get_or, group_at, grouped, is_open, key_cmp, links_at, ltb-true, map-id}
-use Rattle.tl_number.proofs.Common.{IsKeyOrder, PolygonKey, append-nil, first_seen, fixed_keys, has_new, keys_along, met_before, open_among}
-use Rattle.tl_number.proofs.Common.{IsPermutation, OrderOfShapes, append_assoc, filter-append, map-at_places, range_with_len, to_first_seen}
-use Rattle.tl_number.proofs.Common.{IsPermutation-map, IsPermutation-refl, filter, first_seen_after, times-permutation, unwrap_or-slice_get}
-use Rattle.tl_number.proofs.Common.{IsSearchAt, among_any, is_linked, link_keys, map-append, newly_seen, open_keys, slice_get, unwrap_or, ℕ}
-use Rattle.tl_number.proofs.Common.{OpenPlace, any_among, at_places, contains, drop_more, flat_map, key_keys, link_key, list_any, permuted}
-use Rattle.tl_number.proofs.Common.{among_known, cons_option, false≢true, first_open, keys_at_open, seen_append, times-append, times-filter}
-use Rattle.tl_number.proofs.Common.{chain_polygons, contains_alike, directed_chain, from_first_seen, known_is_among, length, option_to_list}
+use Rattle.tl_number.proofs.Common.{Bool, Chain, County, Fields8, IsCounty, IsKeyOrder, IsPermutation, IsPermutation-map, IsPermutation-refl, IsSearchAt, List, OpenPlace, Option, OrderOfShapes, Ordering, PolygonKey, Some, [], among_any, among_known, any_among, ap, append-nil, append_assoc, ap₂, arith, at_places, brings, chain_polygons, cond, cons_option, contains, contains_alike, directed_chain, drop, drop_more, false, false≢true, filter, filter-append, first_open, first_seen, first_seen_after, fixed_keys, flat_map, from_first_seen, get_or, group_at, grouped, has_new, is_linked, is_open, key_cmp, key_keys, keys_along, keys_at_open, known_is_among, length, link_key, link_keys, links_at, list_any, lt-ltb, ltb-true, map, map-append, map-at_places, map-id, met_before, nat_lt, newly_seen, not, open_among, open_keys, option_to_list, permuted, range_with_len, refl, seen_append, slice_get, subst, sym, times, times-append, times-filter, times-permutation, to_first_seen, true, unwrap_or, unwrap_or-slice_get, ℕ, ◌&&◌, ◌++◌, ◌+◌, ◌<◌, ◌||◌, ◌∙◌, ◌∷◌, ◌≡◌}
 use Rattle.tl_number.proofs.Ties.Keys.{fixed_more, groups_at, newly_append, seen_newly}
 use Rattle.tl_number.proofs.Ties.PartTables.{seen_known}
-use Rattle.std.proofs.{lemmas.List.Elements.filter_map-append, lemmas.List.FromFn.filter_of_map_range_with_len_more}
+use Rattle.std.proofs.lemmas.List.Elements.{filter_map-append}
+use Rattle.std.proofs.lemmas.List.FromFn.{filter_of_map_range_with_len_more}
 
 -- the elements from a place on, the first of them apart
 pub one_dropped : {Y : Type 0} (ys : List Y) (i : ℕ) (y : Y) → i < length ys → y ≡ get_or ys i y → drop i ys ≡ y ∷ drop (i + 1) ys

@@ -1,24 +1,10 @@
 -- The small county is a county within limits, and each of its choices has the chains that the county's choice has at kept places.
-use Rattle.tl_number.proofs.Common.{AllByRecursion, among-unpieces, chain_polygons, directed_shape, lt-ltb, shapes_arrange, shapes_of_order}
-use Rattle.tl_number.proofs.Common.{AllKeysContained, numbered_choice, shapes_ascending, slice_get-get_or, turned_directed, wanted_polygons}
-use Rattle.tl_number.proofs.Common.{Among, Bool, Chain, Known, arith, brings, cond, false, filter, length, subst, times, tlids, true, ◌++◌}
-use Rattle.tl_number.proofs.Common.{AreWhole, IsCounty, contains, group_at, is_open, key_keys, link_key, nat_keys, one_here, or_parts, refl}
-use Rattle.tl_number.proofs.Common.{County, IsApart, IsTrue, Option, chains, choices, is_kept, map-map, nat_cmp, or_left, some_at, tlid_at}
-use Rattle.tl_number.proofs.Common.{DirectedChain, LeavesChoices, OrderOfShapes, among_right, arrangement_of, known_is_among, slice_get-map}
-use Rattle.tl_number.proofs.Common.{HasChainsOf, List, all_weaker, among-unmap, among_known, append-nil, kept_tlids, length-map, points_cmp}
-use Rattle.tl_number.proofs.Common.{IsShapeOrder, among-turned, chain_nodes, keys_at_open, most_records, open_places, or_right, points_keys}
-use Rattle.tl_number.proofs.Common.{IsWithinLimits, contains-among, directed_chain, key_cmp, option_to_list, polygons_along, range_with_len}
-use Rattle.tl_number.proofs.Common.{PolygonKey, cases_Bool, entries_of, is_linked, keys_along, one_chain, option_map, to_filter, unwrap_or}
-use Rattle.tl_number.proofs.Common.{Some, all_among, among-get, among-map, ascending, at_places, each_from, one_entry, slice_get, turned_if}
-use Rattle.tl_number.proofs.Common.{[], among-pieces, is_either_way, map-at_places, most_choices, places_within, polygon_keys, wanted_nodes}
-use Rattle.tl_number.proofs.Common.{ap, inl, inr, map, sym, ℕ, ◌+◌, ◌<◌, ◌∙◌, ◌∷◌, ◌≡◌, ◌≤◌, ◌⊎◌}
-use Rattle.tl_number.proofs.Common.{apart_from_sorted, arrangement_apart, arrangement_known, arrangement_there, flat_map, polygons-unturned}
-use Rattle.tl_number.proofs.Common.{arrangement_ascend, arrangement_of_number, known-permutation, numbered_arrangement, numbered_is_choice}
+use Rattle.tl_number.proofs.Common.{AllByRecursion, AllKeysContained, Among, AreWhole, Bool, Chain, County, DirectedChain, HasChainsOf, IsApart, IsCounty, IsShapeOrder, IsTrue, IsWithinLimits, Known, LeavesChoices, List, Option, OrderOfShapes, PolygonKey, Some, [], all_among, all_weaker, among-get, among-map, among-pieces, among-turned, among-unmap, among-unpieces, among_known, among_right, ap, apart_from_sorted, append-nil, arith, arrangement_apart, arrangement_ascend, arrangement_known, arrangement_of, arrangement_of_number, arrangement_there, ascending, at_places, brings, cases_Bool, chain_nodes, chain_polygons, chains, choices, cond, contains, contains-among, directed_chain, directed_shape, each_from, entries_of, false, filter, flat_map, group_at, inl, inr, is_either_way, is_kept, is_linked, is_open, kept_tlids, key_cmp, key_keys, keys_along, keys_at_open, known-permutation, known_is_among, length, length-map, link_key, lt-ltb, map, map-at_places, map-map, most_choices, most_records, nat_cmp, nat_keys, numbered_arrangement, numbered_choice, numbered_is_choice, one_chain, one_entry, one_here, open_places, option_map, option_to_list, or_left, or_parts, or_right, places_within, points_cmp, points_keys, polygon_keys, polygons-unturned, polygons_along, range_with_len, refl, shapes_arrange, shapes_ascending, shapes_of_order, slice_get, slice_get-get_or, slice_get-map, some_at, subst, sym, times, tlid_at, tlids, to_filter, true, turned_directed, turned_if, unwrap_or, wanted_nodes, wanted_polygons, ℕ, ◌++◌, ◌+◌, ◌<◌, ◌∙◌, ◌∷◌, ◌≡◌, ◌≤◌, ◌⊎◌}
 use Rattle.tl_number.proofs.Ties.CountyParts.{all_pass, part_is, part_sides, part_within}
-use Rattle.tl_number.proofs.Ties.PartChoices.{KeepsOpen, ascending_ordered, choice_flags, choice_part, choices_part, entries_part}
-use Rattle.tl_number.proofs.Ties.PartChoices.{keeps_open}
+use Rattle.tl_number.proofs.Ties.PartChoices.{KeepsOpen, ascending_ordered, choice_flags, choice_part, choices_part, entries_part, keeps_open}
 use Rattle.tl_number.proofs.Ties.Places.{AreMarked, marked_alike, marked_keys, pieces_places}
-use Rattle.tl_number.proofs.{Ties.Keys.fixed_before, Ties.OrderedCounty.link_on_side}
+use Rattle.tl_number.proofs.Ties.Keys.{fixed_before}
+use Rattle.tl_number.proofs.Ties.OrderedCounty.{link_on_side}
 use Rattle.tl_number.specs.CountyParts.{part_of}
 use Rattle.tl_number.specs.SmallCounty.{kept_places, small_county}
 

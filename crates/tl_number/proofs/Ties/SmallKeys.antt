@@ -1,25 +1,11 @@
 -- Keys of chains whose numbers in two choices compare alike in a county and in its small county, and the records of types 4 and I.
-use Rattle.tl_number.proofs.Common.{AllByRecursion, Bool, Chain, Fields4, FieldsI, FieldsOf, FitsRecord, Four, Greater, I, IfSome, Known}
-use Rattle.tl_number.proofs.Common.{Less, List, None, Option, Ordering, PolygonKey, PolygonSide, RecordType, Renumbering, Some, Type4}
-use Rattle.tl_number.proofs.Common.{TypeI, [], all_at, all_in_pieces, all_known, all_left, all_right, all_unmap, ap, append-nil, ap₂, arith}
-use Rattle.tl_number.proofs.Common.{brings, carried_many, chain_nodes, chain_polygons, contains, drop, drop-map, exact_unsigned, false}
-use Rattle.tl_number.proofs.Common.{false_from_ne_true, false≢true, feats, flat_map, flat_map-map, fours_fit, grouped, grouped_lone}
-use Rattle.tl_number.proofs.Common.{grouped_map, groups_cmp, in_pieces, is_open, key_cmp, key_keys, key_on, key_under, keys_along}
-use Rattle.tl_number.proofs.Common.{known-here, known-left, known-right, known_all, length, length-map, map, map-equal_all, map-map}
-use Rattle.tl_number.proofs.Common.{map_agree_all, nat_cmp, nat_cmp_is, nat_cmp_total, nat_keys, numbered_from, option_and_then, option_map}
-use Rattle.tl_number.proofs.Common.{option_to_list, ordering_then, packed_fours, packed_i, pieces, pieces_together, refl, renumbered}
-use Rattle.tl_number.proofs.Common.{renumbered_polygon, renumbered_side, rights-numbered_from, same_Some, side_of, slice_cmp, slice_get}
-use Rattle.tl_number.proofs.Common.{slice_get-map, subst, suc, sym, table_4, take-map, tied_itself, topologies_fit, true, type_4_by_chain}
-use Rattle.tl_number.proofs.Common.{type_i_by_chain, unwrap_or, zero, ℕ, ◌++◌, ◌<◌, ◌∙◌, ◌∷◌, ◌≡◌}
+use Rattle.tl_number.proofs.Common.{AllByRecursion, Bool, Chain, Fields4, FieldsI, FieldsOf, FitsRecord, Four, Greater, I, IfSome, Known, Less, List, None, Option, Ordering, PolygonKey, PolygonSide, RecordType, Renumbering, Some, Type4, TypeI, [], all_at, all_in_pieces, all_known, all_left, all_right, all_unmap, ap, append-nil, ap₂, arith, brings, carried_many, chain_nodes, chain_polygons, contains, drop, drop-map, exact_unsigned, false, false_from_ne_true, false≢true, feats, flat_map, flat_map-map, fours_fit, grouped, grouped_lone, grouped_map, groups_cmp, in_pieces, is_open, key_cmp, key_keys, key_on, key_under, keys_along, known-here, known-left, known-right, known_all, length, length-map, map, map-equal_all, map-map, map_agree_all, nat_cmp, nat_cmp_is, nat_cmp_total, nat_keys, numbered_from, option_and_then, option_map, option_to_list, ordering_then, packed_fours, packed_i, pieces, pieces_together, refl, renumbered, renumbered_polygon, renumbered_side, rights-numbered_from, same_Some, side_of, slice_cmp, slice_get, slice_get-map, subst, suc, sym, table_4, take-map, tied_itself, topologies_fit, true, type_4_by_chain, type_i_by_chain, unwrap_or, zero, ℕ, ◌++◌, ◌<◌, ◌∙◌, ◌∷◌, ◌≡◌}
 use Rattle.tl_number.proofs.Ties.Columns.{fields_cmp, next_column, place_number, places_alike, places_cmp, rows_cmp}
 use Rattle.tl_number.proofs.Ties.KeptParts.{all_are_there, chain_at_rank}
-use Rattle.tl_number.proofs.Ties.KeyKinds.{AreNumberedAlike, KeyKind, chain_seen, group_chain, group_fixed, group_read, keys_of_chain}
-use Rattle.tl_number.proofs.Ties.KeyKinds.{name_kind, new_name, new_node, new_polygon, node_kind, polygon_kind, polygon_number}
+use Rattle.tl_number.proofs.Ties.KeyKinds.{AreNumberedAlike, KeyKind, chain_seen, group_chain, group_fixed, group_read, keys_of_chain, name_kind, new_name, new_node, new_polygon, node_kind, polygon_kind, polygon_number}
 use Rattle.tl_number.proofs.Ties.Keys.{fixed_before}
-use Rattle.tl_number.proofs.Ties.OrderedCounty.{IsKeptPart, OrderedCounty, cenid_kept, chains_at, choice, length_at, new_in, places_in}
-use Rattle.tl_number.proofs.Ties.OrderedCounty.{same_at}
-use Rattle.tl_number.proofs.Ties.SmallRecords.{AreAlike, AreTiedBefore, Making, by_tlid, first_twice, fit_at, made_at, made_in, records_are}
-use Rattle.tl_number.proofs.Ties.SmallRecords.{records_small, tied_same, tlid_first}
+use Rattle.tl_number.proofs.Ties.OrderedCounty.{IsKeptPart, OrderedCounty, cenid_kept, chains_at, choice, length_at, new_in, places_in, same_at}
+use Rattle.tl_number.proofs.Ties.SmallRecords.{AreAlike, AreTiedBefore, Making, by_tlid, first_twice, fit_at, made_at, made_in, records_are, records_small, tied_same, tlid_first}
 
 -- The wanted keys of a kind: their numbers compare alike in both counties, each key of a chain at an open place is one of them, and a
 -- place that brings one is kept.

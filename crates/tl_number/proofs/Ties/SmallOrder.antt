@@ -1,31 +1,21 @@
 -- Two choices are in one order in a county and in its small county.
-use Rattle.tl_number.proofs.Common.{Among, Bool, County, DirectedChain, Eight, Equal, Fields8, Five, IsLeastBelow, IsPermutation-sym}
-use Rattle.tl_number.proofs.Common.{IsShapeOrder, IsTotalOrder, Known, LeavesChoices, List, OrderOfShapes, PolygonKey, Two, []}
-use Rattle.tl_number.proofs.Common.{along_shapes, among-map, among_any, among_known, ap, arranged, chain_polygons, choices, choices_cmp}
-use Rattle.tl_number.proofs.Common.{cond, contains, counted_choices, directed_cmp, false, false_from_ne_true, false≢true, feats, first_open}
-use Rattle.tl_number.proofs.Common.{groups_cmp, in_order, in_order-in_order, in_order-is_permutation, is_either_way, is_gt, is_kept}
-use Rattle.tl_number.proofs.Common.{is_linked, is_open, kept_tlids, key_cmp, key_keys, keys_along, keys_at_open, known-left, known-right}
-use Rattle.tl_number.proofs.Common.{link_key, lt-ltb, map, name_under, nat_cmp, nat_cmp_total, nat_keys, on_total, open_places, or_left}
-use Rattle.tl_number.proofs.Common.{or_parts, or_right, ordering_then, packed, points_along, points_cmp, points_keys, polygon_under}
-use Rattle.tl_number.proofs.Common.{polygons_along, refl, same_groups, slice_cmp, subst, sym, text_of, texts_in_order, then_total, times}
-use Rattle.tl_number.proofs.Common.{true, type_2_by_chain, type_5_by_name, type_8_together, types_1_to_4_cmp, types_5_to_7_cmp}
-use Rattle.tl_number.proofs.Common.{types_8_to_p_cmp, wanted_feats, wanted_nodes, wanted_polygons, ℕ, ◌+◌, ◌<◌, ◌∙◌, ◌≡◌}
+use Rattle.tl_number.proofs.Common.{AllByRecursion, Among, Bool, County, DirectedChain, Eight, Equal, Fields8, Five, IsLeastBelow, IsPermutation-sym, IsShapeOrder, IsTotalOrder, Known, LeavesChoices, List, OrderOfShapes, PolygonKey, Two, [], all_weaker, along_shapes, among-map, among_any, among_known, ap, arranged, chain_polygons, choices, choices_cmp, cond, contains, counted_choices, directed_cmp, false, false_from_ne_true, false≢true, feats, first_open, groups_cmp, in_order, in_order-in_order, in_order-is_permutation, is_either_way, is_gt, is_kept, is_linked, is_open, kept_tlids, key_cmp, key_keys, keys_along, keys_at_open, known-left, known-right, link_key, lt-ltb, map, name_under, nat_cmp, nat_cmp_total, nat_keys, on_total, open_places, or_left, or_parts, or_right, ordering_then, packed, points_along, points_cmp, points_keys, polygon_under, polygons_along, refl, same_groups, slice_cmp, subst, sym, text_of, texts_in_order, then_total, times, true, type_2_by_chain, type_5_by_name, type_8_together, types_1_to_4_cmp, types_5_to_7_cmp, types_8_to_p_cmp, wanted_feats, wanted_nodes, wanted_polygons, ℕ, ◌+◌, ◌<◌, ◌∙◌, ◌≡◌}
 use Rattle.record_groups.specs.TypeOneOrder.{ones_cmp}
 use Rattle.tl_number.specs.LeastOnes.{HaveLeast, HaveSameOnes}
-use Rattle.tl_number.proofs.Common.{AllByRecursion, all_weaker}
 use Rattle.tl_number.proofs.Choices.LeastOnes.{by_ones}
-use Rattle.tl_number.proofs.Ties.KeyKinds.{AreSeenAlike, name_kind, node_kind, numbered_alike, opened_in, polygon_kind, polygon_number}
-use Rattle.tl_number.proofs.Ties.KeyKinds.{seen_alike, unopened_stays}
-use Rattle.tl_number.proofs.Ties.OrderedCounty.{IsKeptPart, OrderedCounty, arranges_in, choice, link_on_side, new_in, one_map, order_in}
-use Rattle.tl_number.proofs.Ties.OrderedCounty.{stated, whole_in}
+use Rattle.tl_number.proofs.Ties.KeyKinds.{AreSeenAlike, name_kind, node_kind, numbered_alike, opened_in, polygon_kind, polygon_number, seen_alike, unopened_stays}
+use Rattle.tl_number.proofs.Ties.OrderedCounty.{IsKeptPart, OrderedCounty, arranges_in, choice, link_on_side, new_in, one_map, order_in, stated, whole_in}
 use Rattle.tl_number.proofs.Ties.SmallCounty.{small_chains, small_choices, small_is, small_leaves, small_within}
 use Rattle.tl_number.proofs.Ties.SmallKeys.{AreWanted, fours_small, topologies_small}
 use Rattle.tl_number.proofs.Ties.SmallPolygons.{eights_tie, linked_alike, polygon_records_small, sevens_tie}
 use Rattle.tl_number.proofs.Ties.SmallRecords.{ones_small, sixes_small}
 use Rattle.tl_number.proofs.Ties.WantedNames.{names_alike, part_contents}
-use Rattle.tl_number.proofs.{Names.ContentFirst.same_type_5, Texts.SamePoints.twos_of_numbers, Ties.ListsAlike.value_filtered}
-use Rattle.tl_number.proofs.{Ties.Ranks.reordered_all}
-use Rattle.tl_number.specs.{CountyParts.part_of, SmallCounty.small_county}
+use Rattle.tl_number.proofs.Names.ContentFirst.{same_type_5}
+use Rattle.tl_number.proofs.Texts.SamePoints.{twos_of_numbers}
+use Rattle.tl_number.proofs.Ties.ListsAlike.{value_filtered}
+use Rattle.tl_number.proofs.Ties.Ranks.{reordered_all}
+use Rattle.tl_number.specs.CountyParts.{part_of}
+use Rattle.tl_number.specs.SmallCounty.{small_county}
 
 -- the chains in the directions of their shapes, put in order, their open places, and how many choices these leave
 abbrev pub own_order : County → OrderOfShapes

@@ -1,24 +1,13 @@
 -- The records of types 7, 8 and P in two choices of a county and of its small county compare alike.
-use Rattle.tl_number.proofs.Common.{AllByRecursion, P, first_seen-apart, links_arranged, option_and_then, polygons_renamed, type_8_together}
-use Rattle.tl_number.proofs.Common.{Among, BodyP, Bool, Equal, Known, List, None, Seven, Some, Type8, TypeP, image, refl, true, ◌==◌, ◌∷◌}
-use Rattle.tl_number.proofs.Common.{Arrangement, among_known, records_cmp, renaming_of, same_groups, spelling_of, tied_itself, under_cenid}
-use Rattle.tl_number.proofs.Common.{Arranges, all_unmap, arranged, by_number, each_from, in_order, link_key, links_of, slice_cmp, unwrap_or}
-use Rattle.tl_number.proofs.Common.{Body7, County, Eight, Fields8, FieldsP, IsApart, Option, all_map, false, filter, map-map, placed, subst}
-use Rattle.tl_number.proofs.Common.{FitsRecord, PolygonKey, append-nil, bytes_cmp, cons_option, filter_map, groups_cmp, link_part, relinked}
-use Rattle.tl_number.proofs.Common.{IsCounty, contains, grouped, is_some, key_cmp, key_keys, link_cmp, numbered, packed_p, table_8, table_p}
-use Rattle.tl_number.proofs.Common.{Renumbering, carried_link, landmark_key, nat_cmp, packed_body, polygons_fit, spelling_cmp, under_number}
-use Rattle.tl_number.proofs.Common.{[], ap, ap₂, map, on, sym, ℕ, ◌∙◌, ◌≡◌}
-use Rattle.tl_number.proofs.Common.{all_filter, chain_polygons, lefts-numbered, link_part_cmp, ordering_then, polygon_under, polygons_along}
-use Rattle.tl_number.proofs.Common.{cond, landmark_body_cmp, landmarks_in_order, nat_list_cmp_total, polygons_by_number, type_7_by_landmark}
-use Rattle.tl_number.proofs.Common.{filter-agree_all, grouped_selected, images-lefts, landmark_key_cmp, polygons_in_order, type_p_by_number}
-use Rattle.tl_number.proofs.Common.{filter-mapped, from_in_order, lands_renamed, map-equal_all, map_agree_all, packed_sevens, polygon_lefts}
+use Rattle.tl_number.proofs.Common.{AllByRecursion, Among, Arrangement, Arranges, Body7, BodyP, Bool, County, Eight, Equal, Fields8, FieldsP, FitsRecord, IsApart, IsCounty, Known, List, None, Option, P, PolygonKey, Renumbering, Seven, Some, Type8, TypeP, [], all_filter, all_map, all_unmap, among_known, ap, append-nil, ap₂, arranged, by_number, bytes_cmp, carried_link, chain_polygons, cond, cons_option, contains, each_from, false, filter, filter-agree_all, filter-mapped, filter_map, first_seen-apart, from_in_order, grouped, grouped_selected, groups_cmp, image, images-lefts, in_order, is_some, key_cmp, key_keys, landmark_body_cmp, landmark_key, landmark_key_cmp, landmarks_in_order, lands_renamed, lefts-numbered, link_cmp, link_key, link_part, link_part_cmp, links_arranged, links_of, map, map-equal_all, map-map, map_agree_all, nat_cmp, nat_list_cmp_total, numbered, on, option_and_then, ordering_then, packed_body, packed_p, packed_sevens, placed, polygon_lefts, polygon_under, polygons_along, polygons_by_number, polygons_fit, polygons_in_order, polygons_renamed, records_cmp, refl, relinked, renaming_of, same_groups, slice_cmp, spelling_cmp, spelling_of, subst, sym, table_8, table_p, tied_itself, true, type_7_by_landmark, type_8_together, type_p_by_number, under_cenid, under_number, unwrap_or, ℕ, ◌==◌, ◌∙◌, ◌∷◌, ◌≡◌}
 use Rattle.tl_number.proofs.Ties.Columns.{columns_alike, fields_cmp, lists_decide, next_column}
 use Rattle.tl_number.proofs.Ties.KeyKinds.{AreSeenAlike, polygon_kind, polygon_number, polygons_seen, seen_in}
 use Rattle.tl_number.proofs.Ties.ListsAlike.{among_filtered, filters_swap, images_alike, order_alike, order_mapped}
 use Rattle.tl_number.proofs.Ties.OrderedCounty.{OrderedCounty, arranges_in, cenid_kept, choice, link_on_side, new_in, order_in, whole_in}
 use Rattle.tl_number.proofs.Ties.Ranks.{masked_by, wanted_decide}
 use Rattle.tl_number.proofs.Ties.SmallRecords.{choices_decide, eights_fit, images_in_order}
-use Rattle.tl_number.proofs.{Landmarks.BodiesFirst.same_landmarks, Ties.SmallKeys.AreWanted}
+use Rattle.tl_number.proofs.Landmarks.BodiesFirst.{same_landmarks}
+use Rattle.tl_number.proofs.Ties.SmallKeys.{AreWanted}
 
 module _ (county : County) (is : IsCounty county) (one other : Arrangement) (arranges_one : Arranges one county)
     (arranges_other : Arranges other county) where

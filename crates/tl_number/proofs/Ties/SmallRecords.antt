@@ -1,20 +1,8 @@
 -- The records of a type that are made of chains, in two choices of a county and of its small county: types 1, 4, 6 and I.
-use Rattle.tl_number.proofs.Common.{AllByRecursion, IsWithinLimits, One, type_4_by_chain, type_6_by_chain, type_8_together, type_i_by_chain}
-use Rattle.tl_number.proofs.Common.{Among, Chain, Eight, Five, Ranges, Record, grouped, is_open, length, map-map, nat_cmp, table_1, table_6}
-use Rattle.tl_number.proofs.Common.{AreSame, FieldsOf, Greater, IsCounty, Option, Ordering, all_left, all_map, decided, table_of, unwrap_or}
-use Rattle.tl_number.proofs.Common.{Bool, carried_many, grouped_lone, most_records, ordering_then, packed_sixes, those_decide, those_groups}
-use Rattle.tl_number.proofs.Common.{County, FitsRecord, RecordType, all_groups, groups_cmp, kept_entry, length-map, option_map, tied_itself}
-use Rattle.tl_number.proofs.Common.{Equal, Four, Less, List, None, Seven, Some, Type1, Type6, arith, drop, false, refl, subst, true, zero}
-use Rattle.tl_number.proofs.Common.{I, P, Six, Two, [], ap, ap₂, map, suc, sym, ℕ, ◌++◌, ◌+◌, ◌<◌, ◌∙◌, ◌∷◌, ◌≡◌, ◌≢◌}
-use Rattle.tl_number.proofs.Common.{Renumbering, nat_list_cmp_total, type_1_by_chain, type_2_by_chain, type_7_by_landmark, type_p_by_number}
-use Rattle.tl_number.proofs.Common.{all_everywhere, all_right, all_themselves, exact_unsigned, nat_cmp_total, numbered_from, type_5_by_name}
-use Rattle.tl_number.proofs.Common.{all_unmap, grouped_map, groups_from, packed-fits, spelling_of, types_1_to_4, types_5_to_7, types_8_to_p}
-use Rattle.tl_number.proofs.Common.{none_past, packed_one, record_of, renumbered, slice_cmp, slice_get, then-equal, then_same, those_from}
+use Rattle.tl_number.proofs.Common.{AllByRecursion, Among, AreSame, Bool, Chain, County, Eight, Equal, FieldsOf, FitsRecord, Five, Four, Greater, I, IsCounty, IsWithinLimits, Less, List, None, One, Option, Ordering, P, Ranges, Record, RecordType, Renumbering, Seven, Six, Some, Two, Type1, Type6, [], all_everywhere, all_groups, all_left, all_map, all_right, all_themselves, all_unmap, ap, ap₂, arith, carried_many, decided, drop, exact_unsigned, false, grouped, grouped_lone, grouped_map, groups_cmp, groups_from, is_open, kept_entry, length, length-map, map, map-map, most_records, nat_cmp, nat_cmp_total, nat_list_cmp_total, none_past, numbered_from, option_map, ordering_then, packed-fits, packed_one, packed_sixes, record_of, refl, renumbered, slice_cmp, slice_get, spelling_of, subst, suc, sym, table_1, table_6, table_of, then-equal, then_same, those_decide, those_from, those_groups, tied_itself, true, type_1_by_chain, type_2_by_chain, type_4_by_chain, type_5_by_name, type_6_by_chain, type_7_by_landmark, type_8_together, type_i_by_chain, type_p_by_number, types_1_to_4, types_5_to_7, types_8_to_p, unwrap_or, zero, ℕ, ◌++◌, ◌+◌, ◌<◌, ◌∙◌, ◌∷◌, ◌≡◌, ◌≢◌}
 use Rattle.tl_number.proofs.Ties.Columns.{AreColumnsAlike, columns_alike, columns_decide, fields_cmp, lists_decide, rows_cmp, tied_fields}
-use Rattle.tl_number.proofs.Ties.KeptParts.{IsKept, IsThere, Kept, all_are_there, all_kept, at_place, at_rank, kept_order, kept_parts}
-use Rattle.tl_number.proofs.Ties.KeptParts.{lists_alike, place_groups, rank_groups}
-use Rattle.tl_number.proofs.Ties.OrderedCounty.{IsKeptPart, OrderedCounty, chains_at, chains_numbered, choice, length_at, new_in, one_map}
-use Rattle.tl_number.proofs.Ties.OrderedCounty.{places_in, same_at, whole_in}
+use Rattle.tl_number.proofs.Ties.KeptParts.{IsKept, IsThere, Kept, all_are_there, all_kept, at_place, at_rank, kept_order, kept_parts, lists_alike, place_groups, rank_groups}
+use Rattle.tl_number.proofs.Ties.OrderedCounty.{IsKeptPart, OrderedCounty, chains_at, chains_numbered, choice, length_at, new_in, one_map, places_in, same_at, whole_in}
 
 -- ---- records of one type
 

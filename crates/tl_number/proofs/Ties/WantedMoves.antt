@@ -1,9 +1,5 @@
 -- Moves at open places change the order of wanted keys alone.
-use Rattle.tl_number.proofs.Common.{AllByRecursion, AreWithin, Bool, IsKeyOrder, Known, List, OpenPlace, Ordering, Some, [], all_after, ap}
-use Rattle.tl_number.proofs.Common.{append_assoc, ap₂, arith, cond, drop, false, false≢true, filter, first_seen_after, first_stood}
-use Rattle.tl_number.proofs.Common.{flat_map, inl, inr, insert, known-append, known-left, known-right, length, map, moved, moved_count}
-use Rattle.tl_number.proofs.Common.{newly_seen, open_keys, range_with_len, refl, seen_after, seen_append, slice_get, subst, suc, sym, take}
-use Rattle.tl_number.proofs.Common.{true, turned_by, zero, ℕ, ⊤, ◌%◌, ◌++◌, ◌+◌, ◌/◌, ◌<◌, ◌∙◌, ◌∷◌, ◌≡◌, ◌≤◌, ◌⊎◌}
+use Rattle.tl_number.proofs.Common.{AllByRecursion, AreWithin, Bool, IsKeyOrder, Known, List, OpenPlace, Ordering, Some, [], all_after, ap, append_assoc, ap₂, arith, cond, drop, false, false≢true, filter, first_seen_after, first_stood, flat_map, inl, inr, insert, known-append, known-left, known-right, length, map, moved, moved_count, newly_seen, open_keys, range_with_len, refl, seen_after, seen_append, slice_get, subst, suc, sym, take, true, turned_by, zero, ℕ, ⊤, ◌%◌, ◌++◌, ◌+◌, ◌/◌, ◌<◌, ◌∙◌, ◌∷◌, ◌≡◌, ◌≤◌, ◌⊎◌}
 use Rattle.tl_number.proofs.Ties.Keys.{AreAlike, alike_itself, flat_map_filter, newly_known, seen_or_new, swapped_alike}
 use Rattle.tl_number.proofs.Ties.Places.{Covers}
 use Rattle.tl_number.proofs.Ties.Ranks.{AreReordered, reordered_before, reordered_block, reordered_itself, reordered_then}

@@ -1,17 +1,11 @@
 -- The numbers of names in two choices compare alike in a county and in its small county.
-use Rattle.tl_number.proofs.Common.{Body5, Bool, Chain, County, DirectedChain, IsApart, IsInOrder, IsPermutation, Known, List, None, Option}
-use Rattle.tl_number.proofs.Common.{Some, all_known, ap, apart-filter, apart-permutation, apart-permutation_of, apart_from_sorted}
-use Rattle.tl_number.proofs.Common.{append-nil, ap₂, chain_feats, contains, directed_chain, feats, feats_along, feats_along_arrangement}
-use Rattle.tl_number.proofs.Common.{feats_of, filter, filter-mapped, first_seen, flat_map, flat_map_agree, grouped, grouped_map}
-use Rattle.tl_number.proofs.Common.{in_order-filter, in_order-permutation, keys_along, length, length_permutation, ltb-true, name_body_cmp}
-use Rattle.tl_number.proofs.Common.{name_under, nat_cmp, nat_keys, option_cmp, option_to_list, ordering_then, place_in, rank_of}
-use Rattle.tl_number.proofs.Common.{ranked_there, refl, subst, sym, times, true, wanted_feats, ℕ, ◌∙◌, ◌≡◌}
+use Rattle.tl_number.proofs.Common.{Body5, Bool, Chain, County, DirectedChain, IsApart, IsInOrder, IsPermutation, Known, List, None, Option, Some, all_known, ap, apart-filter, apart-permutation, apart-permutation_of, apart_from_sorted, append-nil, ap₂, chain_feats, contains, directed_chain, feats, feats_along, feats_along_arrangement, feats_of, filter, filter-mapped, first_seen, flat_map, flat_map_agree, grouped, grouped_map, in_order-filter, in_order-permutation, keys_along, length, length_permutation, ltb-true, name_body_cmp, name_under, nat_cmp, nat_keys, option_cmp, option_to_list, ordering_then, place_in, rank_of, ranked_there, refl, subst, sym, times, true, wanted_feats, ℕ, ◌∙◌, ◌≡◌}
 use Rattle.tl_number.proofs.Names.NamePlaces.{feat_cmp, feat_keys, feats_ordered, feats_permuted, name_stays}
 use Rattle.tl_number.proofs.Ties.KeyKinds.{AreNumberedAlike, AreSeenAlike, name_kind, numbered_alike, seen_in}
 use Rattle.tl_number.proofs.Ties.OrderedCounty.{OrderedCounty, directed_in, whole_in}
-use Rattle.tl_number.proofs.Ties.Ranks.{AreReordered, before_alike, in_filtered, masked_by, masked_from_stay, next_cmp, places_alike}
-use Rattle.tl_number.proofs.Ties.Ranks.{to_filtered}
-use Rattle.tl_number.proofs.{Lists.OrderPlaces.in_order-among, Ties.ListsAlike.value_filtered}
+use Rattle.tl_number.proofs.Ties.Ranks.{AreReordered, before_alike, in_filtered, masked_by, masked_from_stay, next_cmp, places_alike, to_filtered}
+use Rattle.tl_number.proofs.Lists.OrderPlaces.{in_order-among}
+use Rattle.tl_number.proofs.Ties.ListsAlike.{value_filtered}
 use Rattle.tl_number.specs.CountyParts.{part_of}
 
 -- the FEATs of all chains, one after another, are those along the arrangement

@@ -1,4 +1,4 @@
-use Rattle.arranged_county.proofs.Common.{◌≡◌, ◌+◌, ◌-◌, Some, sym, ap, ◌∙◌, inl, inr, arith}
+use Rattle.arranged_county.proofs.Common.{Some, ap, arith, inl, inr, sym, ◌+◌, ◌-◌, ◌∙◌, ◌≡◌}
 use Rattle.arranged_county.proofs.Views.ViewNumbers.{get_up_to, known_up_to, unknown_up_to}
 use Rattle.arranged_county.proofs.arranged_chart.place_of_number.Goals as goal
 

@@ -1,5 +1,4 @@
-use Rattle.arranged_county.proofs.Common.{AllKeysContained, HasChainsOf, MatchTables, NamesEachOnce, arrangement_of, polygon_keys}
-use Rattle.arranged_county.proofs.Common.{polygons_along, subst, sym}
+use Rattle.arranged_county.proofs.Common.{AllKeysContained, HasChainsOf, MatchTables, NamesEachOnce, arrangement_of, polygon_keys, polygons_along, subst, sym}
 use Rattle.arranged_county.proofs.arranging.arrange_in_classes.Goals as goal
 
 pub arrange_tables-requires : goal.arrange_tables-requires

@@ -1,5 +1,4 @@
-use Rattle.arranged_county.proofs.Common.{AllKeysContained, HasChainsOf, IfOk-weaker, MatchTables, NamesEachOnce, arrangement_of}
-use Rattle.arranged_county.proofs.Common.{polygon_keys, polygons_along, subst, sym}
+use Rattle.arranged_county.proofs.Common.{AllKeysContained, HasChainsOf, IfOk-weaker, MatchTables, NamesEachOnce, arrangement_of, polygon_keys, polygons_along, subst, sym}
 use Rattle.arranged_county.proofs.arranging.tables_of.Goals as goal
 
 pub arrange_tables-requires : goal.arrange_tables-requires

@@ -1,4 +1,4 @@
-use Rattle.arranged_county.proofs.Common.{arith, YieldsList-from_range, items_from_collect}
+use Rattle.arranged_county.proofs.Common.{YieldsList-from_range, arith, items_from_collect}
 use Rattle.arranged_county.proofs.content_classes.all_places.Goals as goal
 
 pub returns : goal.returns

@@ -1,5 +1,4 @@
-use Rattle.arranged_county.proofs.Common.{AreClasses, IfOk-weaker, ap, arith, classes_along, length, length-range_with_len}
-use Rattle.arranged_county.proofs.Common.{length_permutation, range_with_len, subst, sym, ◌∙◌, ◌≡◌}
+use Rattle.arranged_county.proofs.Common.{AreClasses, IfOk-weaker, ap, arith, classes_along, length, length-range_with_len, length_permutation, range_with_len, subst, sym, ◌∙◌, ◌≡◌}
 use Rattle.arranged_county.proofs.Lists.Classes.{are_classes}
 use Rattle.arranged_county.proofs.content_classes.classes_in.Goals as goal
 

@@ -1,5 +1,5 @@
-use Rattle.arranged_county.proofs.Common.{◌≡◌, ◌∙◌, flat_map, length, map, ap, arith, changed_both, first_seen, keys_at}
-use Rattle.canonical_form.proofs.Common.{take-append_seam}
+use Rattle.arranged_county.proofs.Common.{ap, arith, changed_both, first_seen, flat_map, keys_at, length, map, ◌∙◌, ◌≡◌}
+use Rattle.std.proofs.Math.Seq.{take-append_seam}
 use Rattle.arranged_county.proofs.Results.{of_done}
 use Rattle.arranged_county.proofs.first_appearance.number_pairs.Goals as goal
 

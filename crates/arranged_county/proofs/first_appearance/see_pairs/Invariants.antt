@@ -1,6 +1,6 @@
 -- The keys seen so far and the keys of the remaining pairs are the keys of all pairs. The pairs so far have their final numbers, and the
 -- remaining ones are unchanged.
-use Rattle.arranged_county.proofs.Common.{◌≡◌, drop, flat_map, map, take, changed_both, first_seen, first_seen_after, keys_at}
+use Rattle.arranged_county.proofs.Common.{changed_both, drop, first_seen, first_seen_after, flat_map, keys_at, map, take, ◌≡◌}
 use Rattle.arranged_county.proofs.first_appearance.see_pairs.Given as goal
 
 abbrev pub invariant-loop-pair : goal.invariant-loop-pair

@@ -1,4 +1,4 @@
-use Rattle.arranged_county.proofs.Common.{◌≡◌, Some, map, option_map, take, directed_chain, ends_of, sides_of}
+use Rattle.arranged_county.proofs.Common.{Some, directed_chain, ends_of, map, option_map, sides_of, take, ◌≡◌}
 use Rattle.arranged_county.proofs.first_appearance.topologies_along.Given as goal
 
 abbrev pub invariant-loop-directed : goal.invariant-loop-directed

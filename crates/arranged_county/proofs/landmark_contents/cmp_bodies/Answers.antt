@@ -1,5 +1,4 @@
-use Rattle.arranged_county.proofs.Common.{Body7, List, ap₂, arith, bodies_at, drop, landmark_body_cmp, length, option_cmp, slice_cmp}
-use Rattle.arranged_county.proofs.Common.{slice_get, subst, suc, sym, ◌+◌, ◌<◌, ◌∙◌, ◌≡◌, ◌≤◌}
+use Rattle.arranged_county.proofs.Common.{Body7, List, ap₂, arith, bodies_at, drop, landmark_body_cmp, length, option_cmp, slice_cmp, slice_get, subst, suc, sym, ◌+◌, ◌<◌, ◌∙◌, ◌≡◌, ◌≤◌}
 use Rattle.arranged_county.proofs.Lists.ItemByItem.{agrees_at, beginning_less, differs_at}
 use Rattle.arranged_county.proofs.landmark_contents.cmp_bodies.Goals as goal
 

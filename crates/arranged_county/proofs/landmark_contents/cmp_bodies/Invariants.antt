@@ -1,4 +1,4 @@
-use Rattle.arranged_county.proofs.Common.{◌≡◌, drop, bodies_at, landmark_body_cmp, slice_cmp}
+use Rattle.arranged_county.proofs.Common.{bodies_at, drop, landmark_body_cmp, slice_cmp, ◌≡◌}
 use Rattle.arranged_county.proofs.landmark_contents.cmp_bodies.Given as goal
 
 abbrev pub invariant-loop-body : goal.invariant-loop-body

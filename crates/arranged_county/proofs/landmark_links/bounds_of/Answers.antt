@@ -1,5 +1,4 @@
-use Rattle.arranged_county.proofs.Common.{IsInOrder, [], ap₂, arith, eight_land, in_order-filter, is_gt, links_up_to}
-use Rattle.arranged_county.proofs.Common.{map-range_with_len_more, nat_cmp, on, subst, sym, ◌++◌, ◌∙◌, ◌∷◌}
+use Rattle.arranged_county.proofs.Common.{IsInOrder, [], ap₂, arith, eight_land, in_order-filter, is_gt, links_up_to, map-range_with_len_more, nat_cmp, on, subst, sym, ◌++◌, ◌∙◌, ◌∷◌}
 use Rattle.arranged_county.proofs.Landmarks.LandmarkLinks.{bound_stated, fewer_later, later_next}
 use Rattle.arranged_county.proofs.landmark_links.bounds_of.Goals as goal
 

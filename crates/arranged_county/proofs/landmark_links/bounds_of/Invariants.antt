@@ -1,4 +1,4 @@
-use Rattle.arranged_county.proofs.Common.{◌≡◌, ◌≤◌, ℕ, map, filter, is_gt, nat_cmp, IsInOrder, eight_land, links_up_to, on, range_with_len}
+use Rattle.arranged_county.proofs.Common.{IsInOrder, eight_land, filter, is_gt, links_up_to, map, nat_cmp, on, range_with_len, ℕ, ◌≡◌, ◌≤◌}
 use Rattle.arranged_county.proofs.landmark_links.bounds_of.Given as goal
 
 abbrev pub invariant-loop-land : goal.invariant-loop-land

@@ -1,4 +1,4 @@
-use Rattle.arranged_county.proofs.Common.{◌≡◌, map, flat_map, take, link_under, links_at}
+use Rattle.arranged_county.proofs.Common.{flat_map, link_under, links_at, map, take, ◌≡◌}
 use Rattle.arranged_county.proofs.landmark_links.gather_links.Given as goal
 
 abbrev pub invariant-loop-place : goal.invariant-loop-place

@@ -1,4 +1,4 @@
-use Rattle.arranged_county.proofs.Common.{◌+◌, ◌-◌, get_or, take, ap, ◌∙◌, arith}
+use Rattle.arranged_county.proofs.Common.{ap, arith, get_or, take, ◌+◌, ◌-◌, ◌∙◌}
 use Rattle.arranged_county.proofs.Landmarks.LinkSlices.{bounds_rise, bounds_within, slice_stated}
 use Rattle.arranged_county.proofs.landmark_links.links_of_landmark.Goals as goal
 

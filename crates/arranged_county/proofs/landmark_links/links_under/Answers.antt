@@ -1,4 +1,5 @@
-use Rattle.arranged_county.proofs.{Common.IsPermutation, Common.link_under, Common.subst, Landmarks.LandmarkLinks.links_sorted}
+use Rattle.arranged_county.proofs.Common.{IsPermutation, link_under, subst}
+use Rattle.arranged_county.proofs.Landmarks.LandmarkLinks.{links_sorted}
 use Rattle.arranged_county.proofs.landmark_links.links_under.Goals as goal
 
 pub returns : goal.returns

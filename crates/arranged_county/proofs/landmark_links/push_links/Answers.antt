@@ -1,7 +1,7 @@
-use Rattle.arranged_county.proofs.Common.{OnOk, YieldsList-at, arith, length, link_under, links_at, map, rules, subst, tests, ◌++◌, ◌≡◌}
-use Rattle.arranged_county.proofs.Common.{YieldsList-from_filter_map, YieldsList-from_map, YieldsList-from_range, range_with_len, slice_get}
-use Rattle.arranged_county.proofs.{Landmarks.LandmarkLinks.listed, Names.NameOrder.filter_map_all}
-use Rattle.county_chart.proofs.Common.{items_from_extend}
+use Rattle.arranged_county.proofs.Common.{OnOk, YieldsList-at, YieldsList-from_filter_map, YieldsList-from_map, YieldsList-from_range, arith, length, link_under, links_at, map, range_with_len, rules, slice_get, subst, tests, ◌++◌, ◌≡◌}
+use Rattle.arranged_county.proofs.Landmarks.LandmarkLinks.{listed}
+use Rattle.arranged_county.proofs.Names.NameOrder.{filter_map_all}
+use Rattle.std.proofs.lemmas.Iterator.Adapters.{items_from_extend}
 use Rattle.arranged_county.proofs.landmark_links.push_links.Goals as goal
 
 pub returns : goal.returns

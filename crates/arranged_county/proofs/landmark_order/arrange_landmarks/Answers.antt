@@ -1,6 +1,5 @@
-use Rattle.arranged_county.proofs.Common.{◌≡◌, length, nat_cmp, false, refl, sym, ap, ap₂, ◌∙◌, subst, arith, IsPermutation, arranged_by}
-use Rattle.arranged_county.proofs.Common.{has_repeat, lands, lands_at, link_bounds, numbered_links, range_with_len}
-use Rattle.arranged_county.proofs.Landmarks.LandmarkOrder.{landmarks_stated, lands_once, places_counted, new_links}
+use Rattle.arranged_county.proofs.Common.{IsPermutation, ap, ap₂, arith, arranged_by, false, has_repeat, lands, lands_at, length, link_bounds, nat_cmp, numbered_links, range_with_len, refl, subst, sym, ◌∙◌, ◌≡◌}
+use Rattle.arranged_county.proofs.Landmarks.LandmarkOrder.{landmarks_stated, lands_once, new_links, places_counted}
 use Rattle.arranged_county.proofs.landmark_order.arrange_landmarks.Goals as goal
 
 pub links_by_land-requires-clause-few_places : goal.links_by_land-requires-clause-few_places

@@ -1,6 +1,4 @@
-use Rattle.arranged_county.proofs.Common.{Fields8, List, Ordering, YieldsList-from_map, YieldsList-from_slice, ap, cmp_from_yields_List}
-use Rattle.arranged_county.proofs.Common.{link_part, link_part_cmp, map_callee, nat_cmp, ordering_then, refl, rules, slice_cmp, sym, ℕ, ◌∙◌}
-use Rattle.arranged_county.proofs.Common.{◌≡◌}
+use Rattle.arranged_county.proofs.Common.{Fields8, List, Ordering, YieldsList-from_map, YieldsList-from_slice, ap, cmp_from_yields_List, link_part, link_part_cmp, map_callee, nat_cmp, ordering_then, refl, rules, slice_cmp, sym, ℕ, ◌∙◌, ◌≡◌}
 use Rattle.arranged_county.proofs.Landmarks.LandmarkOrder.{cmp_mapped}
 use Rattle.arranged_county.proofs.landmark_order.cmp_links.Goals as goal
 

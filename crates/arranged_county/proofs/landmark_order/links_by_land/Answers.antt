@@ -1,4 +1,4 @@
-use Rattle.arranged_county.proofs.Common.{length, nat_cmp, sym, ap, ◌∙◌, subst, slice_get, arith, IsInOrder, eight_land, lands, on}
+use Rattle.arranged_county.proofs.Common.{IsInOrder, ap, arith, eight_land, lands, length, nat_cmp, on, slice_get, subst, sym, ◌∙◌}
 use Rattle.arranged_county.proofs.Landmarks.LandmarkOrder.{few_lands, numbered_by_land}
 use Rattle.arranged_county.proofs.landmark_order.links_by_land.Goals as goal
 

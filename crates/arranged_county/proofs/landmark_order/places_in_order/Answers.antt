@@ -1,10 +1,7 @@
-use Rattle.arranged_county.proofs.Common.{AreSortedLandmarks, County, Fields8, IfOk-weaker, IsInOrder, IsPermutation, List, PolygonKey, ap}
-use Rattle.arranged_county.proofs.Common.{arith, eight_land, false, has_repeat, landmark_place_cmp, lands, lands_at, length}
-use Rattle.arranged_county.proofs.Common.{length-map-range_with_len, length-range_with_len, link_bounds, links_up_to, nat_cmp}
-use Rattle.arranged_county.proofs.Common.{numbered_links, on, place_cmp_under, range_with_len, subst, sym, ℕ, ◌+◌, ◌-◌, ◌∙◌, ◌≡◌}
+use Rattle.arranged_county.proofs.Common.{AreSortedLandmarks, County, Fields8, IfOk-weaker, IsInOrder, IsPermutation, List, PolygonKey, ap, arith, eight_land, false, has_repeat, landmark_place_cmp, lands, lands_at, length, length-map-range_with_len, length-range_with_len, link_bounds, links_up_to, nat_cmp, numbered_links, on, place_cmp_under, range_with_len, subst, sym, ℕ, ◌+◌, ◌-◌, ◌∙◌, ◌≡◌}
 use Rattle.arranged_county.proofs.Landmarks.LandmarkOrder.{all_lands, all_lands_once, all_sorted, numbered_by_land, sorted_in_order}
 use Rattle.arranged_county.proofs.landmark_order.places_in_order.Given.{Over}
-use Rattle.canonical_form.proofs.Common.{IsPermutation-refl}
+use Rattle.std.proofs.lemmas.List.Sorted.{IsPermutation-refl}
 use Rattle.arranged_county.proofs.landmark_order.places_in_order.Goals.{After-as_slice-2}
 use Rattle.arranged_county.proofs.landmark_order.places_in_order.Goals as goal
 

@@ -1,6 +1,4 @@
-use Rattle.arranged_county.proofs.Common.{AreSortedLandmarks, IfOk-weaker, IsInOrder, IsPermutation, always_returns_same, ap}
-use Rattle.arranged_county.proofs.Common.{classed_landmark_cmp, classed_place, in_order-from_sorted, is_lt, length, map, ranks_by, rules}
-use Rattle.arranged_county.proofs.Common.{subst, ◌-◌, ◌∙◌, ◌≡◌}
+use Rattle.arranged_county.proofs.Common.{AreSortedLandmarks, IfOk-weaker, IsInOrder, IsPermutation, always_returns_same, ap, classed_landmark_cmp, classed_place, in_order-from_sorted, is_lt, length, map, ranks_by, rules, subst, ◌-◌, ◌∙◌, ◌≡◌}
 use Rattle.arranged_county.proofs.Landmarks.LandmarkOrder.{classed_landmarks_total}
 use Rattle.arranged_county.proofs.landmark_order.sorted_places.Goals as goal
 

@@ -1,5 +1,5 @@
-use Rattle.arranged_county.proofs.Common.{◌≡◌, ◌<◌, ◌^◌, length, filter_map, slice_get, false, sym, ap, ◌∙◌, subst, nat_cmp, feats, has_repeat}
-use Rattle.arranged_county.proofs.Names.NameOrder.{feats_stated, feats_once, few_feats}
+use Rattle.arranged_county.proofs.Common.{ap, false, feats, filter_map, has_repeat, length, nat_cmp, slice_get, subst, sym, ◌<◌, ◌^◌, ◌∙◌, ◌≡◌}
+use Rattle.arranged_county.proofs.Names.NameOrder.{feats_once, feats_stated, few_feats}
 use Rattle.arranged_county.proofs.name_order.arrange_names.Goals as goal
 
 pub of_distinct-requires : goal.of_distinct-requires

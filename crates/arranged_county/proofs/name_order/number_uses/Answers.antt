@@ -1,4 +1,4 @@
-use Rattle.arranged_county.proofs.Common.{◌≡◌, ◌∷◌, sym, ap, ◌∙◌, nat_cmp, directed_chain, feats_along_arrangement, first_seen_after}
+use Rattle.arranged_county.proofs.Common.{ap, directed_chain, feats_along_arrangement, first_seen_after, nat_cmp, sym, ◌∙◌, ◌∷◌, ◌≡◌}
 use Rattle.county_chart.specs.ChartWords.{feats_of}
 use Rattle.arranged_county.proofs.Numbering.SeenLists.{seen_append}
 use Rattle.arranged_county.proofs.name_order.number_uses.Goals as goal

@@ -1,4 +1,4 @@
-use Rattle.arranged_county.proofs.Common.{◌≡◌, length, nat_cmp, feats_along_arrangement, first_seen, first_seen_after}
+use Rattle.arranged_county.proofs.Common.{feats_along_arrangement, first_seen, first_seen_after, length, nat_cmp, ◌≡◌}
 use Rattle.arranged_county.proofs.name_order.number_uses.Given as goal
 
 abbrev pub invariant-loop-directed : goal.invariant-loop-directed

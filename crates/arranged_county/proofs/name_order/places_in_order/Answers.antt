@@ -1,4 +1,4 @@
-use Rattle.arranged_county.proofs.Common.{sym, subst, ap, map, ◌∙◌, IsPermutation, AreReadAt, IfOk-weaker, arrangement_of, names_in_order}
+use Rattle.arranged_county.proofs.Common.{AreReadAt, IfOk-weaker, IsPermutation, ap, arrangement_of, map, names_in_order, subst, sym, ◌∙◌}
 use Rattle.arranged_county.specs.NameItems.{AreSortedNames, name_key_at}
 use Rattle.arranged_county.proofs.Names.NameOrder.{keys_stated}
 use Rattle.arranged_county.proofs.name_order.places_in_order.Goals as goal

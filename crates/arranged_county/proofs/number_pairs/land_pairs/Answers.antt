@@ -1,4 +1,4 @@
-use Rattle.arranged_county.proofs.Common.{ap, ◌∙◌, numbered}
+use Rattle.arranged_county.proofs.Common.{ap, numbered, ◌∙◌}
 use Rattle.arranged_county.proofs.Views.RenamingPairs.{lands_found}
 use Rattle.arranged_county.proofs.number_pairs.land_pairs.Goals as goal
 

@@ -1,5 +1,4 @@
-use Rattle.arranged_county.proofs.Common.{IfOk, YieldsList-at, YieldsList-from_enumerate, YieldsList-from_map, YieldsList-from_slice}
-use Rattle.arranged_county.proofs.Common.{items_from_collect, rules, subst, tests, ℕ, ◌+◌, ◌≡◌}
+use Rattle.arranged_county.proofs.Common.{IfOk, YieldsList-at, YieldsList-from_enumerate, YieldsList-from_map, YieldsList-from_slice, items_from_collect, rules, subst, tests, ℕ, ◌+◌, ◌≡◌}
 use Rattle.arranged_county.proofs.Views.RenamingPairs.{enumerated}
 use Rattle.arranged_county.proofs.number_pairs.name_pairs.Goals as goal
 

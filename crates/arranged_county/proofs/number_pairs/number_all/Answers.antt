@@ -1,5 +1,4 @@
-use Rattle.arranged_county.proofs.Common.{IfOk, YieldsList-at, YieldsList-from_copied, YieldsList-from_range, YieldsList-from_slice}
-use Rattle.arranged_county.proofs.Common.{YieldsList-from_zip, arith, items_from_collect, length, subst, ◌+◌, ◌≡◌}
+use Rattle.arranged_county.proofs.Common.{IfOk, YieldsList-at, YieldsList-from_copied, YieldsList-from_range, YieldsList-from_slice, YieldsList-from_zip, arith, items_from_collect, length, subst, ◌+◌, ◌≡◌}
 use Rattle.arranged_county.proofs.Views.RenamingPairs.{zip_numbered}
 use Rattle.arranged_county.proofs.number_pairs.number_all.Goals as goal
 

@@ -1,6 +1,4 @@
-use Rattle.arranged_county.proofs.Common.{IfOk, YieldsList-at, YieldsList-from_copied, YieldsList-from_map, YieldsList-from_range}
-use Rattle.arranged_county.proofs.Common.{YieldsList-from_slice, YieldsList-from_zip, ap, arith, items_from_collect, length, map, rules}
-use Rattle.arranged_county.proofs.Common.{subst, tests, under_cenid, ◌+◌, ◌≡◌}
+use Rattle.arranged_county.proofs.Common.{IfOk, YieldsList-at, YieldsList-from_copied, YieldsList-from_map, YieldsList-from_range, YieldsList-from_slice, YieldsList-from_zip, ap, arith, items_from_collect, length, map, rules, subst, tests, under_cenid, ◌+◌, ◌≡◌}
 use Rattle.arranged_county.proofs.Views.RenamingPairs.{zip_numbered}
 use Rattle.arranged_county.proofs.number_pairs.polygon_pairs.Goals as goal
 

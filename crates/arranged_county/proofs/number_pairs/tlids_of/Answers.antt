@@ -1,5 +1,4 @@
-use Rattle.arranged_county.proofs.Common.{◌≡◌, IfOk, rules, slice_get, subst, tests, YieldsList-from_filter_map, YieldsList-from_slice}
-use Rattle.arranged_county.proofs.Common.{items_from_collect, tlids}
+use Rattle.arranged_county.proofs.Common.{IfOk, YieldsList-from_filter_map, YieldsList-from_slice, items_from_collect, rules, slice_get, subst, tests, tlids, ◌≡◌}
 use Rattle.arranged_county.proofs.Views.RenamingPairs.{tlids_found}
 use Rattle.arranged_county.proofs.number_pairs.tlids_of.Goals as goal
 

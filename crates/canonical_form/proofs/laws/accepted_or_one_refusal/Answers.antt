@@ -1,4 +1,4 @@
-use Rattle.canonical_form.proofs.CanonicalLists.Accepted.{accepted_or_refused, accepted_not_refused, one_refusal}
+use Rattle.canonical_form.proofs.CanonicalLists.Accepted.{accepted_not_refused, accepted_or_refused, one_refusal}
 use Rattle.canonical_form.proofs.laws.accepted_or_one_refusal.Goals as goal
 
 pub returns : goal.returns

@@ -1,5 +1,6 @@
 use Rattle.canonical_form.proofs.Arrangements.ArrangedCounties.{arranged_county, is_arranged}
-use Rattle.canonical_form.proofs.{Arrangements.ArrangedPacking.packed_arranged, Arrangements.Carrying.arrangement_carries}
+use Rattle.canonical_form.proofs.Arrangements.ArrangedPacking.{packed_arranged}
+use Rattle.canonical_form.proofs.Arrangements.Carrying.{arrangement_carries}
 use Rattle.canonical_form.proofs.laws.an_arrangement_gives_an_arranged_list.Goals as goal
 
 pub returns : goal.returns

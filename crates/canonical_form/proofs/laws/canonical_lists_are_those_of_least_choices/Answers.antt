@@ -1,4 +1,4 @@
-use Rattle.canonical_form.proofs.CanonicalLists.TidyLists.{choice_is_same, least_choice, least_choice_is_canonical, canonical_is_choice}
+use Rattle.canonical_form.proofs.CanonicalLists.TidyLists.{canonical_is_choice, choice_is_same, least_choice, least_choice_is_canonical}
 use Rattle.canonical_form.proofs.laws.canonical_lists_are_those_of_least_choices.Goals as goal
 
 pub returns : goal.returns

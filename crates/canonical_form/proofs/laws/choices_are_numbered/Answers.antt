@@ -1,4 +1,4 @@
-use Rattle.canonical_form.proofs.Choices.TidyChoices.{numbered_is_choice, choice_number, first_choice}
+use Rattle.canonical_form.proofs.Choices.TidyChoices.{choice_number, first_choice, numbered_is_choice}
 use Rattle.canonical_form.proofs.laws.choices_are_numbered.Goals as goal
 
 pub returns : goal.returns

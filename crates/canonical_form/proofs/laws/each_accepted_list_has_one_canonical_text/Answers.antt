@@ -1,5 +1,5 @@
 use Rattle.canonical_form.proofs.Common.{county_of, plain, same-reflexive}
-use Rattle.canonical_form.proofs.CanonicalLists.Ascending.{canonical_exists, choice_is_canonical, ascends_where_apart}
+use Rattle.canonical_form.proofs.CanonicalLists.Ascending.{ascends_where_apart, canonical_exists, choice_is_canonical}
 use Rattle.canonical_form.proofs.CanonicalLists.Accepted.{plain_view, same_canonical_text}
 use Rattle.canonical_form.proofs.laws.each_accepted_list_has_one_canonical_text.Goals as goal
 

@@ -1,5 +1,6 @@
 use Rattle.canonical_form.proofs.CanonicalLists.Accepted.{canonical_as_it_is, canonical_of_itself, one_canonical_same, same_canonical_text}
-use Rattle.canonical_form.proofs.{CanonicalLists.Ascending.canonical_exists, Common.county_of, Common.same-reflexive}
+use Rattle.canonical_form.proofs.CanonicalLists.Ascending.{canonical_exists}
+use Rattle.canonical_form.proofs.Common.{county_of, same-reflexive}
 use Rattle.canonical_form.proofs.laws.one_canonical_text_in_each_view.Goals as goal
 
 pub returns-clause-exists : goal.returns-clause-exists

@@ -1,6 +1,8 @@
 use Rattle.canonical_form.proofs.CanonicalLists.Accepted.{canonical_as_it_is, canonical_of_itself, one_canonical_same, same_canonical_text}
-use Rattle.canonical_form.proofs.{CanonicalLists.Ascending.canonical_exists, Common.county_of, Common.masked, Common.same-reflexive}
-use Rattle.canonical_form.proofs.{Masks.MaskedCounties.no_mask_is_plain, Masks.MaskedViews.masked_view}
+use Rattle.canonical_form.proofs.CanonicalLists.Ascending.{canonical_exists}
+use Rattle.canonical_form.proofs.Common.{county_of, masked, same-reflexive}
+use Rattle.canonical_form.proofs.Masks.MaskedCounties.{no_mask_is_plain}
+use Rattle.canonical_form.proofs.Masks.MaskedViews.{masked_view}
 use Rattle.canonical_form.proofs.laws.one_canonical_text_under_each_mask.Goals as goal
 
 pub returns-clause-view : goal.returns-clause-view

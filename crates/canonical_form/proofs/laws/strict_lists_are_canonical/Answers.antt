@@ -1,4 +1,4 @@
-use Rattle.canonical_form.proofs.CanonicalLists.StrictLists.{strictly_accepted, strict_as_it_is, strict_under_mask, strict_in_view, strict_alone}
+use Rattle.canonical_form.proofs.CanonicalLists.StrictLists.{strict_alone, strict_as_it_is, strict_in_view, strict_under_mask, strictly_accepted}
 use Rattle.canonical_form.proofs.laws.strict_lists_are_canonical.Goals as goal
 
 pub returns : goal.returns

@@ -1,4 +1,4 @@
-use Rattle.canonical_form.proofs.CanonicalLists.TidyLists.{choice_is_tidy, choice_is_same, tidy_is_choice}
+use Rattle.canonical_form.proofs.CanonicalLists.TidyLists.{choice_is_same, choice_is_tidy, tidy_is_choice}
 use Rattle.canonical_form.proofs.laws.tidy_lists_are_those_of_choices.Goals as goal
 
 pub returns : goal.returns

@@ -1,4 +1,5 @@
-use Rattle.canonical_lines.proofs.{Common.arith, NumberTexts.ended_text_of}
+use Rattle.canonical_lines.proofs.Common.{arith}
+use Rattle.canonical_lines.proofs.NumberTexts.{ended_text_of}
 use Rattle.canonical_lines.proofs.number.is_number.Goals as goal
 
 pub returns-then-last-ne32 : goal.returns-then-last-ne32

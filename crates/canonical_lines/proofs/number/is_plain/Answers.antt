@@ -1,4 +1,5 @@
-use Rattle.canonical_lines.proofs.{Common.arith, Common.inl, Common.inr, NumberTexts.is_empty, NumberTexts.plain_text_of}
+use Rattle.canonical_lines.proofs.Common.{arith, inl, inr}
+use Rattle.canonical_lines.proofs.NumberTexts.{is_empty, plain_text_of}
 use Rattle.canonical_lines.proofs.number.is_plain.Goals as goal
 
 pub returns-in-empty : goal.returns-in-empty

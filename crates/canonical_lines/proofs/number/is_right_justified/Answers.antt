@@ -1,7 +1,5 @@
-use Rattle.canonical_lines.proofs.Common.{Each1-get_or, ap, arith, bit_and, bitmask_splat, eqb, eqb-true, is_blank, length, lit≤, ltb, sym}
-use Rattle.canonical_lines.proofs.Common.{w8, ℕ, ◌+◌, ◌<◌, ◌^◌, ◌∙◌, ◌≡◌}
-use Rattle.canonical_lines.proofs.Masks.{above_zero, above_zero_len, above_zero_mask, blanks_of, digits_of, in_common, is_low, masks_low}
-use Rattle.canonical_lines.proofs.Masks.{right_justified, zeros_of}
+use Rattle.canonical_lines.proofs.Common.{Each1-get_or, ap, arith, bit_and, bitmask_splat, eqb, eqb-true, is_blank, length, lit≤, ltb, sym, w8, ℕ, ◌+◌, ◌<◌, ◌^◌, ◌∙◌, ◌≡◌}
+use Rattle.canonical_lines.proofs.Masks.{above_zero, above_zero_len, above_zero_mask, blanks_of, digits_of, in_common, is_low, masks_low, right_justified, zeros_of}
 use mir.Val.{Fits}
 use Rattle.canonical_lines.proofs.number.is_right_justified.Goals as goal
 

@@ -1,4 +1,4 @@
-use Rattle.std.proofs.Common.{◌≤◌, ◌-◌, ◌*◌, drop}
+use Rattle.std.proofs.Common.{drop, ◌*◌, ◌-◌, ◌≤◌}
 use Rattle.canonical_lines.proofs.PlaceSteps.{ArePlaces}
 use Rattle.canonical_lines.proofs.places.are_places.Given as goal
 

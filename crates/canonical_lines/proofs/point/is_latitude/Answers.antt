@@ -1,5 +1,6 @@
 use Rattle.canonical_lines.proofs.Common.{arith, get_or, length, slice_range}
-use Rattle.canonical_lines.proofs.{NumberTexts.begins, PointTexts.coordinate_text_of, PointTexts.eight_digits, PointTexts.length_behind}
+use Rattle.canonical_lines.proofs.NumberTexts.{begins}
+use Rattle.canonical_lines.proofs.PointTexts.{coordinate_text_of, eight_digits, length_behind}
 use Rattle.tl_layout.specs.FieldTexts.{digits_text}
 use Rattle.canonical_lines.proofs.point.is_latitude.Goals as goal
 

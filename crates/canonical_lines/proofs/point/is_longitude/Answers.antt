@@ -1,5 +1,6 @@
 use Rattle.canonical_lines.proofs.Common.{arith, get_or, length, slice_range}
-use Rattle.canonical_lines.proofs.{NumberTexts.begins, PointTexts.coordinate_text_of, PointTexts.length_behind, PointTexts.nine_digits}
+use Rattle.canonical_lines.proofs.NumberTexts.{begins}
+use Rattle.canonical_lines.proofs.PointTexts.{coordinate_text_of, length_behind, nine_digits}
 use Rattle.tl_layout.specs.FieldTexts.{digits_text}
 use Rattle.canonical_lines.proofs.point.is_longitude.Goals as goal
 

@@ -1,4 +1,4 @@
-use Rattle.std.proofs.Common.{take, slice_range, length, arith}
+use Rattle.std.proofs.Common.{arith, length, slice_range, take}
 use Rattle.canonical_lines.proofs.PointTexts.{point_text_of, two_parts}
 use Rattle.canonical_lines.proofs.point.is_point.Goals as goal
 

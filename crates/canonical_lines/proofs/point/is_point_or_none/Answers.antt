@@ -1,4 +1,5 @@
-use Rattle.canonical_lines.proofs.{Common.sym, PointTexts.no_point_of, PointTexts.some_point_of}
+use Rattle.canonical_lines.proofs.Common.{sym}
+use Rattle.canonical_lines.proofs.PointTexts.{no_point_of, some_point_of}
 use Rattle.canonical_lines.proofs.point.is_point_or_none.Goals as goal
 
 pub returns-then-is_blank : goal.returns-then-is_blank

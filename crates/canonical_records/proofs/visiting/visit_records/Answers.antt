@@ -1,6 +1,9 @@
-use Rattle.arranged_county.proofs.Common.{arranged_by, subst, ◌++◌}
-use Rattle.record_groups.proofs.Common.{err_from_is_err_and, types_1_to_4, types_5_to_7, types_8_to_p}
-use Rattle.record_groups.proofs.{Records.OneAfterAnother.second_stops, Records.OneAfterAnother.third_ends, Records.PackedGroups.all_groups}
+use Rattle.canonical_form.specs.WholeArrangements.{arranged_by}
+use Rattle.std.proofs.Common.{subst, ◌++◌}
+use Rattle.std.proofs.lemmas.Result.{err_from_is_err_and}
+use Rattle.record_groups.specs.CountyGroups.{types_1_to_4, types_5_to_7, types_8_to_p}
+use Rattle.record_groups.proofs.Records.OneAfterAnother.{second_stops, third_ends}
+use Rattle.record_groups.proofs.Records.PackedGroups.{all_groups}
 use Rattle.canonical_records.proofs.visiting.visit_records.Goals as goal
 
 pub returns-in_err-visit_three-clause-given : goal.returns-in_err-visit_three-clause-given

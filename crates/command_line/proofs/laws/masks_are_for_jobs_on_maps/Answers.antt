@@ -1,4 +1,4 @@
-use Rattle.command_line.proofs.MaskWords.{respell_takes_no_mask, check_takes_no_mask}
+use Rattle.command_line.proofs.MaskWords.{check_takes_no_mask, respell_takes_no_mask}
 use Rattle.command_line.proofs.laws.masks_are_for_jobs_on_maps.Goals as goal
 
 pub returns-clause-respell : goal.returns-clause-respell

@@ -1,4 +1,4 @@
-use Rattle.std.proofs.Common.{◌≡◌, ◌++◌, map, take, string_bytes, ℕ, List, Bor}
+use Rattle.std.proofs.Common.{Bor, List, map, string_bytes, take, ℕ, ◌++◌, ◌≡◌}
 use Rattle.command_line.proofs.names.with_suffixes.Given as goal
 
 -- the names so far are the stem with the suffixes so far

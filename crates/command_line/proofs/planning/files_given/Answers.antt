@@ -1,4 +1,5 @@
-use Rattle.command_line.proofs.{Common.found_of, PlannedSets.none_given, PlannedSets.value_given}
+use Rattle.command_line.proofs.Common.{found_of}
+use Rattle.command_line.proofs.PlannedSets.{none_given, value_given}
 use Rattle.command_line.proofs.planning.files_given.Goals as goal
 
 pub returns-in_ok-files_of-in-Some-clause-files : goal.returns-in_ok-files_of-in-Some-clause-files

@@ -1,4 +1,5 @@
-use Rattle.command_line.proofs.{Common.IsPlanOf, Common.subst, PlannedSets.met_of, PlannedSets.one_job}
+use Rattle.command_line.proofs.Common.{IsPlanOf, subst}
+use Rattle.command_line.proofs.PlannedSets.{met_of, one_job}
 use Rattle.command_line.proofs.planning.plan_in.Goals as goal
 
 pub returns-in-Some-job_named-clause-usage : goal.returns-in-Some-job_named-clause-usage

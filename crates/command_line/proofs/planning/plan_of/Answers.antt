@@ -1,4 +1,5 @@
-use Rattle.command_line.proofs.{Common.codes, Common.found_of, PlannedSets.flag_given}
+use Rattle.command_line.proofs.Common.{codes, found_of}
+use Rattle.command_line.proofs.PlannedSets.{flag_given}
 use Rattle.command_line.proofs.planning.plan_of.Goals as goal
 
 pub returns-clause-sets : goal.returns-clause-sets

@@ -1,5 +1,4 @@
-use Rattle.county_chart.proofs.Common.{Decides, IfSome, YieldsList-from_range, arith, cases_from_all, false, false≢true, places_decide}
-use Rattle.county_chart.proofs.Common.{refl, rules, slice_get, sym, true}
+use Rattle.county_chart.proofs.Common.{Decides, IfSome, YieldsList-from_range, arith, cases_from_all, false, false≢true, places_decide, refl, rules, slice_get, sym, true}
 use Rattle.county_chart.proofs.listed.all_hold.Goals as goal
 
 pub returns : goal.returns

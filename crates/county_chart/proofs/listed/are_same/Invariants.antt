@@ -1,4 +1,4 @@
-use Rattle.std.proofs.Common.{◌≡◌, take}
+use Rattle.std.proofs.Common.{take, ◌≡◌}
 use Rattle.county_chart.proofs.listed.are_same.Given as goal
 
 abbrev pub invariant-loop-place : goal.invariant-loop-place

@@ -1,6 +1,6 @@
 use Rattle.county_chart.proofs.Common.{ap₂, arith, inl, inr, length, nat_cmp, slice_cmp, sym, ◌∙◌, ◌≡◌, ◌≤◌, ◌⊎◌}
 use Rattle.county_chart.proofs.Lists.Compared.{after_equal, at_end, at_unequal}
-use Rattle.county_chart.proofs.listed.compare.Goals.{then-count-other_count, else-count-other_count}
+use Rattle.county_chart.proofs.listed.compare.Goals.{else-count-other_count, then-count-other_count}
 use Rattle.county_chart.proofs.listed.compare.Goals as goal
 
 pub returns-in_default : goal.returns-in_default

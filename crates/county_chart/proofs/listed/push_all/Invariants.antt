@@ -1,4 +1,4 @@
-use Rattle.std.proofs.Common.{◌≡◌, ◌++◌, take}
+use Rattle.std.proofs.Common.{take, ◌++◌, ◌≡◌}
 use Rattle.county_chart.proofs.listed.push_all.Given as goal
 
 abbrev pub invariant-loop-place : goal.invariant-loop-place

@@ -1,5 +1,4 @@
-use Rattle.county_chart.proofs.Common.{always_returns_same, in_order-from_sorted, is_lt, landmark_body_cmp, landmark_body_keys, ranks_by}
-use Rattle.county_chart.proofs.Common.{rules, sorted_in_order}
+use Rattle.county_chart.proofs.Common.{always_returns_same, in_order-from_sorted, is_lt, landmark_body_cmp, landmark_body_keys, ranks_by, rules, sorted_in_order}
 use Rattle.county_chart.proofs.masked_bodies.sort_bodies.Goals as goal
 
 pub returns : goal.returns

@@ -1,5 +1,6 @@
 use Rattle.ordered_lists.proofs.Common.{ap, is_some, ◌∙◌}
-use Rattle.ordered_lists.proofs.{ByKey.KeyedLists.place-known, ByKey.Keys.IsKeyOrder}
+use Rattle.ordered_lists.proofs.ByKey.KeyedLists.{place-known}
+use Rattle.ordered_lists.proofs.ByKey.Keys.{IsKeyOrder}
 use Rattle.ordered_lists.proofs.keys.place_of.Goals as goal
 
 pub returns-clause-known : goal.returns-clause-known

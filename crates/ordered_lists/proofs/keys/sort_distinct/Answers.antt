@@ -1,5 +1,7 @@
 use Rattle.ordered_lists.proofs.Common.{dedup_is, ◌∙◌}
-use Rattle.ordered_lists.proofs.{ByKey.KeyedLists.in_order-from_sorted, ByKey.Keys.IsKeyOrder, ByKey.SortedKeys.dedup-distinct}
+use Rattle.ordered_lists.proofs.ByKey.KeyedLists.{in_order-from_sorted}
+use Rattle.ordered_lists.proofs.ByKey.Keys.{IsKeyOrder}
+use Rattle.ordered_lists.proofs.ByKey.SortedKeys.{dedup-distinct}
 use Rattle.ordered_lists.proofs.keys.sort_distinct.Goals as goal
 
 pub returns : goal.returns

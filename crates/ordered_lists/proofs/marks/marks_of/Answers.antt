@@ -1,7 +1,7 @@
-use Rattle.ordered_lists.proofs.Common.{◌≡◌, ◌∷◌, [], ◌+◌, ◌++◌, take, get_or, sym, subst, arith, common_steps, AreMarksOf}
+use Rattle.ordered_lists.proofs.Common.{AreMarksOf, [], arith, common_steps, get_or, subst, sym, take, ◌++◌, ◌+◌, ◌∷◌, ◌≡◌}
 use Rattle.ordered_lists.proofs.ByKey.Marks.{marked_more, marked_without}
 use Rattle.ordered_lists.proofs.marks.marks_of.Goals as goal
-use Rattle.ordered_lists.proofs.marks.marks_of.Goals.{then-place-len, else-place-len}
+use Rattle.ordered_lists.proofs.marks.marks_of.Goals.{else-place-len, then-place-len}
 
 pub loop-number-preserved : goal.loop-number-preserved
 loop-number-preserved c =

@@ -1,4 +1,4 @@
-use Rattle.ordered_lists.proofs.Common.{take, AreMarksOf}
+use Rattle.ordered_lists.proofs.Common.{AreMarksOf, take}
 use Rattle.ordered_lists.proofs.marks.marks_of.Given as goal
 
 abbrev pub invariant-loop-number : goal.invariant-loop-number

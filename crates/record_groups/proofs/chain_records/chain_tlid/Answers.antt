@@ -1,4 +1,5 @@
-use Rattle.record_groups.proofs.{Common.IsNumber, Common.chain_there, Common.subst, Common.sym, Records.RecordPlaces.tlid_of}
+use Rattle.record_groups.proofs.Common.{IsNumber, chain_there, subst, sym}
+use Rattle.record_groups.proofs.Records.RecordPlaces.{tlid_of}
 use Rattle.record_groups.proofs.chain_records.chain_tlid.Goals as goal
 
 pub returns-clause-in_range : goal.returns-clause-in_range

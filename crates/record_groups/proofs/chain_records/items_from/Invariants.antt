@@ -1,4 +1,4 @@
-use Rattle.record_groups.proofs.Common.{◌≡◌, drop, take}
+use Rattle.record_groups.proofs.Common.{drop, take, ◌≡◌}
 use Rattle.record_groups.proofs.chain_records.items_from.Given as goal
 
 -- the items from the first one up to this one

@@ -1,4 +1,4 @@
-use Rattle.record_groups.proofs.Common.{◌∙◌, ◌+◌, ◌∷◌, sym, ap, arith}
+use Rattle.record_groups.proofs.Common.{ap, arith, sym, ◌+◌, ◌∙◌, ◌∷◌}
 use Rattle.record_groups.proofs.Records.GroupRests.{rest_before, rest_goes_on, rest_none, rest_passed}
 use Rattle.record_groups.proofs.cursor.next.Goals as goal
 

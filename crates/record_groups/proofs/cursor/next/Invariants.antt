@@ -1,4 +1,4 @@
-use Rattle.record_groups.proofs.Common.{◌≡◌, ◌-◌, rest_of}
+use Rattle.record_groups.proofs.Common.{rest_of, ◌-◌, ◌≡◌}
 use Rattle.record_groups.proofs.cursor.next.Given as goal
 
 -- the rest is the same as at the beginning of the call

@@ -1,4 +1,5 @@
-use Rattle.record_groups.proofs.{Common.ap, Texts.GroupOrders.same_spelling}
+use Rattle.record_groups.proofs.Common.{ap}
+use Rattle.record_groups.proofs.Texts.GroupOrders.{same_spelling}
 use Rattle.record_groups.proofs.group_order.compare_records.Goals as goal
 
 pub returns-then-is_same : goal.returns-then-is_same

@@ -1,5 +1,6 @@
 use Rattle.record_groups.proofs.Common.{Err, Ok, arith, drop, err_from_is_err_and, grouped, length-take, map, subst, sym, take, ◌∙◌}
-use Rattle.record_groups.proofs.{Records.GivenGroups.around_groups, Records.GivenGroups.with_groups, Records.OneAfterAnother.second_stops}
+use Rattle.record_groups.proofs.Records.GivenGroups.{around_groups, with_groups}
+use Rattle.record_groups.proofs.Records.OneAfterAnother.{second_stops}
 use Rattle.record_groups.proofs.groups.visit_groups.Goals as goal
 
 pub returns-in_err-visit_headed-clause-given : goal.returns-in_err-visit_headed-clause-given

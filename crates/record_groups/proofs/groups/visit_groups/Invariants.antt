@@ -1,4 +1,4 @@
-use Rattle.record_groups.proofs.Common.{◌≡◌, ◌≤◌, ◌-◌, length, map, take, Ok, grouped}
+use Rattle.record_groups.proofs.Common.{Ok, grouped, length, map, take, ◌-◌, ◌≡◌, ◌≤◌}
 use Rattle.record_groups.proofs.groups.visit_groups.Given as goal
 
 -- the records of the groups before `first` were taken

@@ -1,5 +1,6 @@
 use Rattle.record_groups.proofs.Common.{Ok, drop, err_from_is_err_and, group_at, grouped, length, map, subst, suc, sym, take, ◌+◌}
-use Rattle.record_groups.proofs.{Records.GivenGroups.around_group, Records.GivenGroups.with_group, Records.OneAfterAnother.second_stops}
+use Rattle.record_groups.proofs.Records.GivenGroups.{around_group, with_group}
+use Rattle.record_groups.proofs.Records.OneAfterAnother.{second_stops}
 use Rattle.record_groups.proofs.groups.visit_headed.Goals as goal
 
 pub returns-in_err-visit_whole_group-clause-given : goal.returns-in_err-visit_whole_group-clause-given

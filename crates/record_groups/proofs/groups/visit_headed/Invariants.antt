@@ -1,4 +1,4 @@
-use Rattle.record_groups.proofs.Common.{drop, length, map, take, Ok, grouped}
+use Rattle.record_groups.proofs.Common.{Ok, drop, grouped, length, map, take}
 use Rattle.record_groups.proofs.groups.visit_headed.Given as goal
 
 -- the records of the first `ahead` groups were taken

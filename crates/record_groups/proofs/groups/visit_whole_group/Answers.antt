@@ -1,5 +1,4 @@
-use Rattle.record_groups.proofs.Common.{Ok, [], add-one, ap, arith, drop, err_from_is_err_and, group_at, map, map-append, next_taken}
-use Rattle.record_groups.proofs.Common.{parted, some_at, subst, suc, sym, take, ◌++◌, ◌+◌, ◌∙◌, ◌∷◌, ◌≡◌}
+use Rattle.record_groups.proofs.Common.{Ok, [], add-one, ap, arith, drop, err_from_is_err_and, group_at, map, map-append, next_taken, parted, some_at, subst, suc, sym, take, ◌++◌, ◌+◌, ◌∙◌, ◌∷◌, ◌≡◌}
 use Rattle.record_groups.proofs.Records.OneAfterAnother.{second_stops}
 use Rattle.record_groups.proofs.groups.visit_whole_group.Goals as goal
 

@@ -1,4 +1,4 @@
-use Rattle.record_groups.proofs.Common.{map, take, Ok, group_at}
+use Rattle.record_groups.proofs.Common.{Ok, group_at, map, take}
 use Rattle.record_groups.proofs.groups.visit_whole_group.Given as goal
 
 -- the records up to the place were taken

@@ -1,4 +1,5 @@
-use Rattle.record_groups.proofs.{Common.slice_eq-Decides, Records.RecordFields.points_decide}
+use Rattle.record_groups.proofs.Common.{slice_eq-Decides}
+use Rattle.record_groups.proofs.Records.RecordFields.{points_decide}
 use Rattle.record_groups.proofs.record_eq.have_same_points.Goals as goal
 
 pub returns : goal.returns

@@ -1,4 +1,4 @@
-use Rattle.record_groups.proofs.Common.{◌≡◌, ◌≤◌, ◌-◌, length, take}
+use Rattle.record_groups.proofs.Common.{length, take, ◌-◌, ◌≡◌, ◌≤◌}
 use Rattle.record_groups.proofs.same_groups.are_same_groups.Given as goal
 
 -- the groups up to the first remaining one are the same

@@ -1,5 +1,6 @@
 use Rattle.record_groups.proofs.Common.{arith, drop, length, length_headed, rules, same_next, sym, take, true, ◌∙◌, ◌≡◌}
-use Rattle.record_groups.proofs.{Records.Grouped.group_headed, Records.SameGroups.same_group}
+use Rattle.record_groups.proofs.Records.Grouped.{group_headed}
+use Rattle.record_groups.proofs.Records.SameGroups.{same_group}
 use Rattle.record_groups.proofs.same_groups.are_same_headed.Goals as goal
 
 pub loop-ahead-preserved : goal.loop-ahead-preserved

@@ -1,4 +1,4 @@
-use Rattle.record_groups.proofs.Common.{◌≡◌, drop, length, take}
+use Rattle.record_groups.proofs.Common.{drop, length, take, ◌≡◌}
 use Rattle.record_groups.proofs.same_groups.are_same_headed.Given as goal
 
 -- the groups up to the one ahead are the same

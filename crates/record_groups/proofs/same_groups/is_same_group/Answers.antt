@@ -1,5 +1,4 @@
-use Rattle.record_groups.proofs.Common.{Decides, YieldsList-from_range, arith, cases_from_all, decides_equal, false, false≢true, group_at}
-use Rattle.record_groups.proofs.Common.{places_from_decide, refl, rules, slice_get, sym, true, ℕ, ◌-◌, ◌∙◌, ◌≡◌}
+use Rattle.record_groups.proofs.Common.{Decides, YieldsList-from_range, arith, cases_from_all, decides_equal, false, false≢true, group_at, places_from_decide, refl, rules, slice_get, sym, true, ℕ, ◌-◌, ◌∙◌, ◌≡◌}
 use Rattle.record_groups.proofs.same_groups.is_same_group.Goals as goal
 
 pub returns-then-count_in-count : goal.returns-then-count_in-count

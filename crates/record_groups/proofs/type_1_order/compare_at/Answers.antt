@@ -1,4 +1,4 @@
-use Rattle.record_groups.proofs.Common.{ap, ◌∙◌, one_at, option_cmp, spelling_cmp}
+use Rattle.record_groups.proofs.Common.{ap, one_at, option_cmp, spelling_cmp, ◌∙◌}
 use Rattle.record_groups.proofs.Texts.TypeOnes.{same_one}
 use Rattle.record_groups.proofs.type_1_order.compare_at.Goals as goal
 

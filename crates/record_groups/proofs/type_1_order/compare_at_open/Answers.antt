@@ -1,7 +1,7 @@
-use Rattle.record_groups.proofs.Common.{AreTiedAt, DirectedChain, List, ap₂, arith, arranged_by, below_more, false, get_or, length, ones_of}
-use Rattle.record_groups.proofs.Common.{option_cmp, slice_get, slice_get-get_or, spelling_cmp, sym, ◌<◌, ◌∙◌, ◌≡◌}
+use Rattle.record_groups.proofs.Common.{AreTiedAt, DirectedChain, List, ap₂, arith, arranged_by, below_more, false, get_or, length, ones_of, option_cmp, slice_get, slice_get-get_or, spelling_cmp, sym, ◌<◌, ◌∙◌, ◌≡◌}
 use Rattle.record_groups.proofs.Texts.TypeOnes.{length_whole, ones_arranged_by}
-use Rattle.record_groups.proofs.{Texts.TiedOnes.first_untied, type_1_order.compare_at_open.Given.Over}
+use Rattle.record_groups.proofs.Texts.TiedOnes.{first_untied}
+use Rattle.record_groups.proofs.type_1_order.compare_at_open.Given.{Over}
 use Rattle.record_groups.proofs.type_1_order.compare_at_open.Goals.{After-compare_at}
 use Rattle.record_groups.proofs.type_1_order.compare_at_open.Goals as goal
 

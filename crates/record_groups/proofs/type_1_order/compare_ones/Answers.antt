@@ -1,4 +1,4 @@
-use Rattle.record_groups.proofs.Common.{AllByRecursion, IsApart, ArePlacesInOrder, arranged_by, before_apart, nothing_left, ones_of, subst, sym}
+use Rattle.record_groups.proofs.Common.{AllByRecursion, ArePlacesInOrder, IsApart, arranged_by, before_apart, nothing_left, ones_of, subst, sym}
 use Rattle.record_groups.proofs.Texts.TiedOnes.{all_tied, same_tied}
 use Rattle.record_groups.proofs.type_1_order.compare_ones.Goals as goal
 

@@ -1,5 +1,5 @@
 -- The records apart from the remaining open places are tied.
-use Rattle.record_groups.proofs.Common.{AllByRecursion, AreTiedAt, AreWithin, IsApart, ArePlacesInOrder, arranged_by, length, ones_of, ℕ}
+use Rattle.record_groups.proofs.Common.{AllByRecursion, ArePlacesInOrder, AreTiedAt, AreWithin, IsApart, arranged_by, length, ones_of, ℕ}
 use Rattle.record_groups.proofs.type_1_order.compare_ones.Given as goal
 
 abbrev pub invariant-loop-at : goal.invariant-loop-at

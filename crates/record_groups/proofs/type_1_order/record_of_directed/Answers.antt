@@ -1,5 +1,4 @@
-use Rattle.record_groups.proofs.Common.{Some, ap, arith, few_chains, first_at, first_point, last_at, last_point, length}
-use Rattle.record_groups.proofs.Common.{option_map, packed_one, points_of, slice_get, some-same, sym, ◌+◌, ◌-◌, ◌∙◌, ◌≡◌}
+use Rattle.record_groups.proofs.Common.{Some, ap, arith, few_chains, first_at, first_point, last_at, last_point, length, option_map, packed_one, points_of, slice_get, some-same, sym, ◌+◌, ◌-◌, ◌∙◌, ◌≡◌}
 use Rattle.record_groups.proofs.Texts.TypeOnes.{directed_there}
 use Rattle.record_groups.proofs.type_1_order.record_of_directed.Goals as goal
 

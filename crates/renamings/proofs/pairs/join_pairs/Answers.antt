@@ -1,5 +1,6 @@
-use Rattle.renamings.proofs.{Common.pair_on, Tables.joined-pairs}
-use Rattle.county_chart.proofs.Common.{ap, filter_map, sym, ◌∙◌}
+use Rattle.renamings.proofs.Common.{pair_on}
+use Rattle.renamings.proofs.Tables.{joined-pairs}
+use Rattle.std.proofs.Common.{ap, filter_map, sym, ◌∙◌}
 use Rattle.renamings.proofs.pairs.join_pairs.Goals as goal
 
 pub returns : goal.returns

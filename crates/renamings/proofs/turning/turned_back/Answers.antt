@@ -1,5 +1,6 @@
-use Rattle.renamings.proofs.{Common.named_images, Tables.named_images-filtered}
-use Rattle.county_chart.proofs.Common.{ap, nat_cmp, sym, ◌∙◌}
+use Rattle.renamings.proofs.Common.{named_images}
+use Rattle.renamings.proofs.Tables.{named_images-filtered}
+use Rattle.std.proofs.Common.{ap, nat_cmp, sym, ◌∙◌}
 use Rattle.renamings.proofs.turning.turned_back.Goals as goal
 
 pub returns : goal.returns

@@ -1,11 +1,10 @@
 use Rattle.std.proofs.Common.{[]}
 use Rattle.std.proofs.lemmas.Result.{IfOk-weaker}
-use Rattle.county_chart.specs.Limits.{most_records}
+use Rattle.tl_layout.specs.Limits.{IsWithinLimit, most_records}
 use Rattle.tl_load.proofs.RecordLines.{accepted_within}
 use Rattle.tl_load.specs.Choice.{tiger}
 use Rattle.tl_load.specs.Loaded.{all_parts}
 use Rattle.tl_load.specs.Outcome.{SpellsWithin}
-use Rattle.tl_layout.specs.Limits.{IsWithinLimit}
 use Rattle.test_support.proofs.sets.records_of.Goals as goal
 
 pub returns-clause-few : goal.returns-clause-few

@@ -1,4 +1,5 @@
-use Rattle.tigercanon.proofs.{Common.plain, Common.plain_view, Sets.text_accepted, Sets.text_itself}
+use Rattle.tigercanon.proofs.Common.{plain, plain_view}
+use Rattle.tigercanon.proofs.Sets.{text_accepted, text_itself}
 use Rattle.tigercanon.proofs.laws.a_canonical_text_is_its_own.Goals as goal
 
 pub returns-clause-accepted : goal.returns-clause-accepted

@@ -1,4 +1,5 @@
-use Rattle.tigercanon.proofs.{Common.plain, Common.plain_view, Sets.canonical_text, Sets.one_text}
+use Rattle.tigercanon.proofs.Common.{plain, plain_view}
+use Rattle.tigercanon.proofs.Sets.{canonical_text, one_text}
 use Rattle.tigercanon.proofs.laws.an_accepted_set_has_one_canonical_text.Goals as goal
 
 pub returns-clause-exists : goal.returns-clause-exists

@@ -1,4 +1,5 @@
-use Rattle.tigercanon.proofs.{Common.plain, Common.plain_view, Sets.one_text_same, Sets.same_one_text}
+use Rattle.tigercanon.proofs.Common.{plain, plain_view}
+use Rattle.tigercanon.proofs.Sets.{one_text_same, same_one_text}
 use Rattle.tigercanon.proofs.laws.one_canonical_text_exactly_for_one_map.Goals as goal
 
 pub returns-clause-same : goal.returns-clause-same

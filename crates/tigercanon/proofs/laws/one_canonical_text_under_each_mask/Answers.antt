@@ -1,5 +1,6 @@
 use Rattle.tigercanon.proofs.Sets.{canonical_text, one_text, one_text_same, same_one_text, text_as_it_is, text_itself}
-use Rattle.tigercanon.proofs.{Common.IsCanonicalTextInView, Common.masked, Common.masked_view, Masking.as_it_is, Masking.under_none}
+use Rattle.tigercanon.proofs.Common.{IsCanonicalTextInView, masked, masked_view}
+use Rattle.tigercanon.proofs.Masking.{as_it_is, under_none}
 use Rattle.tigercanon.proofs.laws.one_canonical_text_under_each_mask.Goals as goal
 
 pub returns-clause-exists : goal.returns-clause-exists

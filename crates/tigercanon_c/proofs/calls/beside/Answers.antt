@@ -1,5 +1,6 @@
-use Rattle.tigercanon.proofs.Common.{YieldsList-from_map_by, map_from_collect, rules, tests}
-use Rattle.county_chart.proofs.Common.{YieldsList-from_slice}
+use Rattle.std.proofs.lemmas.Iterator.{YieldsList-from_map_by, YieldsList-from_slice}
+use Rattle.std.proofs.lemmas.Iterator.Consumers.{map_from_collect}
+use Rattle.std.proofs.Common.{rules, tests}
 use Rattle.tigercanon_c.proofs.calls.beside.Goals as goal
 
 pub returns : goal.returns

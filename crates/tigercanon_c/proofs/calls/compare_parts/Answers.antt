@@ -1,4 +1,6 @@
-use Rattle.tigercanon.proofs.Common.{IfErr, ReportsRefusalOfOne, ap, bytes_of_parts, subst, ◌∙◌}
+use Rattle.std.proofs.Common.{IfErr, ap, subst, ◌∙◌}
+use Rattle.tigercanon.specs.Comparing.{ReportsRefusalOfOne}
+use Rattle.tigercanon.specs.LentParts.{bytes_of_parts}
 use Rattle.tigercanon_c.specs.Answers.{bytes_of_lent}
 use Rattle.tigercanon_c.proofs.calls.compare_parts.Goals as goal
 

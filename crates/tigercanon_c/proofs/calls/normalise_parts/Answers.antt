@@ -1,4 +1,8 @@
-use Rattle.tigercanon.proofs.Common.{IsOneCanonicalTextInView, IsOnlyTextInView, ap, bytes_of_parts, masked, subst, sym, ◌∙◌}
+use Rattle.tigercanon.specs.Sets.{IsOneCanonicalTextInView}
+use Rattle.tigercanon.specs.Normalising.{IsOnlyTextInView}
+use Rattle.std.proofs.Common.{ap, subst, sym, ◌∙◌}
+use Rattle.tigercanon.specs.LentParts.{bytes_of_parts}
+use Rattle.county_chart.specs.MaskedCounty.{masked}
 use Rattle.tigercanon_c.proofs.calls.normalise_parts.Goals as goal
 
 pub returns-in-Ok-clause-only : goal.returns-in-Ok-clause-only

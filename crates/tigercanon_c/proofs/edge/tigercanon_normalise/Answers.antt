@@ -1,4 +1,7 @@
-use Rattle.tigercanon.proofs.Common.{IsOneCanonicalTextInView, IsOnlyTextInView, List, inr, masked, subst, sym, ℕ, ◌∙◌}
+use Rattle.tigercanon.specs.Sets.{IsOneCanonicalTextInView}
+use Rattle.tigercanon.specs.Normalising.{IsOnlyTextInView}
+use Rattle.std.proofs.Common.{List, inr, subst, sym, ℕ, ◌∙◌}
+use Rattle.county_chart.specs.MaskedCounty.{masked}
 use Rattle.tigercanon_c.specs.Answers.{bytes_of_lent, mask_of}
 use Rattle.tigercanon_c.proofs.edge.tigercanon_normalise.Goals as goal
 

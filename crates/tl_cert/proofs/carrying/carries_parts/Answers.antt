@@ -1,5 +1,5 @@
-use Rattle.tl_cert.proofs.Common.{◌≡◌, true, false, rules, decides_no, decides_same}
-use Rattle.tl_cert.proofs.PartsCarried.{parts_there, parts_carried}
+use Rattle.tl_cert.proofs.Common.{decides_no, decides_same, false, rules, true, ◌≡◌}
+use Rattle.tl_cert.proofs.PartsCarried.{parts_carried, parts_there}
 use Rattle.tl_cert.specs.PartsThere.{tabled}
 use Rattle.tl_cert.proofs.carrying.carries_parts.Goals as goal
 

@@ -1,4 +1,4 @@
-use Rattle.tl_cert.proofs.Common.{◌≡◌, IfOk, rules, subst, sym, true, Decides, Carries, NumbersArePaired}
+use Rattle.tl_cert.proofs.Common.{Carries, Decides, IfOk, NumbersArePaired, rules, subst, sym, true, ◌≡◌}
 use Rattle.tl_cert.proofs.carrying.check.Goals as goal
 
 pub carries_parts-requires : goal.carries_parts-requires

@@ -1,4 +1,4 @@
-use Rattle.tl_cert.proofs.Common.{◌≡◌, take, flat_map, of_number, eight_land, lands}
+use Rattle.tl_cert.proofs.Common.{eight_land, flat_map, lands, of_number, take, ◌≡◌}
 use Rattle.tl_cert.proofs.links.links_of.Given as goal
 
 abbrev pub invariant-loop-place : goal.invariant-loop-place

@@ -1,6 +1,6 @@
-use Rattle.tl_county.proofs.Sameness.SameCounty.{reordered-linked, reordered-county}
-use Rattle.tl_county.proofs.Packing.Repacking.{resequenced-linked, resequenced-county}
-use Rattle.tl_county.proofs.Packing.Splitting.{split-county, joined-county, left_out-county}
+use Rattle.tl_county.proofs.Sameness.SameCounty.{reordered-county, reordered-linked}
+use Rattle.tl_county.proofs.Packing.Repacking.{resequenced-county, resequenced-linked}
+use Rattle.tl_county.proofs.Packing.Splitting.{joined-county, left_out-county, split-county}
 use Rattle.tl_county.proofs.laws.the_county_is_what_the_records_say.Goals as goal
 
 pub returns-clause-reordered : goal.returns-clause-reordered

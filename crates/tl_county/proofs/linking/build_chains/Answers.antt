@@ -1,6 +1,4 @@
-use Rattle.tl_county.proofs.Common.{IsStrictlySortedBy, ap, at_places, chains_along, entries-equal, keys-map_values, keys-zip, length}
-use Rattle.tl_county.proofs.Common.{length-map, map, map_values, nat_cmp, one_tlid, ordered_of, subst, sym, values-map_values, values-zip}
-use Rattle.tl_county.proofs.Common.{◌∙◌, ◌≡◌}
+use Rattle.tl_county.proofs.Common.{IsStrictlySortedBy, ap, at_places, chains_along, entries-equal, keys-map_values, keys-zip, length, length-map, map, map_values, nat_cmp, one_tlid, ordered_of, subst, sym, values-map_values, values-zip, ◌∙◌, ◌≡◌}
 use Rattle.tl_county.proofs.Rules.BuiltTables.{beside, length-chains_along, tlids-ascend}
 use Rattle.tl_county.proofs.Rules.TlidsInOrder.{fours_in_order, sixes_in_order, twos_in_order}
 use Rattle.tl_county.proofs.linking.build_chains.Goals as goal

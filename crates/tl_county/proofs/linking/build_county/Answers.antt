@@ -1,6 +1,4 @@
-use Rattle.tl_county.proofs.Common.{Fields5, IsCounty, IsStrictlySortedBy, IsWithinLimits, LinksUnderLands, ap, county_along, county_with}
-use Rattle.tl_county.proofs.Common.{distinct, distinct_same, five_feat, flat_map, from_permutation, length, length-map, map, map_values}
-use Rattle.tl_county.proofs.Common.{most_records, nat_cmp, nat_keys, nodes, ordered_of, pieces_alike, subst, sym, topology_nodes, ◌∙◌, ◌≡◌}
+use Rattle.tl_county.proofs.Common.{Fields5, IsCounty, IsStrictlySortedBy, IsWithinLimits, LinksUnderLands, ap, county_along, county_with, distinct, distinct_same, five_feat, flat_map, from_permutation, length, length-map, map, map_values, most_records, nat_cmp, nat_keys, nodes, ordered_of, pieces_alike, subst, sym, topology_nodes, ◌∙◌, ◌≡◌}
 use Rattle.tl_county.proofs.Rules.BuiltTables.{as_built, built-is_county, feats-ascend, links_under_lands-along, names-built, nodes-built}
 use Rattle.tl_county.proofs.linking.build_county.Given.{Over}
 use Rattle.tl_county.proofs.linking.build_county.Goals as goal

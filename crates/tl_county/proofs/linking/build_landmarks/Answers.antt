@@ -1,5 +1,4 @@
-use Rattle.tl_county.proofs.Common.{List, ap, distinct, distinct-strict, entries-equal, keys-map_values, landmark_of, map, map-id, map-map}
-use Rattle.tl_county.proofs.Common.{map_values, nat_cmp, nat_keys, rules, seven_land, sym, values-map_values, ℕ, ◌∙◌, ◌≡◌}
+use Rattle.tl_county.proofs.Common.{List, ap, distinct, distinct-strict, entries-equal, keys-map_values, landmark_of, map, map-id, map-map, map_values, nat_cmp, nat_keys, rules, seven_land, sym, values-map_values, ℕ, ◌∙◌, ◌≡◌}
 use Rattle.tl_county.proofs.Rules.TlidsInOrder.{tables_in_order}
 use Rattle.tl_county.proofs.linking.build_landmarks.Goals as goal
 

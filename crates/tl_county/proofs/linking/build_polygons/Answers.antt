@@ -1,5 +1,4 @@
-use Rattle.tl_county.proofs.Common.{IsStrictlySortedBy, PolygonKey, distinct-strict, entries-equal, ordered_of, polygon_body_of, side_keys}
-use Rattle.tl_county.proofs.Common.{List, distinct, flat_map, key_cmp, key_keys, map, map-id, map-map, p_key, rules, subst, sym, ◌++◌, ◌∙◌}
+use Rattle.tl_county.proofs.Common.{IsStrictlySortedBy, List, PolygonKey, distinct, distinct-strict, entries-equal, flat_map, key_cmp, key_keys, map, map-id, map-map, ordered_of, p_key, polygon_body_of, rules, side_keys, subst, sym, ◌++◌, ◌∙◌}
 use Rattle.tl_county.proofs.linking.build_polygons.Goals as goal
 
 pub polygon_bodies-requires-clause-polygons : goal.polygon_bodies-requires-clause-polygons

@@ -1,5 +1,4 @@
-use Rattle.tl_county.proofs.Common.{AreLeastRepeated, Err, IfErr, IsFirstBrokenRule, IsFirstFrom, IsLinked, LinkFault, List, MatchResult}
-use Rattle.tl_county.proofs.Common.{Ok, OnOk, Record, Result, RulesHold, arith, err_from_is_err_and, rules, subst, sym, ℕ}
+use Rattle.tl_county.proofs.Common.{AreLeastRepeated, Err, IfErr, IsFirstBrokenRule, IsFirstFrom, IsLinked, LinkFault, List, MatchResult, Ok, OnOk, Record, Result, RulesHold, arith, err_from_is_err_and, rules, subst, sym, ℕ}
 use Rattle.tl_county.proofs.Rules.RuleOrders.{all_hold, first-after, first_of_all, rules-join}
 use Rattle.tl_county.proofs.linking.check_rules.Goals as goal
 

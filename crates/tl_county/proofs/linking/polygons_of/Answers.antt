@@ -1,6 +1,4 @@
-use Rattle.tl_county.proofs.Common.{FieldsI, IfOk-weaker, IsLeastPassing, List, PolygonKey, ap, distinct, distinct-more, distinct_same}
-use Rattle.tl_county.proofs.Common.{flat_map, from_permutation, is_unknown, key_cmp, key_keys, least-same, map, not, ordered_of, p_key}
-use Rattle.tl_county.proofs.Common.{pieces_alike, side_keys, contains, ◌&&◌, ◌++◌, ◌∙◌, ◌≡◌}
+use Rattle.tl_county.proofs.Common.{FieldsI, IfOk-weaker, IsLeastPassing, List, PolygonKey, ap, contains, distinct, distinct-more, distinct_same, flat_map, from_permutation, is_unknown, key_cmp, key_keys, least-same, map, not, ordered_of, p_key, pieces_alike, side_keys, ◌&&◌, ◌++◌, ◌∙◌, ◌≡◌}
 use Rattle.tl_county.proofs.linking.polygons_of.Goals as goal
 
 pub returns-clause-keys : goal.returns-clause-keys

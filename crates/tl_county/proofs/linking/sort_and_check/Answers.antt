@@ -1,5 +1,4 @@
-use Rattle.tl_county.proofs.Common.{HoldsByType, IsFirstBrokenRule, List, Memory, Record, by_type_of, exit_with, in_order-map}
-use Rattle.tl_county.proofs.Common.{ordered_of, rules, type_after_type, typed_of, ◌≢◌}
+use Rattle.tl_county.proofs.Common.{HoldsByType, IsFirstBrokenRule, List, Memory, Record, by_type_of, exit_with, in_order-map, ordered_of, rules, type_after_type, typed_of, ◌≢◌}
 use Rattle.tl_county.proofs.Rules.BuiltTables.{also_first, held}
 use Rattle.tl_county.proofs.linking.sort_and_check.Goals as goal
 

@@ -1,5 +1,6 @@
 use Rattle.tl_layout.proofs.Common.{ap, arith, digits_text, length-set, slice_set, sym, ℕ, ◌%◌, ◌+◌, ◌-◌, ◌/◌, ◌∙◌, ◌∷◌}
-use Rattle.tl_layout.proofs.{Columns.last_eight_digits, Columns.nine_digits_text, Writes.first_then_rest}
+use Rattle.tl_layout.proofs.Columns.{last_eight_digits, nine_digits_text}
+use Rattle.tl_layout.proofs.Writes.{first_then_rest}
 use borrow.Rule.Slice.PartMut.{put_mid}
 use Rattle.tl_layout.proofs.coordinate.put_digits.Goals as goal
 

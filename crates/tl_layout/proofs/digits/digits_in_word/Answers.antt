@@ -1,4 +1,4 @@
-use Rattle.std.proofs.Common.{◌<◌, refl, ◌∙◌, arith}
+use Rattle.std.proofs.Common.{arith, refl, ◌<◌, ◌∙◌}
 use Rattle.tl_layout.proofs.WrittenWords.{AreParted, hundreds_of, pairs_of, parted, tens_of}
 use Rattle.tl_layout.proofs.digits.digits_in_word.Goals as goal
 use Rattle.tl_layout.proofs.digits.digits_in_word.Goals.{After-from-low}

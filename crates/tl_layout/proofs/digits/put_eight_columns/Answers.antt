@@ -1,5 +1,6 @@
 use Rattle.tl_layout.proofs.Common.{arith, ◌%◌, ◌/◌, ◌∙◌}
-use Rattle.tl_layout.proofs.{Columns.eight_columns_text, WrittenWords.columns_shown}
+use Rattle.tl_layout.proofs.Columns.{eight_columns_text}
+use Rattle.tl_layout.proofs.WrittenWords.{columns_shown}
 use Rattle.tl_layout.proofs.digits.put_eight_columns.Goals as goal
 
 pub returns : goal.returns

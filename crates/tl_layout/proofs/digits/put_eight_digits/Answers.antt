@@ -1,5 +1,6 @@
 use Rattle.tl_layout.proofs.Common.{arith, ◌%◌, ◌/◌, ◌∙◌}
-use Rattle.tl_layout.proofs.{Columns.eight_digits_text, WrittenWords.digits_shown}
+use Rattle.tl_layout.proofs.Columns.{eight_digits_text}
+use Rattle.tl_layout.proofs.WrittenWords.{digits_shown}
 use Rattle.tl_layout.proofs.digits.put_eight_digits.Goals as goal
 
 pub overflow_add-text : goal.overflow_add-text

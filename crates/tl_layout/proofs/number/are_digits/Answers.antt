@@ -1,5 +1,4 @@
-use Rattle.tl_layout.proofs.Common.{Each1-get_or, ap, arith, bitmask_splat, get_or, length, length-zip2, lit≤, ltb, map, map-map}
-use Rattle.tl_layout.proofs.Common.{replicate, sym, unsigned_Decides, w8, zip2_splat, ℕ, ◌%◌, ◌+◌, ◌-◌, ◌^◌, ◌∙◌, ◌≡◌}
+use Rattle.tl_layout.proofs.Common.{Each1-get_or, ap, arith, bitmask_splat, get_or, length, length-zip2, lit≤, ltb, map, map-map, replicate, sym, unsigned_Decides, w8, zip2_splat, ℕ, ◌%◌, ◌+◌, ◌-◌, ◌^◌, ◌∙◌, ◌≡◌}
 use Rattle.tl_layout.proofs.Words.{digit_from, digit_is_low, full_mask, mask_full}
 use mir.Val.{Fits}
 use lib.Lanes.{mask_l, zip2}

@@ -1,5 +1,6 @@
 -- There are fewer than nineteen digits before a digit, so it fits with them.
-use Rattle.tl_layout.proofs.{Common.arith, NumberLemmas.digit_fits}
+use Rattle.tl_layout.proofs.Common.{arith}
+use Rattle.tl_layout.proofs.NumberLemmas.{digit_fits}
 use Rattle.tl_layout.proofs.number.digits.Goals as goal
 
 pub overflow_mul-value : goal.overflow_mul-value

@@ -1,7 +1,6 @@
 -- Eight digits in a word make the same number as one after another.
 use Rattle.tl_layout.proofs.Common.{Some, arith, bit_and, get_or, number_after, refl, ℕ, ◌*◌, ◌+◌, ◌-◌, ◌/◌, ◌<◌, ◌^◌, ◌∙◌, ◌≡◌, ◌≤◌}
-use Rattle.tl_layout.proofs.Words.{IsDigitOf, digit_of, digits_in_word, eight_digits_below, eight_in_word, number_of_eight, number_with}
-use Rattle.tl_layout.proofs.Words.{word_of}
+use Rattle.tl_layout.proofs.Words.{IsDigitOf, digit_of, digits_in_word, eight_digits_below, eight_in_word, number_of_eight, number_with, word_of}
 use Rattle.tl_layout.proofs.number.eight_digits.Goals as goal
 use Rattle.tl_layout.proofs.number.eight_digits.Goals.{After-from_le_bytes-ones}
 

@@ -1,5 +1,6 @@
 use Rattle.tl_layout.proofs.Common.{Some, and_from, ap, arith, le-leb, true, ℕ, ◌*◌, ◌+◌, ◌-◌, ◌∙◌, ◌≡◌, ◌≤◌}
-use Rattle.tl_layout.specs.{NumberField.is_digit, NumberReading.number_after}
+use Rattle.tl_layout.specs.NumberField.{is_digit}
+use Rattle.tl_layout.specs.NumberReading.{number_after}
 use Rattle.tl_layout.proofs.number.nine_digits.Goals as goal
 
 pub overflow_add-result : goal.overflow_add-result

@@ -1,7 +1,7 @@
 use Rattle.tl_layout.proofs.Common.{ap, arith, cases_lt, length-set, slice_set, ℕ, ◌%◌, ◌+◌, ◌/◌, ◌<◌, ◌∙◌, ◌∷◌, ◌≡◌, ◌≤◌}
 use Rattle.tl_layout.proofs.Columns.{first_of_ten, ten_columns_high, ten_columns_low, two_then_rest}
 use Rattle.tl_layout.proofs.number.put_ten_columns.Goals as goal
-use Rattle.tl_layout.proofs.number.put_ten_columns.Goals.{then-high-lt10, else-high-lt10}
+use Rattle.tl_layout.proofs.number.put_ten_columns.Goals.{else-high-lt10, then-high-lt10}
 
 pub returns-then-number-lt100000000 : goal.returns-then-number-lt100000000
 returns-then-number-lt100000000 c =

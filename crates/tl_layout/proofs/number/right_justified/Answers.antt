@@ -1,7 +1,7 @@
-use Rattle.tl_layout.proofs.Common.{IfSome, Option, Some, ap, arith, bit_and, bitmask_splat, eqb, length-map, lit≤, map, mask_l-lt}
-use Rattle.tl_layout.proofs.Common.{number_after, replicate, subst, sym, tops_compared, w8, zip2_splat, ℕ, ◌+◌, ◌<◌, ◌∙◌, ◌≡◌}
+use Rattle.tl_layout.proofs.Common.{IfSome, Option, Some, ap, arith, bit_and, bitmask_splat, eqb, length-map, lit≤, map, mask_l-lt, number_after, replicate, subst, sym, tops_compared, w8, zip2_splat, ℕ, ◌+◌, ◌<◌, ◌∙◌, ◌≡◌}
 use Rattle.tl_layout.proofs.Words.{gives_number, selected}
-use Rattle.tl_layout.specs.{NumberField.is_blank, NumberReading.number_of}
+use Rattle.tl_layout.specs.NumberField.{is_blank}
+use Rattle.tl_layout.specs.NumberReading.{number_of}
 use lib.Lanes.{mask_l, sel_l}
 use Rattle.tl_layout.proofs.number.right_justified.Goals as goal
 

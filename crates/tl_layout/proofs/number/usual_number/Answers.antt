@@ -1,7 +1,7 @@
-use Rattle.tl_layout.proofs.Common.{IfSome, Option, Some, ap, chunk, drop_blanks, false, get_or, ne_eqb, number_after, refl, subst, sym, ℕ}
-use Rattle.tl_layout.proofs.Common.{◌∙◌, ◌∷◌, ◌≡◌}
+use Rattle.tl_layout.proofs.Common.{IfSome, Option, Some, ap, chunk, drop_blanks, false, get_or, ne_eqb, number_after, refl, subst, sym, ℕ, ◌∙◌, ◌∷◌, ◌≡◌}
 use Rattle.tl_layout.proofs.CoordinateSteps.{two_and_eight}
-use Rattle.tl_layout.specs.{NumberField.is_blank, NumberReading.number_of}
+use Rattle.tl_layout.specs.NumberField.{is_blank}
+use Rattle.tl_layout.specs.NumberReading.{number_of}
 use Rattle.tl_layout.proofs.number.usual_number.Goals as goal
 
 pub returns-then-field-eq32-2 : goal.returns-then-field-eq32-2

@@ -1,6 +1,5 @@
 -- Each place was read as the reading of all places requires.
-use Rattle.tl_layout.proofs.Common.{Err, Ok, ap, arith, false, length, length_push, places_reading, refl, suc, sym, ℕ, ◌*◌, ◌+◌, ◌-◌, ◌∙◌}
-use Rattle.tl_layout.proofs.Common.{◌≡◌, ◌≤◌}
+use Rattle.tl_layout.proofs.Common.{Err, Ok, ap, arith, false, length, length_push, places_reading, refl, suc, sym, ℕ, ◌*◌, ◌+◌, ◌-◌, ◌∙◌, ◌≡◌, ◌≤◌}
 use Rattle.tl_layout.proofs.PlaceSteps.{after_none, after_some, at_end, at_fault, at_gap, at_start, column_within, next_column}
 use Rattle.tl_layout.proofs.place.read_places.Goals as goal
 use Rattle.tl_layout.proofs.place.read_places.Goals.{in-None, in-Some+else-unused}

@@ -1,6 +1,6 @@
 -- The places were written one after another.
 use Rattle.tl_layout.proofs.Common.{ap, arith, places_text, subst, suc, take, ℕ, ◌*◌, ◌++◌, ◌+◌, ◌∙◌, ◌≡◌}
-use Rattle.tl_layout.proofs.PlaceWrites.{place_written, all_written}
+use Rattle.tl_layout.proofs.PlaceWrites.{all_written, place_written}
 use Rattle.tl_layout.proofs.place.write_places.Goals as goal
 
 pub loop-place-preserved : goal.loop-place-preserved

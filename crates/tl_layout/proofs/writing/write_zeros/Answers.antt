@@ -1,4 +1,4 @@
-use Rattle.std.proofs.Common.{◌≡◌, ◌+◌, ◌-◌, ◌++◌, ℕ, List, length, take, pos, ◌∙◌, ap, sym, append_assoc, arith}
+use Rattle.std.proofs.Common.{List, ap, append_assoc, arith, length, pos, sym, take, ℕ, ◌++◌, ◌+◌, ◌-◌, ◌∙◌, ◌≡◌}
 use Rattle.tl_layout.specs.FieldTexts.{coordinate_text, digits_text}
 use Rattle.tl_layout.proofs.Writes.{columns_written}
 use Rattle.tl_layout.proofs.writing.write_zeros.Goals as goal

@@ -1,4 +1,5 @@
-use Rattle.tl_load.proofs.{Common.length-chunk, Common.length-zip2, Common.rules, Common.zip2_splat, Lanes.ascii_at}
+use Rattle.tl_load.proofs.Common.{length-chunk, length-zip2, rules, zip2_splat}
+use Rattle.tl_load.proofs.Lanes.{ascii_at}
 use Rattle.tl_load.proofs.bytes.from_delete.Goals as goal
 
 pub returns-clause-long : goal.returns-clause-long

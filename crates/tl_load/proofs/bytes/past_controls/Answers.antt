@@ -1,5 +1,4 @@
-use Rattle.tl_load.proofs.Common.{Each1, chunk, length, length-chunk, length-zip2, map, replicate, rules, subst, zip2, zip2_of_maps}
-use Rattle.tl_load.proofs.Common.{zip2_splat, ◌%◌, ◌+◌, ◌≡◌, ◌≤◌}
+use Rattle.tl_load.proofs.Common.{Each1, chunk, length, length-chunk, length-zip2, map, replicate, rules, subst, zip2, zip2_of_maps, zip2_splat, ◌%◌, ◌+◌, ◌≡◌, ◌≤◌}
 use Rattle.tl_load.proofs.Lanes.{clean_at}
 use Rattle.tl_load.proofs.bytes.past_controls.Goals as goal
 

@@ -1,4 +1,5 @@
-use Rattle.tl_load.proofs.{Common.rules, LineLaws.bad_none}
+use Rattle.tl_load.proofs.Common.{rules}
+use Rattle.tl_load.proofs.LineLaws.{bad_none}
 use Rattle.tl_load.proofs.judge.bad_place.Goals as goal
 
 pub returns-then-is_clean : goal.returns-then-is_clean

@@ -1,5 +1,5 @@
 use Rattle.std.proofs.Common.{rules}
-use Rattle.tl_load.proofs.LineLaws.{Reading, judged_is_line, line_is_judged, judged_fault_found, judged_fault_only}
+use Rattle.tl_load.proofs.LineLaws.{Reading, judged_fault_found, judged_fault_only, judged_is_line, line_is_judged}
 use Rattle.tl_load.proofs.laws.line_has_record.Goals as goal
 
 pub returns-clause-has_record : goal.returns-clause-has_record

@@ -1,5 +1,5 @@
 use Rattle.tl_load.specs.Choice.{tiger}
-use Rattle.tl_load.proofs.RecordLines.{record_of_judged, judged_of_record, fault_of_judged, judged_of_fault}
+use Rattle.tl_load.proofs.RecordLines.{fault_of_judged, judged_of_fault, judged_of_record, record_of_judged}
 use Rattle.tl_load.proofs.laws.line_is_judged_as_its_record.Goals as goal
 
 pub returns-clause-has_record : goal.returns-clause-has_record

@@ -1,5 +1,5 @@
 use Rattle.tl_load.proofs.Common.{tiger}
-use Rattle.tl_load.proofs.CutParts.{cut_lines, cut_spells, empty_lines, empty_spells, empty_fault}
+use Rattle.tl_load.proofs.CutParts.{cut_lines, cut_spells, empty_fault, empty_lines, empty_spells}
 use Rattle.tl_load.proofs.laws.parts_may_be_cut_between_lines.Goals as goal
 
 pub returns-clause-cut : goal.returns-clause-cut

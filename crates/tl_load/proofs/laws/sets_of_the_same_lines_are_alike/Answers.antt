@@ -1,4 +1,5 @@
-use Rattle.tl_load.proofs.{Common.tiger, CutParts.fault_elsewhere, CutParts.spells_alike}
+use Rattle.tl_load.proofs.Common.{tiger}
+use Rattle.tl_load.proofs.CutParts.{fault_elsewhere, spells_alike}
 use Rattle.tl_load.proofs.laws.sets_of_the_same_lines_are_alike.Goals as goal
 
 pub returns-clause-spells : goal.returns-clause-spells

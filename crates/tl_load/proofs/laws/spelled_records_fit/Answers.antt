@@ -1,4 +1,4 @@
-use Rattle.tl_load.proofs.RecordLines.{record_fits, spelled_fit, accepted_within}
+use Rattle.tl_load.proofs.RecordLines.{accepted_within, record_fits, spelled_fit}
 use Rattle.tl_load.proofs.laws.spelled_records_fit.Goals as goal
 
 pub returns-clause-line : goal.returns-clause-line

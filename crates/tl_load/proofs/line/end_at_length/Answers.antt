@@ -1,4 +1,5 @@
-use Rattle.tl_load.proofs.{Common.rules, Views.ends_clean}
+use Rattle.tl_load.proofs.Common.{rules}
+use Rattle.tl_load.proofs.Views.{ends_clean}
 use Rattle.tl_load.proofs.line.end_at_length.Goals as goal
 
 pub returns-then-is_ascii : goal.returns-then-is_ascii

@@ -1,4 +1,5 @@
-use Rattle.tl_load.proofs.{Common.rules, Views.cut_at, Views.no_feed, Views.no_feed_below}
+use Rattle.tl_load.proofs.Common.{rules}
+use Rattle.tl_load.proofs.Views.{cut_at, no_feed, no_feed_below}
 use Rattle.tl_load.proofs.line.searched_line_end.Goals as goal
 
 pub returns-in-Some : goal.returns-in-Some

@@ -1,5 +1,4 @@
-use Rattle.tl_number.proofs.Common.{DirectedChain, Some, ap, arith, false, get_or, length, rules, slice_get, slice_get-get_or, subst, sym}
-use Rattle.tl_number.proofs.Common.{true, ◌<◌, ◌∙◌, ◌≡◌}
+use Rattle.tl_number.proofs.Common.{DirectedChain, ap, arith, false, get_or, length, rules, slice_get, slice_get-get_or, subst, sym, true, ◌<◌, ◌∙◌, ◌≡◌}
 use Rattle.tl_number.proofs.Choices.AlikeRanges.{sixes_next}
 use Rattle.tl_number.proofs.Ties.OrderedCounty.{OrderedCounty, count_in, directed_in}
 use Rattle.tl_number.specs.AlikeRanges.{ranges_towards}

@@ -1,6 +1,4 @@
-use Rattle.tl_number.proofs.Common.{Equal, Five, Four, Greater, Less, Ordering, Seven, Six, ap, arranged_by, decided, groups_cmp, nat_cmp}
-use Rattle.tl_number.proofs.Common.{ordering_then, packed, refl, same_groups, slice_cmp, sym, text_of, tied_texts_in_order, type_4_by_chain}
-use Rattle.tl_number.proofs.Common.{type_5_by_name, type_6_by_chain, type_7_by_landmark, types_5_to_7_cmp, types_8_to_p_cmp, ◌∙◌, ◌≡◌}
+use Rattle.tl_number.proofs.Common.{Equal, Five, Four, Greater, Less, Ordering, Seven, Six, ap, arranged_by, decided, groups_cmp, nat_cmp, ordering_then, packed, refl, same_groups, slice_cmp, sym, text_of, tied_texts_in_order, type_4_by_chain, type_5_by_name, type_6_by_chain, type_7_by_landmark, types_5_to_7_cmp, types_8_to_p_cmp, ◌∙◌, ◌≡◌}
 use Rattle.tl_number.proofs.arranged_order.compare_arranged.Given.{Over}
 use Rattle.tl_number.proofs.arranged_order.compare_arranged.Goals.{Start}
 use Rattle.tl_number.proofs.arranged_order.compare_arranged.Goals as goal

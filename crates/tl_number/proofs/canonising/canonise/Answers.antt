@@ -1,5 +1,4 @@
-use Rattle.tl_number.proofs.Common.{Carries, County, Err, IfOk, IfOk-weaker, IsCanonCounty, IsLeastChoice, MatchResult, Ok, Result, ap}
-use Rattle.tl_number.proofs.Common.{arranged, arranged_county, arrangement_in, renaming_of, source_of, subst, sym, ◌∙◌, ◌≡◌}
+use Rattle.tl_number.proofs.Common.{Carries, County, Err, IfOk, IfOk-weaker, IsCanonCounty, IsLeastChoice, MatchResult, Ok, Result, ap, arranged, arranged_county, arrangement_in, renaming_of, source_of, subst, sym, ◌∙◌, ◌≡◌}
 use Rattle.tl_number.proofs.canonising.canonise.Goals as goal
 
 -- what holds for a value holds for it with any other value

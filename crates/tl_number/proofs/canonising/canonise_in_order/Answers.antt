@@ -1,5 +1,4 @@
-use Rattle.tl_number.proofs.Common.{AreSame, Carries, County, IsCounty, IsInProfile, arranged, arranged_by, renaming_of, subst, sym, ◌∙◌}
-use Rattle.tl_number.proofs.Common.{Arrangement, IsCanonCounty, IsLeastChoice, ap, arrangement_carries, arrangement_of, least_choice_county}
+use Rattle.tl_number.proofs.Common.{AreSame, Arrangement, Carries, County, IsCanonCounty, IsCounty, IsInProfile, IsLeastChoice, ap, arranged, arranged_by, arrangement_carries, arrangement_of, least_choice_county, renaming_of, subst, sym, ◌∙◌}
 use Rattle.canonical_form.proofs.CanonicalLists.Ascending.{few_in_profile, sides_in_profile}
 use Rattle.tl_number.proofs.canonising.canonise_in_order.Goals as goal
 

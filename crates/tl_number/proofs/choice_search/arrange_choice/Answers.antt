@@ -1,6 +1,4 @@
-use Rattle.tl_number.proofs.Common.{AllKeysContained, HasChainsOf, IfOk-weaker, NamesEachOnce, ap, arranged, arranged_county}
-use Rattle.tl_number.proofs.Common.{arrangement_of, arrangement_of_number, arrangement_of_number_once, arrangement_of_number_there}
-use Rattle.tl_number.proofs.Common.{numbered_arrangement, numbered_choice, polygon_keys, polygons_along, subst, sym, ◌∙◌, ◌≡◌}
+use Rattle.tl_number.proofs.Common.{AllKeysContained, HasChainsOf, IfOk-weaker, NamesEachOnce, ap, arranged, arranged_county, arrangement_of, arrangement_of_number, arrangement_of_number_once, arrangement_of_number_there, numbered_arrangement, numbered_choice, polygon_keys, polygons_along, subst, sym, ◌∙◌, ◌≡◌}
 use Rattle.tl_number.proofs.choice_search.arrange_choice.Given.{Over}
 use Rattle.tl_number.proofs.choice_search.arrange_choice.Goals.{After-share}
 use Rattle.tl_number.proofs.choice_search.arrange_choice.Goals as goal

@@ -1,8 +1,7 @@
-use Rattle.tl_number.proofs.Common.{AreSame, One, ap, ap₂, cond, is_gt, map, nat_cmp, packed, slice_cmp, subst, sym, text_of, ◌∙◌, ◌≡◌}
-use Rattle.tl_number.proofs.Common.{arranged_county, choices_same, numbered_choice, numbered_is_choice, type_1_by_chain, type_7_by_landmark}
-use Rattle.tl_number.proofs.Common.{take, type_6_by_chain}
-use Rattle.tl_number.proofs.Common.{choices_cmp, chosen_county, groups_cmp, lesser_choice, packed_sevens, type_2_by_chain, type_5_by_name}
-use Rattle.tl_number.proofs.{Choices.ChoiceSteps.of_each, Landmarks.BodiesFirst.same_landmarks, Names.ContentFirst.same_type_5}
+use Rattle.tl_number.proofs.Common.{AreSame, One, ap, ap₂, arranged_county, choices_cmp, choices_same, chosen_county, cond, groups_cmp, is_gt, lesser_choice, map, nat_cmp, numbered_choice, numbered_is_choice, packed, packed_sevens, slice_cmp, subst, sym, take, text_of, type_1_by_chain, type_2_by_chain, type_5_by_name, type_6_by_chain, type_7_by_landmark, ◌∙◌, ◌≡◌}
+use Rattle.tl_number.proofs.Choices.ChoiceSteps.{of_each}
+use Rattle.tl_number.proofs.Landmarks.BodiesFirst.{same_landmarks}
+use Rattle.tl_number.proofs.Names.ContentFirst.{same_type_5}
 use Rattle.tl_number.proofs.Texts.SamePoints.{twos_of_numbers}
 use Rattle.tl_number.proofs.choice_search.compare_with_arranged.Goals as goal
 

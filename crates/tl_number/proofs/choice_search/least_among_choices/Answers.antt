@@ -1,4 +1,4 @@
-use Rattle.tl_number.proofs.Common.{IfOk-weaker, IsLeastBelow, LeavesChoices, List, choices, length, subst, sym, ℕ, ◌<◌}
+use Rattle.tl_number.proofs.Common.{IfOk-weaker, IsLeastBelow, LeavesChoices, choices, subst, sym}
 use Rattle.tl_number.specs.AlikeRanges.{AreAlike}
 use Rattle.tl_number.specs.LeastOnes.{HaveSameOnes, IsLeastAmong}
 use Rattle.arranged_county.specs.Views.{classed_county}

@@ -1,5 +1,4 @@
-use Rattle.tl_number.proofs.Common.{AllByRecursion, Equal, IfSome, IsChosen, Some, ap, arith, arranged_county, choices_cmp, chosen_county, cond, false, get_or, is_gt, length, slice_get, slice_get-get_or, take, ◌<◌, ℕ}
-use Rattle.tl_number.proofs.Common.{lesser_choice, ones_cmp, subst, sym, true, ◌+◌, ◌∙◌, ◌≡◌}
+use Rattle.tl_number.proofs.Common.{AllByRecursion, Equal, IfSome, IsChosen, Some, ap, arith, arranged_county, choices_cmp, chosen_county, cond, false, get_or, is_gt, lesser_choice, ones_cmp, slice_get, slice_get-get_or, subst, sym, take, true, ◌+◌, ◌∙◌, ◌≡◌}
 use Rattle.canonical_form.proofs.Views.ChainPlaces.{all_at}
 use Rattle.tl_number.specs.LeastOnes.{IsLeastAmong}
 use Rattle.tl_number.proofs.Choices.ChoiceSteps.{greater_from, lesser_least, not_greater_from}

@@ -1,6 +1,4 @@
-use Rattle.tl_number.proofs.Common.{DirectedChain, IfSome, Some, [], all_at, ap, arith, at_places, false, filter, get_or}
-use Rattle.tl_number.proofs.Common.{get_or_from_slice_get, is_kept, length, map, map-append, range_with_len, rules, slice_get}
-use Rattle.tl_number.proofs.Common.{slice_get-get_or, subst, sym, tlid_at, tlids, true, ◌++◌, ◌<◌, ◌∙◌, ◌∷◌, ◌≡◌}
+use Rattle.tl_number.proofs.Common.{DirectedChain, IfSome, Some, [], all_at, ap, arith, at_places, false, filter, get_or, get_or_from_slice_get, is_kept, length, map, map-append, range_with_len, rules, slice_get, slice_get-get_or, subst, sym, tlid_at, tlids, true, ◌++◌, ◌<◌, ◌∙◌, ◌∷◌, ◌≡◌}
 use Rattle.tl_number.proofs.Ties.SearchSteps.{next_passed, next_taken}
 use Rattle.tl_number.proofs.kept_places.kept_along.Goals as goal
 

@@ -1,5 +1,4 @@
-use Rattle.tl_number.proofs.Common.{DirectedChain, Some, [], ap, arith, at_places, false, filter, get_or, is_open, length, range_with_len}
-use Rattle.tl_number.proofs.Common.{rules, slice_get, slice_get-get_or, sym, true, ◌++◌, ◌∙◌, ◌∷◌, ◌≡◌}
+use Rattle.tl_number.proofs.Common.{DirectedChain, Some, [], ap, arith, at_places, false, filter, get_or, is_open, length, range_with_len, rules, slice_get, slice_get-get_or, sym, true, ◌++◌, ◌∙◌, ◌∷◌, ◌≡◌}
 use Rattle.tl_number.proofs.Ties.SearchSteps.{next_passed, next_taken}
 use Rattle.tl_number.proofs.kept_places.open_chains.Goals as goal
 

@@ -1,5 +1,4 @@
-use Rattle.tl_number.proofs.Common.{[], ap, chain_feats, chain_nodes, chain_polygons, cond, contains, grouped, key_cmp, key_keys}
-use Rattle.tl_number.proofs.Common.{keys_along, link_key, map, nat_cmp, nat_keys, ◌++◌, ◌∙◌}
+use Rattle.tl_number.proofs.Common.{[], ap, chain_feats, chain_nodes, chain_polygons, cond, contains, grouped, key_cmp, key_keys, keys_along, link_key, map, nat_cmp, nat_keys, ◌++◌, ◌∙◌}
 use Rattle.tl_number.proofs.Ties.SearchSteps.{keys_open, linked_alike, search_starts}
 use Rattle.tl_number.proofs.kept_places.searches_for.Goals as goal
 

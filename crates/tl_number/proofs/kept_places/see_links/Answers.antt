@@ -1,5 +1,4 @@
-use Rattle.tl_number.proofs.Common.{ap, arith, first_seen_after, flat_map, key_cmp, length, link_keys_at, pieces_next, range_with_len}
-use Rattle.tl_number.proofs.Common.{seen_append, sym, ◌∙◌, ◌≡◌}
+use Rattle.tl_number.proofs.Common.{ap, arith, first_seen_after, flat_map, key_cmp, length, link_keys_at, pieces_next, range_with_len, seen_append, sym, ◌∙◌, ◌≡◌}
 use Rattle.tl_number.proofs.kept_places.see_links.Goals as goal
 
 pub loop-place-preserved : goal.loop-place-preserved

@@ -1,5 +1,4 @@
-use Rattle.tl_number.proofs.Common.{[], ap, chain_polygons, cond, first_seen_after, grouped, key_cmp, keys_along, link_keys, seen_append}
-use Rattle.tl_number.proofs.Common.{sym, ◌∙◌}
+use Rattle.tl_number.proofs.Common.{[], ap, chain_polygons, cond, first_seen_after, grouped, key_cmp, keys_along, link_keys, seen_append, sym, ◌∙◌}
 use Rattle.tl_number.proofs.kept_places.wanted_polygons.Goals as goal
 
 pub returns : goal.returns

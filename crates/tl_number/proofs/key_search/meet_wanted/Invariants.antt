@@ -1,5 +1,5 @@
 -- the wanted keys seen so far, and then the wanted ones of the remaining keys, are all
-use Rattle.tl_number.proofs.Common.{◌≡◌, drop, filter, first_seen_after, contains}
+use Rattle.tl_number.proofs.Common.{contains, drop, filter, first_seen_after, ◌≡◌}
 use Rattle.tl_number.proofs.key_search.meet_wanted.Given as goal
 
 abbrev pub invariant-loop-key : goal.invariant-loop-key

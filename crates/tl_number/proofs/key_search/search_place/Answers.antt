@@ -1,5 +1,6 @@
 use Rattle.tl_number.proofs.Common.{IsKeyOrder, Some, [], ap, slice_get, slice_get-get_or, sym, unwrap_or, ◌∙◌, ◌≡◌}
-use Rattle.tl_number.proofs.{Ties.SearchSteps.brought_here, Ties.SearchSteps.met_more, key_search.search_place.Given.Over}
+use Rattle.tl_number.proofs.Ties.SearchSteps.{brought_here, met_more}
+use Rattle.tl_number.proofs.key_search.search_place.Given.{Over}
 use Rattle.tl_number.proofs.key_search.search_place.Goals.{In_ok-new}
 use Rattle.tl_number.proofs.key_search.search_place.Goals as goal
 

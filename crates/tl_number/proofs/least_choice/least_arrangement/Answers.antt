@@ -1,5 +1,4 @@
-use Rattle.tl_number.proofs.Common.{IsLeastChoice, ap, arrangement_of_number, arrangement_of_number_once, arrangement_of_number_there}
-use Rattle.tl_number.proofs.Common.{least_of_all, numbered_arrangement, places_within, subst, sym, ◌∙◌}
+use Rattle.tl_number.proofs.Common.{IsLeastChoice, ap, arrangement_of_number, arrangement_of_number_once, arrangement_of_number_there, least_of_all, numbered_arrangement, places_within, subst, sym, ◌∙◌}
 use Rattle.tl_number.proofs.least_choice.least_arrangement.Goals as goal
 
 pub least_number-requires : goal.least_number-requires

@@ -1,12 +1,11 @@
-use Rattle.tl_number.proofs.Common.{AllKeysContained, IfOk-weaker, IsCounty, IsLeastBelow, IsWithinLimits, ap, choices, most_choices}
-use Rattle.tl_number.proofs.Common.{most_records, nat_cmp, part_of, part_with, polygon_keys, polygons_along, contains, subst, sym}
-use Rattle.tl_number.proofs.Common.{◌∙◌, ◌≡◌, ◌≤◌}
+use Rattle.tl_number.proofs.Common.{AllKeysContained, County, IfOk-weaker, IsCounty, IsLeastBelow, IsNotAfter, IsWithinLimits, List, ap, choice_list, choices, contains, get_or, length, most_choices, most_records, nat_cmp, not_after_itself, part_of, part_with, polygon_keys, polygons_along, subst, sym, ℕ, ◌<◌, ◌∙◌, ◌≡◌, ◌≤◌}
 use Rattle.tl_number.proofs.Ties.SmallCounty.{small_choices, small_is, small_sides, small_within}
-use Rattle.tl_number.proofs.Common.{IsNotAfter, choice_list, get_or, not_after_itself, ℕ}
 use Rattle.tl_number.specs.LeastOnes.{HaveLeast, HaveLeastOnes, HaveSameOnes}
-use Rattle.tl_number.proofs.Common.{County, List, length, ◌<◌}
 use Rattle.tl_number.proofs.Ties.OrderedCounty.{OrderedCounty}
-use Rattle.tl_number.proofs.{Choices.LeastBelow.lone_all, Choices.LeastOnes.least_of_these, Choices.LeastOnes.least_same, Ties.SmallOrder.small_have_least, Ties.SmallOrder.small_have_same, Ties.SmallOrder.small_least, least_choice.least_number.Given.Over}
+use Rattle.tl_number.proofs.Choices.LeastBelow.{lone_all}
+use Rattle.tl_number.proofs.Choices.LeastOnes.{least_of_these, least_same}
+use Rattle.tl_number.proofs.Ties.SmallOrder.{small_have_least, small_have_same, small_least}
+use Rattle.tl_number.proofs.least_choice.least_number.Given.{Over}
 use Rattle.tl_number.specs.SmallCounty.{small_county}
 use Rattle.tl_number.proofs.least_choice.least_number.Goals.{In_ok-tables}
 use Rattle.tl_number.proofs.least_choice.least_number.Goals as goal

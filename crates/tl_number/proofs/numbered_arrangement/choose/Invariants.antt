@@ -1,5 +1,5 @@
 -- The remaining places turn the remaining chains and number into the same as all places do from the start.
-use Rattle.tl_number.proofs.Common.{◌≡◌, length, AreWithin, moved, other_way}
+use Rattle.tl_number.proofs.Common.{AreWithin, length, moved, other_way, ◌≡◌}
 use Rattle.tl_number.proofs.numbered_arrangement.choose.Given as goal
 
 abbrev pub invariant-loop-at : goal.invariant-loop-at

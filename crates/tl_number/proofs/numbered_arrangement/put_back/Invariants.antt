@@ -1,5 +1,5 @@
 -- The arrangement agrees with the order of shapes, except at the remaining open places.
-use Rattle.tl_number.proofs.Common.{◌≡◌, length, AgreeApart, AreWithin}
+use Rattle.tl_number.proofs.Common.{AgreeApart, AreWithin, length, ◌≡◌}
 use Rattle.tl_number.proofs.numbered_arrangement.put_back.Given as goal
 
 abbrev pub invariant-loop-at : goal.invariant-loop-at

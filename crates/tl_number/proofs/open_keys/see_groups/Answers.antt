@@ -1,5 +1,4 @@
-use Rattle.tl_number.proofs.Common.{IsKeyOrder, ap, append-nil, ap₂, arith, drop, drop_all, first_seen_after, grouped, is_open, length}
-use Rattle.tl_number.proofs.Common.{open_keys, sym, ◌++◌, ◌+◌, ◌<◌, ◌∙◌}
+use Rattle.tl_number.proofs.Common.{IsKeyOrder, ap, append-nil, ap₂, arith, drop, drop_all, first_seen_after, grouped, is_open, length, open_keys, sym, ◌++◌, ◌+◌, ◌<◌, ◌∙◌}
 use Rattle.tl_number.proofs.Ties.SearchSteps.{group_dropped, opened_more, seen_more}
 use Rattle.tl_number.proofs.open_keys.see_groups.Goals as goal
 

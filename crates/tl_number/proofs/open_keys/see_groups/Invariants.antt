@@ -1,5 +1,5 @@
 -- the keys seen so far and the keys of the remaining chains are all, and so are the open ones
-use Rattle.tl_number.proofs.Common.{◌≡◌, ◌++◌, drop, first_open, first_seen, first_seen_after, grouped, is_open, open_keys}
+use Rattle.tl_number.proofs.Common.{drop, first_open, first_seen, first_seen_after, grouped, is_open, open_keys, ◌++◌, ◌≡◌}
 use Rattle.tl_number.proofs.open_keys.see_groups.Given as goal
 
 abbrev pub invariant-loop-place : goal.invariant-loop-place

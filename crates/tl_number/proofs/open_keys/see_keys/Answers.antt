@@ -1,5 +1,4 @@
-use Rattle.tl_number.proofs.Common.{IsKeyOrder, [], ap, append-nil, arith, cond, cond_both, drop, drop_all, false, first_seen_after}
-use Rattle.tl_number.proofs.Common.{newly_seen, refl, sym, true, ◌++◌, ◌+◌, ◌∙◌, ◌∷◌, ◌≡◌}
+use Rattle.tl_number.proofs.Common.{IsKeyOrder, [], ap, append-nil, arith, cond, cond_both, drop, drop_all, first_seen_after, newly_seen, refl, sym, ◌++◌, ◌+◌, ◌∙◌, ◌∷◌, ◌≡◌}
 use Rattle.tl_number.proofs.Ties.SearchSteps.{new_more, one_dropped, seen_more}
 use Rattle.tl_number.proofs.open_keys.see_keys.Goals as goal
 

@@ -1,5 +1,5 @@
 -- the keys seen so far and the remaining ones are all, and so are the open ones
-use Rattle.tl_number.proofs.Common.{◌≡◌, ◌++◌, [], cond, drop, first_seen_after, newly_seen}
+use Rattle.tl_number.proofs.Common.{[], cond, drop, first_seen_after, newly_seen, ◌++◌, ◌≡◌}
 use Rattle.tl_number.proofs.open_keys.see_keys.Given as goal
 
 abbrev pub invariant-loop-key : goal.invariant-loop-key

@@ -1,5 +1,4 @@
-use Rattle.tl_number.proofs.Common.{IsPicked, ap, chain_feats, chain_nodes, chain_polygons, distinct, false, feats, first_seen, grouped}
-use Rattle.tl_number.proofs.Common.{key_cmp, keys_along, map, nat_cmp, places_fit, polygon_keys, subst, tlids, ◌∙◌}
+use Rattle.tl_number.proofs.Common.{IsPicked, ap, chain_feats, chain_nodes, chain_polygons, distinct, false, feats, first_seen, grouped, key_cmp, keys_along, map, nat_cmp, places_fit, polygon_keys, subst, tlids, ◌∙◌}
 use Rattle.tl_number.proofs.Ties.PartTables.{tables_hold}
 use Rattle.tl_number.proofs.part_tables.part_tables.Goals as goal
 

@@ -1,4 +1,4 @@
-use Rattle.std.proofs.Common.{List, arith, false, get_or, length, nat_lt, sym, subst, take, ℕ, ◌+◌, ◌-◌, ◌<◌, ◌∙◌, ◌≡◌}
+use Rattle.std.proofs.Common.{List, arith, false, get_or, length, nat_lt, subst, sym, take, ℕ, ◌+◌, ◌-◌, ◌<◌, ◌∙◌, ◌≡◌}
 use Rattle.std.specs.List.{list_any}
 use Rattle.std.proofs.lemmas.Option.{slice_get-get_or}
 use Rattle.county_chart.specs.declared.open_place.OpenPlace.{OpenPlace}

@@ -1,4 +1,4 @@
-use Rattle.std.specs.{List.AllByRecursion}
+use Rattle.std.specs.List.{AllByRecursion}
 use Rattle.std.proofs.Common.{List, ap, get_or, subst, sym, ℕ, ◌*◌, ◌+◌, ◌<◌, ◌∙◌, ◌≡◌}
 use Rattle.county_chart.specs.Choices.{most_choices}
 use Rattle.record_groups.proofs.Texts.GroupOrders.{records_total}

@@ -1,5 +1,4 @@
-use Rattle.tl_profile.proofs.Common.{IsCounted, IsInOrder, OpenChoices, [], ap, append_assoc, arith, empty_list, is_either_way, length}
-use Rattle.tl_profile.proofs.Common.{length-append, map, points_cmp, subst, sym, whole_shape, ◌++◌, ◌∙◌, ◌∷◌}
+use Rattle.tl_profile.proofs.Common.{IsCounted, IsInOrder, OpenChoices, [], ap, append_assoc, arith, empty_list, is_either_way, length, length-append, map, points_cmp, subst, sym, whole_shape, ◌++◌, ◌∙◌, ◌∷◌}
 use Rattle.tl_profile.proofs.FoundChoices.{IsFound, behind, counted_place, few_shapes, found_all, found_many, rest_in_order}
 use Rattle.tl_profile.proofs.open_places.find_choices.Given.{Over}
 use Rattle.tl_profile.proofs.open_places.find_choices.Goals as goal

@@ -1,6 +1,5 @@
 -- The remaining shapes, and the shapes after them, which are counted.
-use Rattle.tl_profile.proofs.Common.{IsCounted, List, PlacedShape, is_either_way, length, map, most_choices, points_cmp, whole_shape, ◌++◌}
-use Rattle.tl_profile.proofs.Common.{◌≡◌, ◌≤◌}
+use Rattle.tl_profile.proofs.Common.{IsCounted, List, PlacedShape, is_either_way, length, map, most_choices, points_cmp, whole_shape, ◌++◌, ◌≡◌, ◌≤◌}
 use Rattle.tl_profile.proofs.open_places.find_choices.Given as goal
 
 abbrev pub invariant-loop-shape : goal.invariant-loop-shape

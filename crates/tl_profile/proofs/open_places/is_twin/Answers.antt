@@ -1,6 +1,6 @@
 use Rattle.tl_profile.proofs.Common.{AllByRecursion, HasFirstPoints, ap, is_eq, map, points_cmp, subst, sym, whole_shape, ◌∙◌}
 use Rattle.tl_profile.proofs.PlacedOrder.{placed-whole}
-use Rattle.county_chart.proofs.Common.{is_first}
+use Rattle.county_chart.specs.Choices.{is_first}
 use Rattle.tl_profile.proofs.open_places.is_twin.Goals as goal
 
 pub returns-in-Some : goal.returns-in-Some

@@ -1,6 +1,6 @@
 use Rattle.tl_profile.proofs.Common.{alike-next, alike_few, ap, arith, cond, length-map, map, points_keys, sym, whole_shape, ◌+◌, ◌∙◌, ◌≡◌}
 use Rattle.tl_profile.proofs.open_places.place_in_order.Goals as goal
-use Rattle.tl_profile.proofs.open_places.place_in_order.Goals.{then-is_twin, else-is_twin}
+use Rattle.tl_profile.proofs.open_places.place_in_order.Goals.{else-is_twin, then-is_twin}
 
 pub overflow_add-result : goal.overflow_add-result
 overflow_add-result g c =

@@ -1,5 +1,9 @@
-use Rattle.tl_profile.proofs.{Common.placed_key_cmp, Common.rules, PlacedOrder.placed_key_total}
-use Rattle.county_chart.proofs.Common.{always_returns_same, in_order-from_sorted, is_lt, ranks_by}
+use Rattle.tl_profile.proofs.Common.{placed_key_cmp, rules}
+use Rattle.tl_profile.proofs.PlacedOrder.{placed_key_total}
+use Rattle.std.proofs.lemmas.Fn.{always_returns_same}
+use Rattle.ordered_lists.proofs.ByKey.KeyedLists.{in_order-from_sorted}
+use Rattle.std.proofs.Common.{is_lt}
+use Rattle.std.proofs.lemmas.List.Sorted.{ranks_by}
 use Rattle.tl_profile.proofs.shapes.order_shapes.Goals as goal
 
 pub returns-clause-in_order : goal.returns-clause-in_order

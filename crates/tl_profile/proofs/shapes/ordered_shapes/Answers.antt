@@ -1,4 +1,5 @@
-use Rattle.tl_profile.proofs.{Common.HasFirstPoints, Common.all_permuted, PlacedOrder.sorted_by_shape}
+use Rattle.tl_profile.proofs.Common.{HasFirstPoints, all_permuted}
+use Rattle.tl_profile.proofs.PlacedOrder.{sorted_by_shape}
 use Rattle.tl_profile.proofs.shapes.ordered_shapes.Goals as goal
 
 pub returns-clause-heads : goal.returns-clause-heads

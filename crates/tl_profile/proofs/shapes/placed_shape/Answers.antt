@@ -1,5 +1,6 @@
 use Rattle.tl_profile.proofs.Common.{along_from, ap, arith, is_either_way, is_eq, length, slice_get, some-same, sym, two_along, ◌∙◌, ◌∷◌}
-use Rattle.county_chart.proofs.{Common.points_at, Profile.ShapePoints.either_way-from}
+use Rattle.county_chart.specs.Shapes.{points_at}
+use Rattle.county_chart.proofs.Profile.ShapePoints.{either_way-from}
 use Rattle.tl_profile.proofs.shapes.placed_shape.Goals as goal
 
 pub item-requires : goal.item-requires

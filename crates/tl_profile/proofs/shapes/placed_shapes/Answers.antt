@@ -1,5 +1,4 @@
-use Rattle.tl_profile.proofs.Common.{AllByRecursion, HasFirstPoints, [], all_next, along_shape, ap, ap₂, arith, few_chains, map, map-append}
-use Rattle.tl_profile.proofs.Common.{map-range_with_len_more, placed_directed, subst, sym, ◌++◌, ◌∙◌, ◌∷◌}
+use Rattle.tl_profile.proofs.Common.{AllByRecursion, HasFirstPoints, [], all_next, along_shape, ap, ap₂, arith, few_chains, map, map-append, map-range_with_len_more, placed_directed, subst, sym, ◌++◌, ◌∙◌, ◌∷◌}
 use Rattle.tl_profile.proofs.shapes.placed_shapes.Goals as goal
 
 pub loop-place-preserved : goal.loop-place-preserved

@@ -1,4 +1,4 @@
-use Rattle.tl_profile.proofs.Common.{◌≡◌, map, AllByRecursion, range_with_len, along_shape, HasFirstPoints, placed_directed}
+use Rattle.tl_profile.proofs.Common.{AllByRecursion, HasFirstPoints, along_shape, map, placed_directed, range_with_len, ◌≡◌}
 use Rattle.tl_profile.proofs.shapes.placed_shapes.Given as goal
 
 abbrev pub invariant-loop-place : goal.invariant-loop-place

@@ -1,5 +1,4 @@
-use Rattle.tl_profile.proofs.Common.{IsInOrder, IsLeastPassing, at_lists, distinct-in_order, has_body, is_unknown, key_cmp, key_keys}
-use Rattle.tl_profile.proofs.Common.{least-same, map, not, polygons_along, contains, subst, sym, ◌&&◌, ◌∙◌}
+use Rattle.tl_profile.proofs.Common.{IsInOrder, IsLeastPassing, at_lists, contains, distinct-in_order, has_body, is_unknown, key_cmp, key_keys, least-same, map, not, polygons_along, subst, sym, ◌&&◌, ◌∙◌}
 use Rattle.tl_profile.proofs.SideKeys.{bodies_in_order, same_unknown}
 use Rattle.tl_profile.proofs.sides.least_without_chain.Goals as goal
 

@@ -1,6 +1,7 @@
 use Rattle.tl_profile.proofs.Common.{ap, arith, distinct, key_cmp, key_keys, keys_on, polygons_along, refl, take, ◌++◌, ◌∙◌}
 use Rattle.tl_profile.proofs.SideKeys.{sides_next}
-use Rattle.county_chart.proofs.{ByKey.KeySets.distinct-more, Common.add-one}
+use Rattle.county_chart.proofs.ByKey.KeySets.{distinct-more}
+use Rattle.std.proofs.Common.{add-one}
 use Rattle.tl_profile.proofs.sides.polygons_on_sides.Goals as goal
 
 pub loop-place-preserved : goal.loop-place-preserved

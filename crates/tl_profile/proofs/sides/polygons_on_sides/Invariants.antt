@@ -1,4 +1,4 @@
-use Rattle.tl_profile.proofs.Common.{◌≡◌, take, polygons_along, distinct, key_cmp}
+use Rattle.tl_profile.proofs.Common.{distinct, key_cmp, polygons_along, take, ◌≡◌}
 use Rattle.tl_profile.proofs.sides.polygons_on_sides.Given as goal
 
 abbrev pub invariant-loop-place : goal.invariant-loop-place

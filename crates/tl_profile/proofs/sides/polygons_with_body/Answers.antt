@@ -1,6 +1,8 @@
 use Rattle.tl_profile.proofs.Common.{IfOk, ap, arith, items_from_collect, key_if_bodied, length, rules, slice_get, subst, zero-add, ◌≡◌}
 use Rattle.tl_profile.proofs.SideKeys.{bodies_by_place}
-use Rattle.std.proofs.{Common.tests, lemmas.Iterator.Consumers.YieldsList-from_filter_map, lemmas.Iterator.YieldsList-from_range}
+use Rattle.std.proofs.Common.{tests}
+use Rattle.std.proofs.lemmas.Iterator.Consumers.{YieldsList-from_filter_map}
+use Rattle.std.proofs.lemmas.Iterator.{YieldsList-from_range}
 use Rattle.tl_profile.proofs.sides.polygons_with_body.Goals as goal
 
 pub returns : goal.returns

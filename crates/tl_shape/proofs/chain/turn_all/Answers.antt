@@ -1,4 +1,4 @@
-use Rattle.std.proofs.Common.{arith, ap, sym, ◌∙◌}
+use Rattle.std.proofs.Common.{ap, arith, sym, ◌∙◌}
 use Rattle.tl_layout.specs.Turned.{turned_ranges}
 use Rattle.tl_shape.proofs.InPlace.{mapped_next}
 use Rattle.tl_shape.proofs.chain.turn_all.Goals as goal

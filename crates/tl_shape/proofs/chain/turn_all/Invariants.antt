@@ -1,5 +1,5 @@
 -- The ranges so far are turned, and the others are unchanged.
-use Rattle.std.proofs.Common.{◌≡◌, ◌++◌, map, take, drop}
+use Rattle.std.proofs.Common.{drop, map, take, ◌++◌, ◌≡◌}
 use Rattle.tl_layout.specs.Turned.{turned_ranges}
 use Rattle.tl_shape.proofs.chain.turn_all.Given as goal
 

@@ -1,6 +1,7 @@
-use Rattle.tl_layout.proofs.Common.{subst, sym}
+use Rattle.std.proofs.Common.{subst, sym}
 use Rattle.tl_shape.specs.TurnLaws.{relation_of_turned, turned-turned, turned_from_relation}
-use Rattle.tl_shape.specs.{Chain.Chain, Turned.IsTurned, Turned.turned}
+use Rattle.tl_shape.specs.Chain.{Chain}
+use Rattle.tl_shape.specs.Turned.{IsTurned, turned}
 use Rattle.tl_shape.proofs.laws.each_chain_has_one_turned_chain.Goals as goal
 
 pub returns-clause-back : goal.returns-clause-back

@@ -1,4 +1,4 @@
-use Rattle.tl_shape.proofs.Orders.{points_total, points_exact, points_same}
+use Rattle.tl_shape.proofs.Orders.{points_exact, points_same, points_total}
 use Rattle.tl_shape.proofs.laws.point_lists_are_totally_ordered.Goals as goal
 
 pub returns-clause-total : goal.returns-clause-total

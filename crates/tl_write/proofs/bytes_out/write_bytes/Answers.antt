@@ -1,5 +1,6 @@
 use Rattle.std.proofs.Common.{List, ap, append_assoc, arith, drop, length, length-drop, subst, sym, take, ℕ, ◌++◌, ◌+◌, ◌-◌, ◌∙◌, ◌≡◌}
-use Rattle.std.proofs.{Math.Seq.take-add, lemmas.List.take_rest}
+use Rattle.std.proofs.Math.Seq.{take-add}
+use Rattle.std.proofs.lemmas.List.{take_rest}
 use Rattle.tl_write.proofs.bytes_out.write_bytes.Goals as goal
 
 -- the first n of the remaining bytes follow the first i

@@ -1,4 +1,4 @@
-use Rattle.std.proofs.Common.{ℕ, List, ◌≡◌, ◌≤◌, ◌++◌, ◌-◌, length, take}
+use Rattle.std.proofs.Common.{List, length, take, ℕ, ◌++◌, ◌-◌, ◌≡◌, ◌≤◌}
 use Rattle.tl_write.proofs.bytes_out.write_bytes.Given as goal
 
 -- the bytes written so far are the beginning of the text, and no write failed

@@ -1,8 +1,11 @@
-use Rattle.arranged_county.proofs.Common.{List, ap, arranged_by, subst, sym, ◌++◌, ◌∙◌}
-use Rattle.record_groups.proofs.Common.{Record, packed}
+use Rattle.std.proofs.Common.{List, ap, subst, sym, ◌++◌, ◌∙◌}
+use Rattle.canonical_form.specs.WholeArrangements.{arranged_by}
+use Rattle.tl_layout.specs.declared.record_type.Record.{Record}
+use Rattle.county_chart.specs.Packing.{packed}
 use Rattle.std.proofs.Math.Logic.{∥∥₁_elim}
-use Rattle.canonical_form.proofs.{CanonicalLists.CanonLists.canonical_packing, Common.IsCanonCounty, Common.IsCanonical}
-use Rattle.canonical_form.specs.CanonCounties.{IsCanonCounty-prop}
+use Rattle.canonical_form.proofs.CanonicalLists.CanonLists.{canonical_packing}
+use Rattle.canonical_form.specs.CanonCounties.{IsCanonCounty, IsCanonCounty-prop}
+use Rattle.canonical_form.specs.Canonical.{IsCanonical}
 use Rattle.tl_write.proofs.county_text.records_of.Goals as goal
 
 pub returns-clause-canonical : goal.returns-clause-canonical

@@ -1,5 +1,8 @@
-use Rattle.arranged_county.proofs.Common.{[], arith, arranged_by, length, subst, sym}
-use Rattle.record_groups.proofs.Common.{err_from_is_err_and, packed, text_of}
+use Rattle.std.proofs.Common.{[], arith, length, subst, sym}
+use Rattle.canonical_form.specs.WholeArrangements.{arranged_by}
+use Rattle.std.proofs.lemmas.Result.{err_from_is_err_and}
+use Rattle.county_chart.specs.Packing.{packed}
+use Rattle.tl_layout.specs.RecordText.{text_of}
 use Rattle.tl_write.specs.GoingOut.{HasCounted, IsGoingOut}
 use Rattle.tl_write.proofs.Finished.{at_the_start, begun, none_counted, whole_bytes, whole_length, whole_short}
 use Rattle.tl_write.proofs.TextLengths.{few_bytes}

@@ -1,4 +1,4 @@
-use Rattle.std.proofs.Common.{◌∷◌, [], Result, Ok, Err, Option, Some, None, IfOk, IfSome}
+use Rattle.std.proofs.Common.{Err, IfOk, IfSome, None, Ok, Option, Result, Some, [], ◌∷◌}
 use Rattle.uses.proofs.Cited.{carried_through}
 use Rattle.uses.proofs.citing.cited_tlid.Goals as goal
 

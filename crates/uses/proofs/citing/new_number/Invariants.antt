@@ -1,4 +1,4 @@
-use Rattle.std.proofs.Common.{◌≡◌, drop, nat_cmp}
+use Rattle.std.proofs.Common.{drop, nat_cmp, ◌≡◌}
 use Rattle.ordered_lists.specs.Entries.{value_under}
 use Rattle.uses.proofs.citing.new_number.Given as goal
 

@@ -1,7 +1,11 @@
-use Rattle.tigercanon.proofs.Common.{IsAccepted, IsLeastChoice, arranged, arrangement_in, county_of, packed, subst, sym, ◌≡◌}
-use Rattle.tl_number.proofs.Common.{IsInProfile}
-use Rattle.arranged_county.specs.Views.{arranged_county}
-use Rattle.canonical_form.proofs.Common.{IsCanonicalOf}
+use Rattle.canonical_form.specs.Accepted.{IsAccepted, IsCanonicalOf}
+use Rattle.canonical_form.specs.Tidy.{IsLeastChoice}
+use Rattle.canonical_form.specs.Arrangement.{arranged}
+use Rattle.arranged_county.specs.Views.{arranged_county, arrangement_in}
+use Rattle.county_chart.specs.County.{county_of}
+use Rattle.county_chart.specs.Packing.{packed}
+use Rattle.std.proofs.Common.{subst, sym, ◌≡◌}
+use Rattle.county_chart.specs.Profile.{IsInProfile}
 use Rattle.uses.proofs.layers.canonical_county.Goals as goal
 
 pub returns : goal.returns

@@ -1,5 +1,8 @@
-use Rattle.tigercanon.proofs.Common.{Err, IfOk, List, Ok, Result, SpellsWithin, [], append-nil, subst, sym, ℕ, ◌∷◌}
-use Rattle.tl_load.specs.{Choice.tiger, Outcome.most_records}
+use Rattle.std.proofs.Common.{Err, List, Ok, Result, [], append-nil, subst, sym, ℕ, ◌∷◌}
+use Rattle.std.specs.Prelude.{IfOk}
+use Rattle.tl_load.specs.Outcome.{SpellsWithin}
+use Rattle.tl_load.specs.Choice.{tiger}
+use Rattle.tl_layout.specs.Limits.{most_records}
 use Rattle.uses.proofs.layers.canonical_text.Goals as goal
 
 if_ok : {T E : Type 0} {P Q : T → Type 0} (r : Result T E) → ((x : T) → P x → Q x) → IfOk r P → IfOk r Q

@@ -1,4 +1,4 @@
-use Rattle.std.proofs.Common.{List, ℕ, [], Some, ap}
+use Rattle.std.proofs.Common.{List, Some, [], ap, ℕ}
 use Rattle.uses.proofs.layers.text_in_memory.Goals as goal
 
 pub returns-in-Ok : goal.returns-in-Ok

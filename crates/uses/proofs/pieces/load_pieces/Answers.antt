@@ -1,7 +1,10 @@
-use Rattle.tigercanon.proofs.Common.{FaultAt, IsOfLines, [], arith, exit_with, subst, tiger, ◌∙◌, ◌∷◌}
-use Rattle.canonical_form.proofs.Common.{take_all}
-use Rattle.tl_load.proofs.Common.{WasFed}
-use Rattle.tl_load.specs.Outcome.{most_records}
+use Rattle.tl_load.specs.Outcome.{FaultAt}
+use Rattle.tl_load.specs.Loaded.{IsOfLines, WasFed}
+use Rattle.std.proofs.Common.{[], arith, subst, ◌∙◌, ◌∷◌}
+use Rattle.tl_layout.proofs.Exits.{exit_with}
+use Rattle.tl_load.specs.Choice.{tiger}
+use Rattle.std.proofs.lemmas.List.{take_all}
+use Rattle.tl_layout.specs.Limits.{most_records}
 use Rattle.uses.proofs.WholeFile.{fault_of_whole, whole, whole_so_far}
 use Rattle.uses.proofs.pieces.load_pieces.Goals as goal
 

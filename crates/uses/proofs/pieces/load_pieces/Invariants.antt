@@ -1,6 +1,7 @@
 use Rattle.std.proofs.Common.{None, [], map, take, ◌≡◌}
 use Rattle.std.specs.List.{concat}
-use Rattle.tl_load.specs.{Loaded.WasFed, Outcome.most_records}
+use Rattle.tl_load.specs.Loaded.{WasFed}
+use Rattle.tl_layout.specs.Limits.{most_records}
 use Rattle.uses.proofs.pieces.load_pieces.Given as goal
 
 -- the loader was fed the pieces so far into its first part, and has no fault

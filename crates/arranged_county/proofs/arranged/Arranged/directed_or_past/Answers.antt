@@ -1,6 +1,5 @@
-use Rattle.arranged_county.proofs.Common.{DirectedChain, all_among, among-get, ap, arith, chains_arranged_by, false, few_chains, is_some, length, numbered_past}
-use Rattle.arranged_county.proofs.Common.{numbered_there, subst, sym, true, ◌<◌, ◌∙◌, ◌≡◌}
-use Rattle.county_chart.proofs.Common.{slice_get-get_or}
+use Rattle.arranged_county.proofs.Common.{DirectedChain, all_among, among-get, ap, arith, chains_arranged_by, false, few_chains, is_some, length, numbered_past, numbered_there, subst, sym, true, ◌<◌, ◌∙◌, ◌≡◌}
+use Rattle.std.proofs.lemmas.Option.{slice_get-get_or}
 use Rattle.arranged_county.proofs.arranged.Arranged.directed_or_past.Goals as goal
 
 pub returns-in-Some-clause-chain : goal.returns-in-Some-clause-chain

@@ -1,4 +1,4 @@
-use Rattle.arranged_county.proofs.Common.{◌∙◌, ap, map, subst, sym, AreReadAt, arrangement_of, landmarks_in_order, numbered, under_cenid}
+use Rattle.arranged_county.proofs.Common.{AreReadAt, ap, arrangement_of, landmarks_in_order, map, numbered, subst, sym, under_cenid, ◌∙◌}
 use Rattle.canonical_form.specs.Arrangement.{renaming_of}
 use Rattle.arranged_county.proofs.arranged.Arranged.place_pairs.Goals as goal
 

@@ -1,4 +1,4 @@
-use Rattle.arranged_county.proofs.Common.{◌+◌, ◌∙◌, Some, option_map, slice_get, sym, ap, PolygonKey, numbered, slice_get-map, under_number}
+use Rattle.arranged_county.proofs.Common.{PolygonKey, Some, ap, numbered, option_map, slice_get, slice_get-map, sym, under_number, ◌+◌, ◌∙◌}
 use Rattle.canonical_form.proofs.Arrangements.PolygonNumbers.{key_numbered}
 use Rattle.arranged_county.proofs.arranged.Arranged.polygon_at_number.Goals as goal
 

@@ -1,5 +1,4 @@
-use Rattle.arranged_county.proofs.Common.{PolygonKey, ap, arith, arranged_by, content_at_number, entry_keys, key_numbered, length-map, numbered}
-use Rattle.arranged_county.proofs.Common.{option_flatten, option_map, slice_get, slice_get-map, slice_get_within, sym, under_number, ◌+◌, ◌∙◌}
+use Rattle.arranged_county.proofs.Common.{PolygonKey, ap, arith, arranged_by, content_at_number, entry_keys, key_numbered, length-map, numbered, option_flatten, option_map, slice_get, slice_get-map, slice_get_within, sym, under_number, ◌+◌, ◌∙◌}
 use Rattle.arranged_county.proofs.arranged.Arranged.polygon_body_at_number.Goals as goal
 
 pub polygon_body_there-requires : goal.polygon_body_there-requires

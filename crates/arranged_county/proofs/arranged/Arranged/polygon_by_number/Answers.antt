@@ -1,5 +1,6 @@
-use Rattle.arranged_county.proofs.Common.{arranged_by, is_some_from, nat_cmp, on, is_at, subst, sym, ◌<◌, ◌∙◌}
-use Rattle.canonical_form.proofs.Common.{entry_polyid, length-in_order, polygons_by_number}
+use Rattle.arranged_county.proofs.Common.{arranged_by, is_at, is_some_from, nat_cmp, on, subst, sym, ◌<◌, ◌∙◌}
+use Rattle.canonical_form.specs.ByNumber.{entry_polyid, polygons_by_number}
+use Rattle.ordered_lists.proofs.ByKey.Numbers.{length-in_order}
 use Rattle.arranged_county.proofs.arranged.Arranged.polygon_by_number.Goals as goal
 
 pub unwrap-requires : goal.unwrap-requires

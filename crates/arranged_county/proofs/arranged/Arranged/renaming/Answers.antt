@@ -1,5 +1,6 @@
 use Rattle.arranged_county.proofs.Common.{ap, arranged_by, arrangement_of, arranges, numbered, subst, sym, ◌∙◌}
-use Rattle.canonical_form.proofs.{Arrangements.Carrying.arrangement_carries, Common.Carries}
+use Rattle.canonical_form.proofs.Arrangements.Carrying.{arrangement_carries}
+use Rattle.county_chart.specs.Renumbering.{Carries}
 use Rattle.canonical_form.specs.Arrangement.{renaming_of}
 use Rattle.arranged_county.proofs.arranged.Arranged.renaming.Goals as goal
 

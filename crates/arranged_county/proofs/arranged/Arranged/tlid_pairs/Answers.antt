@@ -1,4 +1,4 @@
-use Rattle.arranged_county.proofs.Common.{◌∙◌, ap, arranged_tlids, arrangement_of, numbered, turned_tlids}
+use Rattle.arranged_county.proofs.Common.{ap, arranged_tlids, arrangement_of, numbered, turned_tlids, ◌∙◌}
 use Rattle.canonical_form.specs.Arrangement.{renaming_of}
 use Rattle.arranged_county.proofs.arranged.Arranged.tlid_pairs.Goals as goal
 

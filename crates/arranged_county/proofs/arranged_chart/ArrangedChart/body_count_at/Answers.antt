@@ -1,5 +1,5 @@
-use Rattle.arranged_county.proofs.Common.{slice_get, length, ap, ◌∙◌}
-use Rattle.arranged_county.proofs.Views.ViewTables.{landmark_there, landmark_missing}
+use Rattle.arranged_county.proofs.Common.{ap, length, slice_get, ◌∙◌}
+use Rattle.arranged_county.proofs.Views.ViewTables.{landmark_missing, landmark_there}
 use Rattle.arranged_county.proofs.arranged_chart.ArrangedChart.body_count_at.Goals as goal
 
 pub returns-in-Some : goal.returns-in-Some

@@ -1,5 +1,6 @@
 use Rattle.arranged_county.proofs.Common.{ap, arith, slice_get, sym, up_to, ◌∙◌, ◌≤◌}
-use Rattle.arranged_county.proofs.{Views.ViewNumbers.within_up_to, Views.ViewTables.feats_arranged_by, Views.ViewTables.names_arranged_by}
+use Rattle.arranged_county.proofs.Views.ViewNumbers.{within_up_to}
+use Rattle.arranged_county.proofs.Views.ViewTables.{feats_arranged_by, names_arranged_by}
 use Rattle.arranged_county.proofs.arranged_chart.ArrangedChart.feat_there.Goals as goal
 
 pub number_of_place-requires : goal.number_of_place-requires

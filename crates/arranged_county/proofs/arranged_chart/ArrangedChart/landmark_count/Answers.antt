@@ -1,4 +1,4 @@
-use Rattle.arranged_county.proofs.Common.{sym, ap, ◌∙◌, length}
+use Rattle.arranged_county.proofs.Common.{ap, length, sym, ◌∙◌}
 use Rattle.arranged_county.proofs.Views.ViewTables.{landmarks_arranged_by}
 use Rattle.arranged_county.proofs.arranged_chart.ArrangedChart.landmark_count.Goals as goal
 

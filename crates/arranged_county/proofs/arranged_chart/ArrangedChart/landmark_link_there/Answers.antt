@@ -1,5 +1,5 @@
 use Rattle.arranged_county.proofs.Common.{ap, length, slice_get, subst, sym, ◌<◌, ◌∙◌}
-use Rattle.arranged_county.proofs.Views.ViewTables.{bounds_stated, links_stated, links_ordered}
+use Rattle.arranged_county.proofs.Views.ViewTables.{bounds_stated, links_ordered, links_stated}
 use Rattle.arranged_county.proofs.arranged_chart.ArrangedChart.landmark_link_there.Goals as goal
 
 pub links_of_landmark-links-requires-clause-in_order : goal.links_of_landmark-links-requires-clause-in_order

@@ -1,4 +1,4 @@
-use Rattle.arranged_county.proofs.Common.{◌≡◌, ℕ, List, Some, IfSome, slice_get, nat_cmp, sym, ap, ◌∙◌, subst, length, contains, up_to}
+use Rattle.arranged_county.proofs.Common.{IfSome, List, Some, ap, contains, length, nat_cmp, slice_get, subst, sym, up_to, ℕ, ◌∙◌, ◌≡◌}
 use Rattle.arranged_county.proofs.Views.ViewTables.{lands_arranged_by}
 use Rattle.arranged_county.proofs.arranged_chart.ArrangedChart.landmark_place.Goals as goal
 

@@ -1,5 +1,5 @@
-use Rattle.arranged_county.proofs.Common.{length, ap, ◌∙◌}
-use Rattle.arranged_county.proofs.Views.ViewTables.{bounds_stated, links_stated, links_ordered}
+use Rattle.arranged_county.proofs.Common.{ap, length, ◌∙◌}
+use Rattle.arranged_county.proofs.Views.ViewTables.{bounds_stated, links_ordered, links_stated}
 use Rattle.arranged_county.proofs.arranged_chart.ArrangedChart.link_count_at.Goals as goal
 
 pub links_of_landmark-requires-clause-in_order : goal.links_of_landmark-requires-clause-in_order

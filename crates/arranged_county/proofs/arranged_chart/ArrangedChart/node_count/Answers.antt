@@ -1,4 +1,4 @@
-use Rattle.arranged_county.proofs.Common.{sym, ap, ◌∙◌, length, length-range_with_len}
+use Rattle.arranged_county.proofs.Common.{ap, length, length-range_with_len, sym, ◌∙◌}
 use Rattle.arranged_county.proofs.Views.ViewTables.{nodes_arranged_by}
 use Rattle.arranged_county.proofs.arranged_chart.ArrangedChart.node_count.Goals as goal
 

@@ -1,5 +1,5 @@
-use Rattle.arranged_county.proofs.Common.{sym, ◌∙◌, subst, IsInOrder, key_cmp}
-use Rattle.canonical_form.proofs.Common.{in_order-strict}
+use Rattle.arranged_county.proofs.Common.{IsInOrder, key_cmp, subst, sym, ◌∙◌}
+use Rattle.ordered_lists.proofs.Lists.EntryLists.{in_order-strict}
 use Rattle.arranged_county.proofs.arranged_chart.ArrangedChart.polygon_place.Goals as goal
 
 pub place_of-requires : goal.place_of-requires

@@ -1,5 +1,9 @@
 use Rattle.arranged_county.proofs.Common.{County, HasAtMost, IsCounty, arith, few_landmarks, few_names, flat_map, length, subst, ◌≤◌}
-use Rattle.canonical_form.proofs.Common.{IsWithinLimits, by_type_of, by_type_within, most_records, packed, packed_by_type, packed_sevens}
+use Rattle.county_chart.specs.Limits.{IsWithinLimits}
+use Rattle.county_chart.specs.Laws.PackedTypes.{by_type_of}
+use Rattle.county_chart.specs.Laws.TypeCounts.{by_type_within}
+use Rattle.tl_layout.specs.Limits.{most_records}
+use Rattle.county_chart.specs.Packing.{packed, packed_by_type, packed_sevens}
 use Rattle.arranged_county.proofs.content_classes.Classes.of.Goals as goal
 
 -- a county has at most as many landmarks as records of one type

@@ -1,4 +1,4 @@
-use Rattle.arranged_county.proofs.Common.{◌∙◌, sym}
+use Rattle.arranged_county.proofs.Common.{sym, ◌∙◌}
 use Rattle.arranged_county.proofs.Views.ArrangedPairs.{node_numbered}
 use Rattle.arranged_county.proofs.first_appearance.NumberOrNoneHalf.number.Goals as goal
 

@@ -1,5 +1,4 @@
-use Rattle.arranged_county.proofs.Common.{AreApart, ArePlaced, IsKeyOrder, Some, [], ap, arith, found_by_either, get_or, length}
-use Rattle.arranged_county.proofs.Common.{length-append, contains, subst, sym, ◌%◌, ◌++◌, ◌+◌, ◌<◌, ◌^◌, ◌∙◌, ◌∷◌, ◌≡◌}
+use Rattle.arranged_county.proofs.Common.{AreApart, ArePlaced, IsKeyOrder, Some, [], ap, arith, contains, found_by_either, get_or, length, length-append, subst, sym, ◌%◌, ◌++◌, ◌+◌, ◌<◌, ◌^◌, ◌∙◌, ◌∷◌, ◌≡◌}
 use Rattle.arranged_county.proofs.Numbering.PlacedKeys.{apart_more, nowhere, slot_marked, tabled_ahead, tabled_more}
 use Rattle.indexmap.specs.IndexMap.{get as found_by_hash}
 use Rattle.std.specs.BTreeMap.{get as found_in_order}

@@ -1,6 +1,7 @@
 use Rattle.arranged_county.proofs.Common.{IsKeyOrder, ap, first_seen_after, ◌∙◌, ◌≡◌}
-use Rattle.arranged_county.proofs.{Names.NameOrder.first_seen-itself, Results.of_done}
-use Rattle.canonical_form.proofs.Common.{apart_from_no_repeat}
+use Rattle.arranged_county.proofs.Names.NameOrder.{first_seen-itself}
+use Rattle.arranged_county.proofs.Results.{of_done}
+use Rattle.ordered_lists.proofs.Lists.Distinct.{apart_from_no_repeat}
 use Rattle.arranged_county.proofs.numbers.Interner.of_distinct.Goals as goal
 
 pub returns : goal.returns

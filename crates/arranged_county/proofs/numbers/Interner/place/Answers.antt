@@ -1,4 +1,4 @@
-use Rattle.arranged_county.proofs.Common.{IfSome_then, IsKeyOrder, ap, arith, is_eq, position, slice_get_within, contains, ◌∙◌}
+use Rattle.arranged_county.proofs.Common.{IfSome_then, IsKeyOrder, ap, arith, contains, is_eq, position, slice_get_within, ◌∙◌}
 use Rattle.arranged_county.proofs.Numbering.PlacedKeys.{stated_first}
 use Rattle.arranged_county.proofs.numbers.Interner.place.Goals as goal
 

@@ -1,4 +1,5 @@
-use Rattle.arranged_county.proofs.{Common.Some, Numbering.SeenLists.seen_next}
+use Rattle.arranged_county.proofs.Common.{Some}
+use Rattle.arranged_county.proofs.Numbering.SeenLists.{seen_next}
 use Rattle.arranged_county.proofs.numbers.Interner.see_all.Goals as goal
 
 pub loop-place-preserved : goal.loop-place-preserved

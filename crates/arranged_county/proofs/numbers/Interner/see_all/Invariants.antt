@@ -1,4 +1,4 @@
-use Rattle.arranged_county.proofs.Common.{◌≡◌, drop, first_seen_after}
+use Rattle.arranged_county.proofs.Common.{drop, first_seen_after, ◌≡◌}
 use Rattle.arranged_county.proofs.numbers.Interner.see_all.Given as goal
 
 abbrev pub invariant-loop-place : goal.invariant-loop-place

@@ -1,4 +1,5 @@
-use Rattle.arranged_county.proofs.{Common.IsKeyOrder, Common.sym, Numbering.PlacedKeys.added_first}
+use Rattle.arranged_county.proofs.Common.{IsKeyOrder, sym}
+use Rattle.arranged_county.proofs.Numbering.PlacedKeys.{added_first}
 use Rattle.arranged_county.proofs.numbers.Interner.see_place.Goals as goal
 
 pub returns-in-None-clause-first : goal.returns-in-None-clause-first

@@ -1,4 +1,5 @@
-use Rattle.canonical_lines.proofs.{Common.Type1, Common.refl, RowLaws.tested_is_spelt}
+use Rattle.canonical_lines.proofs.Common.{Type1, refl}
+use Rattle.canonical_lines.proofs.RowLaws.{tested_is_spelt}
 use Rattle.canonical_lines.proofs.canonical.Rec1CanonicalLine.is_canonical.Goals as goal
 
 pub returns-then-is_point : goal.returns-then-is_point

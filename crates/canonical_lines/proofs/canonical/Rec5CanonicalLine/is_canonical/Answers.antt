@@ -1,4 +1,5 @@
-use Rattle.canonical_lines.proofs.{Common.Type5, RowLaws.tested_is_spelt}
+use Rattle.canonical_lines.proofs.Common.{Type5}
+use Rattle.canonical_lines.proofs.RowLaws.{tested_is_spelt}
 use Rattle.canonical_lines.proofs.canonical.Rec5CanonicalLine.is_canonical.Goals as goal
 
 pub returns : goal.returns

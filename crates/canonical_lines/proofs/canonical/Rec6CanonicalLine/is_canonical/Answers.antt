@@ -1,4 +1,5 @@
-use Rattle.canonical_lines.proofs.{Common.Type6, RowLaws.tested_is_spelt}
+use Rattle.canonical_lines.proofs.Common.{Type6}
+use Rattle.canonical_lines.proofs.RowLaws.{tested_is_spelt}
 use Rattle.canonical_lines.proofs.canonical.Rec6CanonicalLine.is_canonical.Goals as goal
 
 pub returns-then-is_number : goal.returns-then-is_number

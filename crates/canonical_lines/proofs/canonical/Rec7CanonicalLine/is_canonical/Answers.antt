@@ -1,4 +1,5 @@
-use Rattle.canonical_lines.proofs.{Common.Type7, Common.sym, RowLaws.tested_is_spelt}
+use Rattle.canonical_lines.proofs.Common.{Type7, sym}
+use Rattle.canonical_lines.proofs.RowLaws.{tested_is_spelt}
 use Rattle.canonical_lines.proofs.canonical.Rec7CanonicalLine.is_canonical.Goals as goal
 
 pub returns-then-is_number : goal.returns-then-is_number

@@ -1,4 +1,5 @@
-use Rattle.canonical_lines.proofs.{Common.TypeI, Common.refl, RowLaws.tested_is_spelt}
+use Rattle.canonical_lines.proofs.Common.{TypeI, refl}
+use Rattle.canonical_lines.proofs.RowLaws.{tested_is_spelt}
 use Rattle.canonical_lines.proofs.canonical.RecICanonicalLine.is_canonical.Goals as goal
 
 pub returns-then-are_numbers_or_none : goal.returns-then-are_numbers_or_none

@@ -1,4 +1,5 @@
-use Rattle.canonical_lines.proofs.{Common.TypeP, RowLaws.tested_is_spelt}
+use Rattle.canonical_lines.proofs.Common.{TypeP}
+use Rattle.canonical_lines.proofs.RowLaws.{tested_is_spelt}
 use Rattle.canonical_lines.proofs.canonical.RecPCanonicalLine.is_canonical.Goals as goal
 
 pub returns-then-is_number : goal.returns-then-is_number

@@ -1,5 +1,7 @@
-use Rattle.arranged_county.proofs.Common.{arranged_by, option_to_list, subst, ◌<◌}
-use Rattle.record_groups.proofs.{Common.packed_p, Records.EntryPlaces.polygons_counted}
+use Rattle.canonical_form.specs.WholeArrangements.{arranged_by}
+use Rattle.std.proofs.Common.{option_to_list, subst, ◌<◌}
+use Rattle.county_chart.specs.Packing.{packed_p}
+use Rattle.record_groups.proofs.Records.EntryPlaces.{polygons_counted}
 use Rattle.canonical_records.proofs.polygon_records.PolygonRecordsRecordGroups.head.Goals as goal
 
 pub polygon_by_number-requires : goal.polygon_by_number-requires

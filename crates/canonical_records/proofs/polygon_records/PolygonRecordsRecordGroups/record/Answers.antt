@@ -1,5 +1,9 @@
-use Rattle.arranged_county.proofs.Common.{Some, ap, arranged_by, option_to_list, sym, ◌∙◌}
-use Rattle.record_groups.proofs.Common.{group_at, lone, packed_body, type_p_by_number}
+use Rattle.std.proofs.Common.{Some, ap, option_to_list, sym, ◌∙◌}
+use Rattle.canonical_form.specs.WholeArrangements.{arranged_by}
+use Rattle.record_groups.specs.Groups.{group_at}
+use Rattle.canonical_form.proofs.Lists.ListPlaces.{lone}
+use Rattle.county_chart.specs.Packing.{packed_body}
+use Rattle.record_groups.specs.CountyGroups.{type_p_by_number}
 use Rattle.record_groups.proofs.Records.EntryPlaces.{polygon_fits, polygon_group}
 use Rattle.canonical_records.proofs.polygon_records.PolygonRecordsRecordGroups.record.Goals as goal
 

@@ -1,4 +1,5 @@
-use Rattle.county_chart.proofs.{Common.length_keys, Common.nat_keys, Common.rules, Common.value-stated, Lists.LinkPlaces.links-at_or_end}
+use Rattle.county_chart.proofs.Common.{length_keys, nat_keys, rules, value-stated}
+use Rattle.county_chart.proofs.Lists.LinkPlaces.{links-at_or_end}
 use Rattle.county_chart.proofs.chart.Chart.landmark_place_or_end.Goals as goal
 
 pub returns-clause-bodies : goal.returns-clause-bodies

@@ -1,5 +1,4 @@
-use Rattle.county_chart.proofs.Common.{Greater, IsInOrder, IsKeyOrder, Less, decided-first, decided-last, empty_list, left-below, on, subst}
-use Rattle.county_chart.proofs.Common.{◌≡◌}
+use Rattle.county_chart.proofs.Common.{Greater, IsInOrder, IsKeyOrder, Less, decided-first, decided-last, empty_list, left-below, on, subst, ◌≡◌}
 use Rattle.county_chart.proofs.keys.keyed.least_unknown.Goals as goal
 
 pub returns-in-None : goal.returns-in-None

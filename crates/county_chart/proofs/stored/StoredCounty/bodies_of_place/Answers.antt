@@ -1,5 +1,6 @@
 use Rattle.county_chart.proofs.Common.{LandmarkParts, [], ap, map_values, option_map, unwrap_or, ◌∙◌}
-use Rattle.county_chart.proofs.{Lists.StoredLandmarks.bodies-at, Lists.StoredParts.value-at-kept}
+use Rattle.county_chart.proofs.Lists.StoredLandmarks.{bodies-at}
+use Rattle.county_chart.proofs.Lists.StoredParts.{value-at-kept}
 use Rattle.county_chart.proofs.stored.StoredCounty.bodies_of_place.Goals as goal
 
 pub returns-in-Some : goal.returns-in-Some

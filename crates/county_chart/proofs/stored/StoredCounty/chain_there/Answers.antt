@@ -1,4 +1,4 @@
-use Rattle.std.proofs.Common.{ap, ◌∙◌, option_map}
+use Rattle.std.proofs.Common.{ap, option_map, ◌∙◌}
 use Rattle.county_chart.proofs.Lists.StoredParts.{value-at-kept}
 use Rattle.county_chart.proofs.stored.StoredCounty.chain_there.Goals as goal
 

@@ -1,6 +1,6 @@
-use Rattle.county_chart.proofs.Common.{IsStrictlySortedBy, LandmarkParts, Option, [], ap, flat_map, links_with, map_values, nat_cmp}
-use Rattle.county_chart.proofs.Common.{option_map, slice_get, subst, sym, unwrap_or, ℕ, ◌∙◌}
-use Rattle.county_chart.proofs.{Lists.StoredLandmarks.lands-kept, Lists.StoredLandmarks.links-at, Lists.StoredParts.value-at-kept}
+use Rattle.county_chart.proofs.Common.{IsStrictlySortedBy, LandmarkParts, Option, [], ap, flat_map, links_with, map_values, nat_cmp, option_map, slice_get, subst, sym, unwrap_or, ℕ, ◌∙◌}
+use Rattle.county_chart.proofs.Lists.StoredLandmarks.{lands-kept, links-at}
+use Rattle.county_chart.proofs.Lists.StoredParts.{value-at-kept}
 use Rattle.county_chart.proofs.stored.StoredCounty.links_of_place.Goals as goal
 
 pub returns-in-Some : goal.returns-in-Some

@@ -1,4 +1,5 @@
-use Rattle.record_groups.proofs.{Common.packed_one, Records.RecordPlaces.lone_counted}
+use Rattle.record_groups.proofs.Common.{packed_one}
+use Rattle.record_groups.proofs.Records.RecordPlaces.{lone_counted}
 use Rattle.record_groups.proofs.chain_records.ChainRecordsRecordGroups.count_in.Goals as goal
 
 pub returns : goal.returns

@@ -1,8 +1,8 @@
 -- The number, the content and the points are written one after another, as the record is spelled.
-use Rattle.record_groups.proofs.Common.{Some, Type1, [], ap, byte_of, codes, first_point, joined, last_point, number_text, option_map}
-use Rattle.record_groups.proofs.Common.{packed_one, part_of, point_texts, sym, take, ◌++◌, ◌∙◌, ◌∷◌}
+use Rattle.record_groups.proofs.Common.{Some, Type1, [], ap, byte_of, codes, first_point, joined, last_point, number_text, option_map, packed_one, part_of, point_texts, sym, take, ◌++◌, ◌∙◌, ◌∷◌}
 use Rattle.record_groups.proofs.Records.RecordPlaces.{chain_of_group, lone_of, tlid_of}
-use Rattle.tl_layout.specs.{RecordTypes.fields_spelling, Type1Groups.body_1_texts}
+use Rattle.tl_layout.specs.RecordTypes.{fields_spelling}
+use Rattle.tl_layout.specs.Type1Groups.{body_1_texts}
 use Rattle.record_groups.proofs.chain_records.ChainRecordsRecordGroups.put.Goals as goal
 
 pub returns : goal.returns

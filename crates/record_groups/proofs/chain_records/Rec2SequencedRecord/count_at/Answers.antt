@@ -1,4 +1,4 @@
-use Rattle.record_groups.proofs.Common.{◌∙◌, inner_points, points_of}
+use Rattle.record_groups.proofs.Common.{inner_points, points_of, ◌∙◌}
 use Rattle.record_groups.proofs.Records.RecordPlaces.{pieces_in_group, two_of}
 use Rattle.record_groups.proofs.chain_records.Rec2SequencedRecord.count_at.Goals as goal
 

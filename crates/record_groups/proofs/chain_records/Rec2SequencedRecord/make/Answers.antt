@@ -1,5 +1,5 @@
-use Rattle.record_groups.proofs.Common.{◌<◌, ◌∙◌, Some, length, sym, ap, arith, inner_points, points_of}
-use Rattle.record_groups.proofs.Records.RecordPlaces.{tlid_of, PieceThere, piece_there, two_of}
+use Rattle.record_groups.proofs.Common.{Some, ap, arith, inner_points, length, points_of, sym, ◌<◌, ◌∙◌}
+use Rattle.record_groups.proofs.Records.RecordPlaces.{PieceThere, piece_there, tlid_of, two_of}
 use Rattle.record_groups.proofs.chain_records.Rec2SequencedRecord.make.Given.{Over}
 use Rattle.record_groups.proofs.chain_records.Rec2SequencedRecord.make.Goals.{Start}
 use Rattle.record_groups.proofs.chain_records.Rec2SequencedRecord.make.Goals as goal

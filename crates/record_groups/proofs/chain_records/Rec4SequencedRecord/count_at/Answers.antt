@@ -1,4 +1,4 @@
-use Rattle.record_groups.proofs.Common.{◌∙◌, feats_of}
+use Rattle.record_groups.proofs.Common.{feats_of, ◌∙◌}
 use Rattle.record_groups.proofs.Records.RecordPlaces.{four_of, pieces_in_group}
 use Rattle.record_groups.proofs.chain_records.Rec4SequencedRecord.count_at.Goals as goal
 

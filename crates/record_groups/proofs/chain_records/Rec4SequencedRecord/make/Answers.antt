@@ -1,5 +1,4 @@
-use Rattle.record_groups.proofs.Common.{AllByRecursion, IsNumber, Some, all_drop, all_take, ap, arith, chain_at, drop, feats_of, length}
-use Rattle.record_groups.proofs.Common.{subst, sym, ◌*◌, ◌<◌, ◌∙◌}
+use Rattle.record_groups.proofs.Common.{AllByRecursion, IsNumber, Some, all_drop, all_take, ap, arith, chain_at, drop, feats_of, length, subst, sym, ◌*◌, ◌<◌, ◌∙◌}
 use Rattle.record_groups.proofs.Records.RecordPlaces.{PieceThere, four_of, piece_there, tlid_of}
 use Rattle.record_groups.proofs.chain_records.Rec4SequencedRecord.make.Given.{Over}
 use Rattle.record_groups.proofs.chain_records.Rec4SequencedRecord.make.Goals.{Start}

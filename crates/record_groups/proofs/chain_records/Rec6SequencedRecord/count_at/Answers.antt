@@ -1,4 +1,4 @@
-use Rattle.record_groups.proofs.Common.{◌∙◌, ranges_of}
+use Rattle.record_groups.proofs.Common.{ranges_of, ◌∙◌}
 use Rattle.record_groups.proofs.Records.RecordPlaces.{items_counted, six_of}
 use Rattle.record_groups.proofs.chain_records.Rec6SequencedRecord.count_at.Goals as goal
 

@@ -1,5 +1,5 @@
-use Rattle.record_groups.proofs.Common.{◌<◌, ◌∙◌, Some, length, sym, ap, arith, ranges_of}
-use Rattle.record_groups.proofs.Records.RecordPlaces.{tlid_of, ItemThere, item_there, six_of}
+use Rattle.record_groups.proofs.Common.{Some, ap, arith, length, ranges_of, sym, ◌<◌, ◌∙◌}
+use Rattle.record_groups.proofs.Records.RecordPlaces.{ItemThere, item_there, six_of, tlid_of}
 use Rattle.record_groups.proofs.chain_records.Rec6SequencedRecord.make.Given.{Over}
 use Rattle.record_groups.proofs.chain_records.Rec6SequencedRecord.make.Goals.{Start}
 use Rattle.record_groups.proofs.chain_records.Rec6SequencedRecord.make.Goals as goal

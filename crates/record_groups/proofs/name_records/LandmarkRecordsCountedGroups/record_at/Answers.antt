@@ -1,6 +1,6 @@
-use Rattle.record_groups.proofs.Common.{Body7, Fields7, IsNumber, List, Option, Some, [], ap, lands, length, length-map, option_map}
-use Rattle.record_groups.proofs.Common.{packed_sevens, slice_get, slice_get-map, some-same, subst, sym, unwrap_or, ◌<◌, ◌∙◌, ◌≡◌}
-use Rattle.record_groups.proofs.{Records.EntryPlaces.landmark_of_group, Records.Grouped.group_of}
+use Rattle.record_groups.proofs.Common.{Body7, Fields7, IsNumber, List, Option, Some, [], ap, lands, length, length-map, option_map, packed_sevens, slice_get, slice_get-map, some-same, subst, sym, unwrap_or, ◌<◌, ◌∙◌, ◌≡◌}
+use Rattle.record_groups.proofs.Records.EntryPlaces.{landmark_of_group}
+use Rattle.record_groups.proofs.Records.Grouped.{group_of}
 use Rattle.record_groups.proofs.name_records.LandmarkRecordsCountedGroups.record_at.Goals as goal
 
 pub landmark_body_there-requires : goal.landmark_body_there-requires

@@ -1,5 +1,6 @@
 use Rattle.record_groups.proofs.Common.{Body7, List, Option, [], ap, length, length-map, packed_sevens, sym, unwrap_or, ◌∙◌}
-use Rattle.record_groups.proofs.{Records.EntryPlaces.landmark_of_group, Records.Grouped.group_of}
+use Rattle.record_groups.proofs.Records.EntryPlaces.{landmark_of_group}
+use Rattle.record_groups.proofs.Records.Grouped.{group_of}
 use Rattle.record_groups.proofs.name_records.LandmarkRecordsCountedGroups.record_count.Goals as goal
 
 pub returns : goal.returns

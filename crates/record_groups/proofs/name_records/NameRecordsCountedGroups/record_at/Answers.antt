@@ -1,6 +1,7 @@
 use Rattle.record_groups.proofs.Common.{IsNumber, Some, [], ap, lone, packed_five, some-same, subst, sym, ◌∙◌, ◌∷◌}
 use Rattle.record_groups.proofs.Records.EntryPlaces.{EntryThere, name_of_group}
-use Rattle.record_groups.proofs.{Records.Grouped.group_of, name_records.NameRecordsCountedGroups.record_at.Given.Over}
+use Rattle.record_groups.proofs.Records.Grouped.{group_of}
+use Rattle.record_groups.proofs.name_records.NameRecordsCountedGroups.record_at.Given.{Over}
 use Rattle.record_groups.proofs.name_records.NameRecordsCountedGroups.record_at.Goals.{Start}
 use Rattle.record_groups.proofs.name_records.NameRecordsCountedGroups.record_at.Goals as goal
 

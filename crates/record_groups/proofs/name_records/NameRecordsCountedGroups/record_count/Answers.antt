@@ -1,5 +1,6 @@
 use Rattle.record_groups.proofs.Common.{[], ap, length, packed_five, sym, ◌∷◌}
-use Rattle.record_groups.proofs.{Records.EntryPlaces.name_of_group, Records.Grouped.group_of}
+use Rattle.record_groups.proofs.Records.EntryPlaces.{name_of_group}
+use Rattle.record_groups.proofs.Records.Grouped.{group_of}
 use Rattle.record_groups.proofs.name_records.NameRecordsCountedGroups.record_count.Goals as goal
 
 pub returns : goal.returns

@@ -1,4 +1,4 @@
-use Rattle.std.proofs.Common.{◌∙◌, ap, sym, unwrap_or}
+use Rattle.std.proofs.Common.{ap, sym, unwrap_or, ◌∙◌}
 use Rattle.renamings.proofs.Tables.{image-under}
 use Rattle.renamings.proofs.images.Images.image.Goals as goal
 

@@ -1,5 +1,7 @@
-use Rattle.renamings.proofs.{Common.lookup, Tables.put_before}
-use Rattle.county_chart.proofs.Common.{IsKeyOrder, Some, [], ap, append-nil, append_assoc, cond, sym, ◌++◌, ◌∙◌, ◌∷◌}
+use Rattle.renamings.proofs.Common.{lookup}
+use Rattle.renamings.proofs.Tables.{put_before}
+use Rattle.ordered_lists.proofs.ByKey.Keys.{IsKeyOrder}
+use Rattle.std.proofs.Common.{Some, [], ap, append-nil, append_assoc, cond, sym, ◌++◌, ◌∙◌, ◌∷◌}
 use Rattle.renamings.proofs.images.Images.new.Goals as goal
 
 pub loop-last-init : goal.loop-last-init

@@ -1,4 +1,5 @@
-use Rattle.county_chart.proofs.Common.{List, length, value_under, ◌++◌, ◌≡◌}
+use Rattle.std.proofs.Common.{List, length, ◌++◌, ◌≡◌}
+use Rattle.ordered_lists.specs.Entries.{value_under}
 use Rattle.indexmap.specs.IndexMap.{get}
 use Rattle.renamings.proofs.images.Images.new.Given as goal
 

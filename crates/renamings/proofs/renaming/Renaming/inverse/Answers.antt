@@ -1,4 +1,6 @@
-use Rattle.county_chart.proofs.Common.{Carries, ap, ap₂, filter, image, is_named, map, nat_cmp, subst, swapped, sym, ◌∙◌}
+use Rattle.county_chart.specs.Renumbering.{Carries}
+use Rattle.std.proofs.Common.{ap, ap₂, filter, map, nat_cmp, subst, sym, ◌∙◌}
+use Rattle.ordered_lists.specs.Pairs.{image, is_named, swapped}
 use Rattle.county_chart.proofs.Sameness.Equivalence.{inverse_carries}
 use Rattle.renamings.proofs.renaming.Renaming.inverse.Goals as goal
 

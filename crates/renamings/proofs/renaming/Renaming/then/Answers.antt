@@ -1,5 +1,8 @@
 use Rattle.renamings.proofs.Common.{is_turned_once}
-use Rattle.county_chart.proofs.Common.{Carries, ap₂, composed, filter, key_cmp, map, nat_cmp, subst, sym, ◌∙◌, ◌≡◌}
+use Rattle.county_chart.specs.Renumbering.{Carries}
+use Rattle.std.proofs.Common.{ap₂, filter, map, nat_cmp, subst, sym, ◌∙◌, ◌≡◌}
+use Rattle.ordered_lists.specs.Pairs.{composed}
+use Rattle.county_chart.specs.PolygonKeys.{key_cmp}
 use Rattle.county_chart.proofs.Sameness.Equivalence.{then_carries}
 use Rattle.renamings.proofs.renaming.Renaming.then.Goals as goal
 

@@ -1,5 +1,6 @@
-use Rattle.county_chart.proofs.Common.{IsPermutation, ap, nat_cmp, nat_keys, nat_lt, contains, subst, ◌∙◌}
-use Rattle.ordered_lists.proofs.ByKey.Keys.{times-permutation}
+use Rattle.std.proofs.Common.{IsPermutation, ap, nat_cmp, nat_lt, subst, ◌∙◌}
+use Rattle.ordered_lists.proofs.ByKey.Keys.{nat_keys, times-permutation}
+use Rattle.ordered_lists.specs.Orders.{contains}
 use Rattle.renamings.proofs.sorted_numbers.SortedNumbers.contains.Goals as goal
 
 pub returns : goal.returns

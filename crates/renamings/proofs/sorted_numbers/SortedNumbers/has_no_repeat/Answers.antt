@@ -1,5 +1,8 @@
-use Rattle.renamings.proofs.{Common.IsAllAdjacentAnswer, Common.decides_same, Common.ltb, Repeats.ascend_decides, Repeats.repeat_permuted}
-use Rattle.county_chart.proofs.Common.{IsPermutation, IsPermutation-sym, always_returns_same, rules, subst, ◌≡◌}
+use Rattle.renamings.proofs.Common.{IsAllAdjacentAnswer, decides_same, ltb}
+use Rattle.renamings.proofs.Repeats.{ascend_decides, repeat_permuted}
+use Rattle.std.proofs.Common.{IsPermutation, rules, subst, ◌≡◌}
+use Rattle.std.proofs.lemmas.List.Sorted.{IsPermutation-sym}
+use Rattle.std.proofs.lemmas.Fn.{always_returns_same}
 use Rattle.renamings.proofs.sorted_numbers.SortedNumbers.has_no_repeat.Goals as goal
 
 pub returns : goal.returns

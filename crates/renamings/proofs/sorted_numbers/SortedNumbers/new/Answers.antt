@@ -1,4 +1,6 @@
-use Rattle.county_chart.proofs.Common.{IsPermutation, in_order-from_sorted, nat_cmp_total, subst}
+use Rattle.std.proofs.Common.{IsPermutation, subst}
+use Rattle.ordered_lists.proofs.ByKey.KeyedLists.{in_order-from_sorted}
+use Rattle.std.proofs.lemmas.Cmp.{nat_cmp_total}
 use Rattle.renamings.proofs.sorted_numbers.SortedNumbers.new.Goals as goal
 
 pub invariant_of-result : goal.invariant_of-result

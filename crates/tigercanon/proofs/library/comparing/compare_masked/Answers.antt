@@ -1,4 +1,5 @@
-use Rattle.tigercanon.proofs.{Common.err_from_is_err_and, Common.refl, Reported.one_refused, Reported.one_succeeds}
+use Rattle.tigercanon.proofs.Common.{err_from_is_err_and, refl}
+use Rattle.tigercanon.proofs.Reported.{one_refused, one_succeeds}
 use Rattle.tigercanon.proofs.library.comparing.compare_masked.Goals as goal
 
 pub returns-in_err-found-clause-refused : goal.returns-in_err-found-clause-refused

@@ -1,4 +1,5 @@
-use Rattle.tigercanon.proofs.{Common.refl, Reported.reported_no_device, Reported.reported_refused, Reported.reported_succeeds}
+use Rattle.tigercanon.proofs.Common.{refl}
+use Rattle.tigercanon.proofs.Reported.{reported_no_device, reported_refused, reported_succeeds}
 use Rattle.tigercanon.proofs.library.fingerprinting.fingerprint_masked.Goals as goal
 
 pub returns-clause-refused : goal.returns-clause-refused

@@ -1,5 +1,5 @@
 use Rattle.tigercanon.proofs.Common.{County, IsFirstBrokenClause, err_from_is_err_and, is_without_chain, key_cmp, subst, sym, ◌∙◌}
-use Rattle.tl_profile.proofs.Common.{IsLeastPassing}
+use Rattle.ordered_lists.specs.Keyed.{IsLeastPassing}
 use Rattle.tigercanon.proofs.library.linked.admitted_county.Goals as goal
 
 pub admit_linked-requires : goal.admit_linked-requires

@@ -1,5 +1,4 @@
-use Rattle.tigercanon.proofs.Common.{County, IsCanonicalInView, IsLeastChoice, ap, arranged, arrangement_in, choice_is_canonical, masked}
-use Rattle.tigercanon.proofs.Common.{masked_view, packed, subst, sym, ◌∙◌}
+use Rattle.tigercanon.proofs.Common.{County, IsCanonicalInView, IsLeastChoice, ap, arranged, arrangement_in, choice_is_canonical, masked, masked_view, packed, subst, sym, ◌∙◌}
 use Rattle.tigercanon.proofs.library.making.make_masked.Goals as goal
 
 pub returns-clause-made : goal.returns-clause-made

@@ -1,5 +1,7 @@
-use Rattle.tigercanon.proofs.{CanonicalTexts.again, Common.IfOk-at_ok, Common.masked, Common.masked_view, Common.refl, Sets.text_as_it_is}
-use Rattle.tigercanon.proofs.{CanonicalTexts.one_text_accepted, Common.err_from_is_err_and, Reported.accepted_wants_memory, Sets.only_text}
+use Rattle.tigercanon.proofs.CanonicalTexts.{again, one_text_accepted}
+use Rattle.tigercanon.proofs.Common.{IfOk-at_ok, err_from_is_err_and, masked, masked_view, refl}
+use Rattle.tigercanon.proofs.Sets.{only_text, text_as_it_is}
+use Rattle.tigercanon.proofs.Reported.{accepted_wants_memory}
 use Rattle.tigercanon.proofs.library.normalising.normalise_masked.Goals as goal
 
 pub returns-clause-canonical : goal.returns-clause-canonical

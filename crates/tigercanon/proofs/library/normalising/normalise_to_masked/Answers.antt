@@ -1,6 +1,6 @@
-use Rattle.tigercanon.proofs.Common.{Device, Fault, IsSetRefusal, Load, MatchResult-at_err, MatchResult-at_ok, RefusesSpelled, Took, Write}
-use Rattle.tigercanon.proofs.Common.{ap, cond, err_from_is_err_and, length, masked, masked_view, subst, sym, take, ◌+◌, ◌<◌, ◌∙◌, ◌≡◌}
-use Rattle.tigercanon.proofs.{Refusing.not_of_sink, Refusing.read_refused, Sets.only_text}
+use Rattle.tigercanon.proofs.Common.{Device, Fault, IsSetRefusal, Load, MatchResult-at_err, MatchResult-at_ok, RefusesSpelled, Took, Write, ap, cond, err_from_is_err_and, length, masked, masked_view, subst, sym, take, ◌+◌, ◌<◌, ◌∙◌, ◌≡◌}
+use Rattle.tigercanon.proofs.Refusing.{not_of_sink, read_refused}
+use Rattle.tigercanon.proofs.Sets.{only_text}
 use Rattle.tigercanon.proofs.library.normalising.normalise_to_masked.Goals as goal
 
 pub returns-clause-written : goal.returns-clause-written

@@ -1,5 +1,6 @@
 use Rattle.tigercanon.proofs.Common.{IfOk-at_ok, err_from_is_err_and, masked, masked_view, refl}
-use Rattle.tigercanon.proofs.{Reported.accepted_wants_memory, Sets.only_text}
+use Rattle.tigercanon.proofs.Reported.{accepted_wants_memory}
+use Rattle.tigercanon.proofs.Sets.{only_text}
 use Rattle.tigercanon.proofs.library.normalising.normalise_with_renaming_masked.Goals as goal
 
 pub returns-clause-canonical : goal.returns-clause-canonical

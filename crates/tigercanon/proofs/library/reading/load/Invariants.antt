@@ -1,4 +1,4 @@
-use Rattle.tigercanon.proofs.Common.{◌≡◌, map, take, [], None, WasFedInto, most_records}
+use Rattle.tigercanon.proofs.Common.{None, WasFedInto, [], map, most_records, take, ◌≡◌}
 use Rattle.tigercanon.proofs.library.reading.load.Given as goal
 
 -- the loader was fed the parts so far, each is closed, and no fault is recorded

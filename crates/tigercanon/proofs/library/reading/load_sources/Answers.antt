@@ -1,5 +1,4 @@
-use Rattle.tigercanon.proofs.Common.{Err, IfErr-weaker, IfOk-weaker, MAX, WasWellBefore, [], ap, arith, err_from_is_err_and, inl, inr}
-use Rattle.tigercanon.proofs.Common.{length-append, most_records, refl, set, subst, sym, ℕ, ◌++◌, ◌+◌, ◌<◌, ◌∙◌, ◌∷◌, ◌≡◌}
+use Rattle.tigercanon.proofs.Common.{Err, IfErr-weaker, IfOk-weaker, MAX, WasWellBefore, [], ap, arith, err_from_is_err_and, inl, inr, length-append, most_records, refl, set, subst, sym, ℕ, ◌++◌, ◌+◌, ◌<◌, ◌∙◌, ◌∷◌, ◌≡◌}
 use Rattle.tigercanon.proofs.ReadParts.{all_read, next_changed, none_more, one_failed, one_more, untouched}
 use Rattle.tigercanon.proofs.RecordedFaults.{counted_device, counted_none, none_recorded, recorded_fault}
 use Rattle.tl_load.specs.declared.fault.LoadFault.TheVariants as faults

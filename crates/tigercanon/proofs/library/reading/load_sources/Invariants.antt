@@ -1,4 +1,4 @@
-use Rattle.tigercanon.proofs.Common.{◌≡◌, None, NoneFailed}
+use Rattle.tigercanon.proofs.Common.{None, NoneFailed, ◌≡◌}
 use Rattle.tigercanon.proofs.ReadParts.{HasRead}
 use Rattle.tigercanon.proofs.library.reading.load_sources.Given as goal
 

@@ -1,4 +1,4 @@
-use Rattle.tigercanon.proofs.Common.{◌≡◌, List, ℕ, [], IfSome, WasFedInto, IsNotDevice, Gave, RoseBy, most_records}
+use Rattle.tigercanon.proofs.Common.{Gave, IfSome, IsNotDevice, List, RoseBy, WasFedInto, [], most_records, ℕ, ◌≡◌}
 use Rattle.tigercanon.proofs.library.reading.read_to_end.Given as goal
 
 -- the loader was fed the bytes of this many reads of the source, and the source hasn't failed

@@ -1,5 +1,4 @@
-use Rattle.tigercanon.proofs.Common.{IsUnread, Load, MAX, [], ap, arith, err_from_is_err_and, inl, length-append, subst, sym, ℕ, ◌++◌, ◌+◌}
-use Rattle.tigercanon.proofs.Common.{◌<◌, ◌∙◌, ◌∷◌}
+use Rattle.tigercanon.proofs.Common.{IsUnread, Load, MAX, [], ap, arith, err_from_is_err_and, inl, length-append, subst, sym, ℕ, ◌++◌, ◌+◌, ◌<◌, ◌∙◌, ◌∷◌}
 use Rattle.tigercanon.proofs.ReadParts.{all_read, none_more, one_more, unread_at, untouched}
 use Rattle.tigercanon.proofs.library.reading.read_to_ends.Goals as goal
 

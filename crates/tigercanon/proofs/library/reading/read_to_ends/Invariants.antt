@@ -1,4 +1,4 @@
-use Rattle.tigercanon.proofs.Common.{◌≤◌, IfSome, IsNotDevice, NoneFailed}
+use Rattle.tigercanon.proofs.Common.{IfSome, IsNotDevice, NoneFailed, ◌≤◌}
 use Rattle.tigercanon.proofs.ReadParts.{HasRead}
 use Rattle.tigercanon.proofs.library.reading.read_to_ends.Given as goal
 

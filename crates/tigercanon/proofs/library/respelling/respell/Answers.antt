@@ -1,4 +1,5 @@
-use Rattle.tigercanon.proofs.{Common.err_from_is_err_and, Reported.memory_alone}
+use Rattle.tigercanon.proofs.Common.{err_from_is_err_and}
+use Rattle.tigercanon.proofs.Reported.{memory_alone}
 use Rattle.tigercanon.proofs.library.respelling.respell.Goals as goal
 
 pub returns-in_err-text-clause-succeeds : goal.returns-in_err-text-clause-succeeds

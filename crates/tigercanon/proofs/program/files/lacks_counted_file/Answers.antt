@@ -1,5 +1,4 @@
-use Rattle.tigercanon.proofs.Common.{Bool, Counted, List, Opened, YieldsList-from_slice, [], any_from_yields_List, ap, is_failed, list_any}
-use Rattle.tigercanon.proofs.Common.{opened_of, refl, rules, sym, tests, ◌||◌, ◌∙◌, ◌∷◌, ◌≡◌}
+use Rattle.tigercanon.proofs.Common.{Bool, Counted, List, Opened, YieldsList-from_slice, [], any_from_yields_List, ap, is_failed, list_any, opened_of, refl, rules, sym, tests, ◌||◌, ◌∙◌, ◌∷◌, ◌≡◌}
 use Rattle.tigercanon.proofs.program.files.lacks_counted_file.Goals as goal
 
 one_failed : {R : Type 0} (files : List (Counted (Opened R))) → list_any (λ file. is_failed file.inner) files ≡ list_any is_failed (opened_of files)

@@ -1,5 +1,4 @@
-use Rattle.tigercanon.proofs.Common.{Bool, Compare, Done, Err, IsTextOf, Normalise, Respell, ap, err_from_is_err_and, if◌then◌else◌}
-use Rattle.tigercanon.proofs.Common.{set_of_sources, subst, sym, ◌+◌, ◌∙◌}
+use Rattle.tigercanon.proofs.Common.{Bool, Compare, Done, Err, IsTextOf, Normalise, Respell, ap, err_from_is_err_and, if◌then◌else◌, set_of_sources, subst, sym, ◌+◌, ◌∙◌}
 use Rattle.tigercanon.proofs.SourceSets.{normalised_leave, text_printed}
 use Rattle.tigercanon.proofs.program.jobs.do_job.Goals as goal
 

@@ -1,6 +1,7 @@
 use Rattle.tigercanon.proofs.Common.{Different, Done, Ok, arith, rules, ◌∙◌}
 use Rattle.tigercanon.proofs.GivenSets.{does_of, itself, why_of}
-use Rattle.tigercanon.proofs.{Leaving.line_to_writer, Leaving.printed_to_writer, Refused.refused, Refused.some}
+use Rattle.tigercanon.proofs.Leaving.{line_to_writer, printed_to_writer}
+use Rattle.tigercanon.proofs.Refused.{refused, some}
 use Rattle.tigercanon.proofs.program.running.run.Goals as goal
 
 pub returns-clause-done : goal.returns-clause-done

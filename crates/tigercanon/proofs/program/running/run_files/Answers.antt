@@ -1,7 +1,11 @@
 use Rattle.tigercanon.proofs.Common.{AreCounted, Err, IfErr-at_err, opened_of, refl}
 use Rattle.tigercanon.proofs.FileSources.{known_of_files, sources_of, unopened_left}
-use Rattle.tigercanon.proofs.{GivenSets.printed_to_itself, GivenSets.run_of, Refused.run_with}
-use Rattle.tigercanon.specs.{Files.bytes_of, Outcomes.ReportsLineTo, Refusals.fault_line, Running.IsMissingOne}
+use Rattle.tigercanon.proofs.GivenSets.{printed_to_itself, run_of}
+use Rattle.tigercanon.proofs.Refused.{run_with}
+use Rattle.tigercanon.specs.Files.{bytes_of}
+use Rattle.tigercanon.specs.Outcomes.{ReportsLineTo}
+use Rattle.tigercanon.specs.Refusals.{fault_line}
+use Rattle.tigercanon.specs.Running.{IsMissingOne}
 use Rattle.tigercanon.proofs.program.running.run_files.Goals as goal
 
 pub returns-in-Ok-clause-ran : goal.returns-in-Ok-clause-ran

@@ -1,5 +1,4 @@
-use Rattle.tl_cert.proofs.Common.{ap, arith, chain_at, chain_carried, chain_under, decides_over, few_chains, image, nat_cmp, option_map}
-use Rattle.tl_cert.proofs.Common.{renumbered, turned_if, turns, ◌∙◌, ◌≡◌}
+use Rattle.tl_cert.proofs.Common.{ap, arith, chain_at, chain_carried, chain_under, decides_over, few_chains, image, nat_cmp, option_map, renumbered, turned_if, turns, ◌∙◌, ◌≡◌}
 use Rattle.tl_cert.proofs.Places.{decides_entry}
 use Rattle.tl_cert.specs.PartsThere.{tabled}
 use Rattle.tl_cert.proofs.chains.ChainsTested.holds.Goals as goal

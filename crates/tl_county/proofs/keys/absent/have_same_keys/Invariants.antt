@@ -1,4 +1,4 @@
-use Rattle.std.proofs.Common.{◌≡◌, map, length}
+use Rattle.std.proofs.Common.{length, map, ◌≡◌}
 use Rattle.tl_county.proofs.keys.absent.have_same_keys.Given as goal
 
 abbrev pub invariant-loop-item : goal.invariant-loop-item

@@ -1,4 +1,4 @@
-use Rattle.tl_county.proofs.Common.{Bool, List, ap, false, is_unknown, map, not, refl, contains, sym, true, ◌&&◌, ◌∙◌, ◌≡◌}
+use Rattle.tl_county.proofs.Common.{Bool, List, ap, contains, false, is_unknown, map, not, refl, sym, true, ◌&&◌, ◌∙◌, ◌≡◌}
 use Rattle.tl_county.proofs.keys.absent.least_absent.Goals as goal
 
 neither : (b : Bool) → (b && not b) ≡ false

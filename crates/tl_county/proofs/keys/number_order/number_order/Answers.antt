@@ -1,6 +1,4 @@
-use Rattle.tl_county.proofs.Common.{IfOk-weaker, IsInOrder, IsPermutation, IsPermutation-refl, List, all_at_places, ap, at_all_places}
-use Rattle.tl_county.proofs.Common.{at_places, in_order-unmap, length, length-map, map, map-at_places, nat_cmp, on, range_with_len, refl}
-use Rattle.tl_county.proofs.Common.{subst, sym, ℕ, ◌∙◌, ◌≡◌}
+use Rattle.tl_county.proofs.Common.{IfOk-weaker, IsInOrder, IsPermutation, IsPermutation-refl, List, all_at_places, ap, at_all_places, at_places, in_order-unmap, length, length-map, map, map-at_places, nat_cmp, on, range_with_len, refl, subst, sym, ℕ, ◌∙◌, ◌≡◌}
 use Rattle.tl_county.proofs.keys.number_order.number_order.Goals as goal
 
 pub returns-then-are_in_order-clause-permutation : goal.returns-then-are_in_order-clause-permutation

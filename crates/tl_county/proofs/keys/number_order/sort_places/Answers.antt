@@ -1,5 +1,4 @@
-use Rattle.tl_county.proofs.Common.{always_returns_same, get_or, in_order-from_sorted, nat_cmp_total, on_ok_weaker, on_total, rules}
-use Rattle.tl_county.proofs.Common.{unwrap_or-slice_get, ℕ}
+use Rattle.tl_county.proofs.Common.{always_returns_same, get_or, in_order-from_sorted, nat_cmp_total, on_ok_weaker, on_total, rules, unwrap_or-slice_get, ℕ}
 use Rattle.tl_county.proofs.keys.number_order.sort_places.Goals as goal
 
 pub returns-clause-in_order : goal.returns-clause-in_order

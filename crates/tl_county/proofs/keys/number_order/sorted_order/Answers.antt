@@ -1,5 +1,4 @@
-use Rattle.tl_county.proofs.Common.{IsInOrder, IsPermutation, IsPermutation-trans, List, ap, at_places, length, nat_cmp, numbers_in_order}
-use Rattle.tl_county.proofs.Common.{range_with_len, refl, subst, ℕ, ◌∙◌, ◌≡◌}
+use Rattle.tl_county.proofs.Common.{IsInOrder, IsPermutation, IsPermutation-trans, List, ap, at_places, length, nat_cmp, numbers_in_order, range_with_len, refl, subst, ℕ, ◌∙◌, ◌≡◌}
 use Rattle.tl_county.proofs.keys.number_order.sorted_order.Goals as goal
 
 -- sorted places are all places, as the unsorted ones were

@@ -1,5 +1,4 @@
-use Rattle.tl_county.proofs.Common.{IsInOrder, IsKeyOrder, ap, decided-twice, empty_list, false, is_eq, is_repeated, left-once, left-one}
-use Rattle.tl_county.proofs.Common.{map, on, rules, subst, true, ◌∙◌, ◌∷◌, ◌≡◌}
+use Rattle.tl_county.proofs.Common.{IsInOrder, IsKeyOrder, ap, decided-twice, empty_list, false, is_eq, is_repeated, left-once, left-one, map, on, rules, subst, true, ◌∙◌, ◌∷◌, ◌≡◌}
 use Rattle.tl_county.proofs.keys.repeated.least_repeated.Goals as goal
 
 pub returns-then-is_eq : goal.returns-then-is_eq

@@ -1,7 +1,4 @@
-use Rattle.tl_county.proofs.Common.{Fields1, Fields2, Fields4, Fields6, FieldsI, IsInOrder, IsStrictlySortedBy, List, [], ap, append-nil}
-use Rattle.tl_county.proofs.Common.{arith, cases_lt, chains_along, drop, drop_all, drop_more, four_tlid, in_order-filter, inl, inr, is_gt}
-use Rattle.tl_county.proofs.Common.{length, map, min, min-eq_left, min-eq_right, min-le_left, min-le_right, nat_cmp, on, one_tlid, refl}
-use Rattle.tl_county.proofs.Common.{six_tlid, strict_tail, subst, sym, two_tlid, ℕ, ◌++◌, ◌+◌, ◌<◌, ◌∙◌, ◌∷◌, ◌≡◌, ◌≤◌, ◌⊎◌}
+use Rattle.tl_county.proofs.Common.{Fields1, Fields2, Fields4, Fields6, FieldsI, IsInOrder, IsStrictlySortedBy, List, [], ap, append-nil, arith, cases_lt, chains_along, drop, drop_all, drop_more, four_tlid, in_order-filter, inl, inr, is_gt, length, map, min, min-eq_left, min-eq_right, min-le_left, min-le_right, nat_cmp, on, one_tlid, refl, six_tlid, strict_tail, subst, sym, two_tlid, ℕ, ◌++◌, ◌+◌, ◌<◌, ◌∙◌, ◌∷◌, ◌≡◌, ◌≤◌, ◌⊎◌}
 use Rattle.tl_county.proofs.Lists.Groups.{chains-step}
 use Rattle.tl_county.proofs.linking.building.chains_of_records.Goals as goal
 

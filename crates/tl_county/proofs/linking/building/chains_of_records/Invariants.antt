@@ -1,5 +1,4 @@
-use Rattle.tl_county.proofs.Common.{IsInOrder, IsStrictlySortedBy, chains_along, drop, four_tlid, map, nat_cmp, on, one_tlid, six_tlid}
-use Rattle.tl_county.proofs.Common.{two_tlid, ◌++◌, ◌≡◌}
+use Rattle.tl_county.proofs.Common.{IsInOrder, IsStrictlySortedBy, chains_along, drop, four_tlid, map, nat_cmp, on, one_tlid, six_tlid, two_tlid, ◌++◌, ◌≡◌}
 use Rattle.tl_county.proofs.linking.building.chains_of_records.Given as goal
 
 abbrev pub invariant-loop-place : goal.invariant-loop-place

@@ -1,5 +1,4 @@
-use Rattle.tl_county.proofs.Common.{IsInOrder, IsStrictlySortedBy, [], ap, eight_land, in_order-filter, is_gt, landmark_of, map, map-append}
-use Rattle.tl_county.proofs.Common.{nat_cmp, on, refl, seven_land, strict_tail, subst, sym, ◌++◌, ◌∙◌, ◌∷◌, ◌≡◌}
+use Rattle.tl_county.proofs.Common.{IsInOrder, IsStrictlySortedBy, [], ap, eight_land, in_order-filter, is_gt, landmark_of, map, map-append, nat_cmp, on, refl, seven_land, strict_tail, subst, sym, ◌++◌, ◌∙◌, ◌∷◌, ◌≡◌}
 use Rattle.tl_county.proofs.Lists.Groups.{landmarks-step}
 use Rattle.tl_county.proofs.linking.building.landmarks_of.Goals as goal
 

@@ -1,5 +1,4 @@
-use Rattle.tl_county.proofs.Common.{IsInOrder, ap, dedup_same, distinct, in_order-map, is_eq, nat_cmp, nat_keys, rules, seven_land, subst}
-use Rattle.tl_county.proofs.Common.{sym, ◌∙◌}
+use Rattle.tl_county.proofs.Common.{IsInOrder, ap, dedup_same, distinct, in_order-map, is_eq, nat_cmp, nat_keys, rules, seven_land, subst, sym, ◌∙◌}
 use Rattle.tl_county.proofs.Rules.GatheredLists.{dedup-distinct}
 use Rattle.tl_county.proofs.linking.building.lands_of.Goals as goal
 

@@ -1,4 +1,4 @@
-use Rattle.tl_county.proofs.Common.{distinct, flat_map, topology_nodes, nat_cmp, take, ◌≡◌}
+use Rattle.tl_county.proofs.Common.{distinct, flat_map, nat_cmp, take, topology_nodes, ◌≡◌}
 use Rattle.tl_county.proofs.linking.building.nodes_of.Given as goal
 
 abbrev pub invariant-loop-topology : goal.invariant-loop-topology

@@ -1,5 +1,4 @@
-use Rattle.tl_county.proofs.Common.{IfOk, IsInOrder, IsStrictlySortedBy, ap, in_order-filter, is_gt, key_cmp, map, map-id, on, p_key}
-use Rattle.tl_county.proofs.Common.{polygon_body_of, strict_tail, subst, sym, ◌++◌, ◌∙◌, ◌∷◌, ◌≡◌}
+use Rattle.tl_county.proofs.Common.{IfOk, IsInOrder, IsStrictlySortedBy, ap, in_order-filter, is_gt, key_cmp, map, map-id, on, p_key, polygon_body_of, strict_tail, subst, sym, ◌++◌, ◌∙◌, ◌∷◌, ◌≡◌}
 use Rattle.tl_county.proofs.Lists.Groups.{polygons-paired, polygons-step}
 use Rattle.tl_county.proofs.linking.building.polygon_bodies.Goals as goal
 

@@ -1,5 +1,5 @@
 use Rattle.tl_county.proofs.Common.{ordered_of, typed_of}
-use Rattle.tl_county.proofs.Rules.BuiltTables.{held, also_linked, same_county, within_limits-moved}
+use Rattle.tl_county.proofs.Rules.BuiltTables.{also_linked, held, same_county, within_limits-moved}
 use Rattle.tl_county.proofs.linking.linked_records.link_in_order.Goals as goal
 
 pub invariant_of-result : goal.invariant_of-result

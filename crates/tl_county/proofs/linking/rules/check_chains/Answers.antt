@@ -1,7 +1,5 @@
-use Rattle.tl_county.proofs.Common.{IsLeastPassing, List, None, Option, Record, RulesHold, Some, Typed, arith, by_type, four_tlid}
-use Rattle.tl_county.proofs.Common.{is_repeated, is_unknown, map, map-id, nat_cmp, one_tlid, ordered_of, rules, six_tlid, subst, two_tlid}
-use Rattle.tl_county.proofs.Common.{ℕ, ◌∙◌, ◌≡◌}
-use Rattle.tl_county.proofs.Rules.{RuleOrders.first-after, RuleOrders.rule-broken, RuleOrders.rule-holds, RuleOrders.rules-join}
+use Rattle.tl_county.proofs.Common.{IsLeastPassing, List, None, Option, Record, RulesHold, Some, Typed, arith, by_type, four_tlid, is_repeated, is_unknown, map, map-id, nat_cmp, one_tlid, ordered_of, rules, six_tlid, subst, two_tlid, ℕ, ◌∙◌, ◌≡◌}
+use Rattle.tl_county.proofs.Rules.RuleOrders.{first-after, rule-broken, rule-holds, rules-join}
 use Rattle.tl_county.proofs.Rules.RuleTests.{rule_11, rule_12_four, rule_12_i, rule_12_six, rule_12_two}
 use Rattle.tl_county.proofs.Rules.TlidsInOrder.{tables_in_order}
 use Rattle.tl_county.proofs.linking.rules.check_chains.Goals as goal

@@ -1,9 +1,7 @@
-use Rattle.tl_county.proofs.Common.{FieldsP, IsInOrder, IsLeastPassing, IsPermutation, List, None, Option, PolygonKey, Record, RulesHold}
-use Rattle.tl_county.proofs.Common.{Some, Typed, arith, at_lists, by_type, distinct, distinct-in_order, eight_land, flat_map, is_repeated}
-use Rattle.tl_county.proofs.Common.{is_unknown, key_cmp, key_keys, least-same, link_key, map, map-id, nat_cmp, ordered_of, p_key, rules}
-use Rattle.tl_county.proofs.Common.{seven_land, side_keys, subst, sym, ℕ, ◌++◌, ◌∙◌, ◌≡◌}
-use Rattle.tl_county.proofs.Rules.{RuleOrders.first-after, RuleOrders.rule-broken, RuleTests.unknown-distinct, TlidsInOrder.tables_in_order}
-use Rattle.tl_county.proofs.Rules.{RuleOrders.rule-holds, RuleOrders.rules-join, RuleTests.rule_18, RuleTests.rule_19, RuleTests.rule_20}
+use Rattle.tl_county.proofs.Common.{FieldsP, IsInOrder, IsLeastPassing, IsPermutation, List, None, Option, PolygonKey, Record, RulesHold, Some, Typed, arith, at_lists, by_type, distinct, distinct-in_order, eight_land, flat_map, is_repeated, is_unknown, key_cmp, key_keys, least-same, link_key, map, map-id, nat_cmp, ordered_of, p_key, rules, seven_land, side_keys, subst, sym, ℕ, ◌++◌, ◌∙◌, ◌≡◌}
+use Rattle.tl_county.proofs.Rules.RuleOrders.{first-after, rule-broken, rule-holds, rules-join}
+use Rattle.tl_county.proofs.Rules.RuleTests.{rule_18, rule_19, rule_20, unknown-distinct}
+use Rattle.tl_county.proofs.Rules.TlidsInOrder.{tables_in_order}
 use Rattle.tl_county.proofs.linking.rules.check_landmarks.Goals as goal
 
 -- the least polygon that occurs twice among the type P records, the least LAND that the other table lacks, or none

@@ -1,5 +1,4 @@
-use Rattle.tl_county.proofs.Common.{Fields4, Fields5, IsLeastPassing, List, None, Option, RulesHold, Some, arith, five_feat, flat_map}
-use Rattle.tl_county.proofs.Common.{is_repeated, is_unnamed, map, nat_cmp, ordered_of, sequence_cmp, subst, uses_of, ℕ}
+use Rattle.tl_county.proofs.Common.{Fields4, Fields5, IsLeastPassing, List, None, Option, RulesHold, Some, arith, five_feat, flat_map, is_repeated, is_unnamed, map, nat_cmp, ordered_of, sequence_cmp, subst, uses_of, ℕ}
 use Rattle.tl_county.proofs.Rules.RuleOrders.{first-after, rule-broken, rule-holds, rules-join}
 use Rattle.tl_county.proofs.Rules.RuleTests.{rule_16, rule_17}
 use Rattle.tl_county.proofs.linking.rules.check_names.Goals as goal

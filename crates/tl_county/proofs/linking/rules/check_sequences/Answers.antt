@@ -1,6 +1,4 @@
-use Rattle.tl_county.proofs.Common.{IsLeastPassing, List, None, Option, Record, RulesHold, Typed, arith, by_type, four_rtsq, four_sequence}
-use Rattle.tl_county.proofs.Common.{four_tlid, is_repeated, map, refl, rules, sequence_cmp, six_rtsq, six_sequence, six_tlid, subst}
-use Rattle.tl_county.proofs.Common.{two_rtsq, two_sequence, two_tlid, ℕ}
+use Rattle.tl_county.proofs.Common.{IsLeastPassing, List, None, Option, Record, RulesHold, Typed, arith, by_type, four_rtsq, four_sequence, four_tlid, is_repeated, map, refl, rules, sequence_cmp, six_rtsq, six_sequence, six_tlid, subst, two_rtsq, two_sequence, two_tlid, ℕ}
 use Rattle.tl_county.proofs.Rules.RuleOrders.{first-after, rule-broken, rule-holds, rules-join}
 use Rattle.tl_county.proofs.Rules.RuleTests.{least-repeat, no_repeat, rule_13_four, rule_13_six, rule_13_two}
 use Rattle.tl_county.proofs.linking.rules.check_sequences.Goals as goal

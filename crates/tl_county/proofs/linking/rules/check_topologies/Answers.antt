@@ -1,4 +1,5 @@
-use Rattle.tl_county.proofs.{Common.rules, Common.◌∙◌, Rules.TlidsInOrder.tables_in_order}
+use Rattle.tl_county.proofs.Common.{rules, ◌∙◌}
+use Rattle.tl_county.proofs.Rules.TlidsInOrder.{tables_in_order}
 use Rattle.tl_county.proofs.linking.rules.check_topologies.Goals as goal
 
 pub least_absent-requires : goal.least_absent-requires

@@ -1,5 +1,4 @@
-use Rattle.tl_county.proofs.Common.{IsLeastPassing, YieldsList-from_copied, YieldsList-from_slice, find_from_yields_List, is_unnamed}
-use Rattle.tl_county.proofs.Common.{nat_cmp, not, option_map_id, rules, sequence_cmp, contains, subst, sym, tests, ◌∙◌}
+use Rattle.tl_county.proofs.Common.{IsLeastPassing, YieldsList-from_copied, YieldsList-from_slice, contains, find_from_yields_List, is_unnamed, nat_cmp, not, option_map_id, rules, sequence_cmp, subst, sym, tests, ◌∙◌}
 use Rattle.tl_county.proofs.Rules.RuleTests.{unnamed-found}
 use Rattle.tl_county.proofs.linking.rules.least_unnamed.Goals as goal
 

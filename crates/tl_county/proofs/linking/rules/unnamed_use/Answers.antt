@@ -1,5 +1,6 @@
 use Rattle.tl_county.proofs.Common.{least-same, rules, sym, ◌∙◌}
-use Rattle.tl_county.proofs.{ByKey.MarkedNames.none_unnamed, Rules.RuleTests.unnamed-reordered}
+use Rattle.tl_county.proofs.ByKey.MarkedNames.{none_unnamed}
+use Rattle.tl_county.proofs.Rules.RuleTests.{unnamed-reordered}
 use Rattle.tl_county.proofs.linking.rules.unnamed_use.Goals as goal
 
 pub returns-then-branch : goal.returns-then-branch

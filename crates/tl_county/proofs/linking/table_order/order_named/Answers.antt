@@ -1,4 +1,5 @@
-use Rattle.tl_county.proofs.{Common.on_ok_weaker, Common.option_cmp, Common.point_cmp, Common.refl, Rules.GatheredLists.landmarks-in_order}
+use Rattle.tl_county.proofs.Common.{on_ok_weaker, option_cmp, point_cmp, refl}
+use Rattle.tl_county.proofs.Rules.GatheredLists.{landmarks-in_order}
 use Rattle.tl_county.proofs.linking.table_order.order_named.Goals as goal
 
 pub returns-clause-landmarks : goal.returns-clause-landmarks

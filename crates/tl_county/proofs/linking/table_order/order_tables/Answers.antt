@@ -1,5 +1,4 @@
-use Rattle.tl_county.proofs.Common.{IsLeastPassing, Tables, four_sequence, is_repeated, key_cmp, map, p_key, sequence_cmp, six_sequence}
-use Rattle.tl_county.proofs.Common.{subst, sym, two_sequence}
+use Rattle.tl_county.proofs.Common.{IsLeastPassing, Tables, four_sequence, is_repeated, key_cmp, map, p_key, sequence_cmp, six_sequence, subst, sym, two_sequence}
 use Rattle.tl_county.proofs.linking.table_order.order_tables.Goals as goal
 
 pub returns-clause-repeated : goal.returns-clause-repeated

@@ -1,4 +1,5 @@
-use Rattle.tl_layout.proofs.{Common.All-push, Common.FitsRecord, TableSteps.holds_with}
+use Rattle.tl_layout.proofs.Common.{All-push, FitsRecord}
+use Rattle.tl_layout.proofs.TableSteps.{holds_with}
 use Rattle.tl_layout.proofs.tables.Tables.of.Goals as goal
 
 pub loop-record-preserved : goal.loop-record-preserved

@@ -1,6 +1,5 @@
 -- The turned content was written after fifteen blanks, and those columns are kept.
-use Rattle.tl_layout.proofs.Common.{AreAllowed, ap, arith, blanks, blanks_are_text, body_1_at, body_1_texts, body_turned_fits}
-use Rattle.tl_layout.proofs.Common.{columns_are_text, fields_again, joined-before, pair_of_texts, subst, sym, turned_body, ◌∙◌}
+use Rattle.tl_layout.proofs.Common.{AreAllowed, ap, arith, blanks, blanks_are_text, body_1_at, body_1_texts, body_turned_fits, columns_are_text, fields_again, joined-before, pair_of_texts, subst, sym, turned_body, ◌∙◌}
 use Rattle.tl_layout.proofs.Writes.{whole}
 use Rattle.tl_layout.proofs.turn.Body1Turn.turn.Goals as goal
 

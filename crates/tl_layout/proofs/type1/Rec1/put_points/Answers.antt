@@ -1,5 +1,6 @@
 -- One point was written after the other.
-use Rattle.tl_layout.proofs.{Common.arith, Common.point_texts, Common.refl, Writes.group_behind, Writes.whole}
+use Rattle.tl_layout.proofs.Common.{arith, point_texts, refl}
+use Rattle.tl_layout.proofs.Writes.{group_behind, whole}
 use Rattle.tl_layout.proofs.type1.Rec1.put_points.Goals as goal
 
 pub returns : goal.returns

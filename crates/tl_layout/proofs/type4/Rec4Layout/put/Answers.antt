@@ -1,7 +1,8 @@
 -- The columns were written one after another, following the record type and the version.
 use Rattle.tl_layout.proofs.Common.{Type4, ap, arith, number_text, places_text, refl, ◌∙◌}
 use Rattle.tl_layout.proofs.Writes.{behind, whole, ◌▸◌}
-use Rattle.tl_layout.specs.{FieldTexts.number_place_text, RecordTypes.fields_spelling}
+use Rattle.tl_layout.specs.FieldTexts.{number_place_text}
+use Rattle.tl_layout.specs.RecordTypes.{fields_spelling}
 use Rattle.tl_layout.proofs.type4.Rec4Layout.put.Goals as goal
 
 pub returns-clause-spelling : goal.returns-clause-spelling

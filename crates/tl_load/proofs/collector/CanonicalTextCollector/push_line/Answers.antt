@@ -1,4 +1,4 @@
-use Rattle.std.proofs.Common.{length, refl, sym, ap, ◌∙◌}
+use Rattle.std.proofs.Common.{ap, length, refl, sym, ◌∙◌}
 use Rattle.tl_load.proofs.TextLemmas.{has_version}
 use Rattle.tl_load.proofs.collector.CanonicalTextCollector.push_line.Goals as goal
 

@@ -1,5 +1,6 @@
 use Rattle.tl_load.proofs.Common.{All, FitsRecord, List, SpellsWithin, WasFed, WasFedInto, all_parts, tiger, ℕ}
-use Rattle.tl_load.proofs.{Listed.also, Listed.found_list, Listed.holds_list, Listed.into_of, RecordLines.spelled_fit}
+use Rattle.tl_load.proofs.Listed.{also, found_list, holds_list, into_of}
+use Rattle.tl_load.proofs.RecordLines.{spelled_fit}
 use Rattle.tl_load.proofs.loader.Loader.finish.Goals as goal
 
 fed : (c : goal.After-finish) (limit : ℕ) (closed : List (List ℕ)) (open_part : List ℕ) → WasFed limit c.args.self closed open_part

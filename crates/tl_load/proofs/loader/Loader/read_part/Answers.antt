@@ -1,6 +1,6 @@
-use Rattle.std.proofs.Common.{ℕ, List, [], ◌∷◌, ◌++◌, Result, Ok, Err, ◌⊎◌, inl, inr}
+use Rattle.std.proofs.Common.{Err, List, Ok, Result, [], inl, inr, ℕ, ◌++◌, ◌∷◌, ◌⊎◌}
 use Rattle.tl_load.proofs.Common.{LoadFault, LoadedInto, MatchResult, WasFed, WasFedInto}
-use Rattle.tl_load.proofs.Listed.{Records, holds_list, listed, into_of, of_into}
+use Rattle.tl_load.proofs.Listed.{Records, holds_list, into_of, listed, of_into}
 use Rattle.tl_load.proofs.loader.Loader.read_part.Given as given
 use Rattle.tl_load.proofs.loader.Loader.read_part.Goals as goal
 

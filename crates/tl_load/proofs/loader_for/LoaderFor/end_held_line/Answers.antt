@@ -1,5 +1,6 @@
 use Rattle.tl_load.proofs.Common.{IsWithoutLineFeed, Loaded, [], ap, append-nil, refl, seen, subst, sym, without_return, ◌∙◌}
-use Rattle.tl_load.proofs.{Steps.ends_line, Views.opened}
+use Rattle.tl_load.proofs.Steps.{ends_line}
+use Rattle.tl_load.proofs.Views.{opened}
 use Rattle.tl_load.proofs.loader_for.LoaderFor.end_held_line.Goals as goal
 
 pub returns-clause-takes : goal.returns-clause-takes

@@ -1,5 +1,6 @@
 use Rattle.tl_load.proofs.Common.{Loaded, ap, refl, seen, sym, without_return, ◌∙◌}
-use Rattle.tl_load.proofs.{Steps.ends_empty, Steps.ends_part, Views.empty_is, Views.opened, Views.some_is}
+use Rattle.tl_load.proofs.Steps.{ends_empty, ends_part}
+use Rattle.tl_load.proofs.Views.{empty_is, opened, some_is}
 use Rattle.tl_load.proofs.loader_for.LoaderFor.end_last_line.Goals as goal
 
 pub returns-then-is_empty-clause-ends : goal.returns-then-is_empty-clause-ends

@@ -1,6 +1,7 @@
-use Rattle.tl_load.proofs.Common.{Err, Lifts, LoadFault, Ok, OnOk, Result, Takes, [], arith, err_from_is_err_and, longest_line, rules, seen}
-use Rattle.tl_load.proofs.Common.{subst, ℕ, ◌*◌, ◌++◌, ◌+◌, ◌∷◌, ◌≡◌, ◌≤◌}
-use Rattle.tl_load.proofs.{LineLemmas.without_return_length, Steps.ends_line, Steps.fault_then, Steps.takes_then, Views.empty_is}
+use Rattle.tl_load.proofs.Common.{Err, Lifts, LoadFault, Ok, OnOk, Result, Takes, [], arith, err_from_is_err_and, longest_line, rules, seen, subst, ℕ, ◌*◌, ◌++◌, ◌+◌, ◌∷◌, ◌≡◌, ◌≤◌}
+use Rattle.tl_load.proofs.LineLemmas.{without_return_length}
+use Rattle.tl_load.proofs.Steps.{ends_line, fault_then, takes_then}
+use Rattle.tl_load.proofs.Views.{empty_is}
 use Rattle.tl_load.proofs.loader_for.LoaderFor.end_line.Goals as goal
 
 -- a judged line has at most 230 bytes with its line ending, so that 230 for each of them is enough

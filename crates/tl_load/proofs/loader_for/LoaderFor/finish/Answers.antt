@@ -1,7 +1,7 @@
-use Rattle.tl_load.proofs.Common.{FaultAt, IsOfLines, List, LoadedInto, None, Record, WasFedInto, all_parts, err_from_is_err_and, rules}
-use Rattle.tl_load.proofs.Common.{subst, sym, tiger, ℕ, ◌≡◌}
+use Rattle.tl_load.proofs.Common.{FaultAt, IsOfLines, List, LoadedInto, None, Record, WasFedInto, all_parts, err_from_is_err_and, rules, subst, sym, tiger, ℕ, ◌≡◌}
 use Rattle.tl_load.proofs.Histories.{finished, finished_fault, finished_unchanged}
-use Rattle.tl_load.proofs.{Reading.accepted_no_fault, Reading.accepted_once, RecordLines.tiger_is_sound}
+use Rattle.tl_load.proofs.Reading.{accepted_no_fault, accepted_once}
+use Rattle.tl_load.proofs.RecordLines.{tiger_is_sound}
 use Rattle.tl_load.proofs.loader_for.LoaderFor.finish.Given as given
 use Rattle.tl_load.proofs.loader_for.LoaderFor.finish.Goals as goal
 

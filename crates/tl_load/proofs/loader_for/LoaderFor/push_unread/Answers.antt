@@ -1,5 +1,6 @@
 use Rattle.tl_load.proofs.Common.{[], after_verdict, ap, arith, as_record, refl, sym, tiger, type_of, ◌++◌, ◌+◌, ◌∙◌, ◌∷◌, ◌≡◌}
-use Rattle.tl_load.proofs.{Counts.adds_below, Counts.counted_more, Counts.loader_with, Counts.total_up, TextLemmas.judged_full_line}
+use Rattle.tl_load.proofs.Counts.{adds_below, counted_more, loader_with, total_up}
+use Rattle.tl_load.proofs.TextLemmas.{judged_full_line}
 use Rattle.tl_load.proofs.loader_for.LoaderFor.push_unread.Goals as goal
 
 pub invariant_of-self : goal.invariant_of-self

@@ -1,6 +1,7 @@
-use Rattle.tl_load.proofs.Common.{Err, JudgesAs, after_verdict, ap, arith, as_record, length, longest_line, refl, rules}
-use Rattle.tl_load.proofs.Common.{seen, subst, sym, tiger, ◌+◌, ◌∙◌, ◌≤◌}
-use Rattle.tl_load.proofs.{Steps.place_not_device, TextLemmas.judged_fault_line, TextLemmas.judged_full_line, Views.on_ok_by}
+use Rattle.tl_load.proofs.Common.{Err, JudgesAs, after_verdict, ap, arith, as_record, length, longest_line, refl, rules, seen, subst, sym, tiger, ◌+◌, ◌∙◌, ◌≤◌}
+use Rattle.tl_load.proofs.Steps.{place_not_device}
+use Rattle.tl_load.proofs.TextLemmas.{judged_fault_line, judged_full_line}
+use Rattle.tl_load.proofs.Views.{on_ok_by}
 use Rattle.tl_load.proofs.loader_for.LoaderFor.read_as.Goals as goal
 
 pub returns-in-Ok : goal.returns-in-Ok

@@ -1,5 +1,6 @@
 use Rattle.tl_load.proofs.Common.{IsAtEnd, List, None, WasFedInto, [], append-nil, arith, inr, subst, sym, ℕ, ◌≡◌}
-use Rattle.tl_load.proofs.{Histories.fed_read, Histories.well_after, ReadSteps.gave_none}
+use Rattle.tl_load.proofs.Histories.{fed_read, well_after}
+use Rattle.tl_load.proofs.ReadSteps.{gave_none}
 use Rattle.tl_load.proofs.loader_for.LoaderFor.read_part_by.Goals as goal
 
 pub returns-in-Some-clause-fed : goal.returns-in-Some-clause-fed

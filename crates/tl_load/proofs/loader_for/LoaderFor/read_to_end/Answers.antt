@@ -1,7 +1,7 @@
-use Rattle.tl_load.proofs.Common.{Consumes, IsWithoutLineFeed, bytes_used, err_from_is_err_and, length-append, length-take, most_unfinished}
-use Rattle.tl_load.proofs.Common.{RoseBy, [], ap, arith, length, most_taken, refl, seen, subst, sym, take, ℕ, ◌++◌, ◌<◌, ◌∙◌, ◌≡◌, ◌≤◌}
+use Rattle.tl_load.proofs.Common.{Consumes, IsWithoutLineFeed, RoseBy, [], ap, arith, bytes_used, err_from_is_err_and, length, length-append, length-take, most_taken, most_unfinished, refl, seen, subst, sym, take, ℕ, ◌++◌, ◌<◌, ◌∙◌, ◌≡◌, ◌≤◌}
 use Rattle.tl_load.proofs.Steps.{reads_closed, reads_fault, takes_both, takes_none}
-use Rattle.tl_load.proofs.{Counts.few_records, ReadSteps.gave_more, ReadSteps.gave_none, ReadSteps.gave_same}
+use Rattle.tl_load.proofs.Counts.{few_records}
+use Rattle.tl_load.proofs.ReadSteps.{gave_more, gave_none, gave_same}
 use Rattle.tl_load.proofs.loader_for.LoaderFor.read_to_end.Goals as goal
 
 pub loop-count-init : goal.loop-count-init

@@ -1,5 +1,5 @@
-use Rattle.std.proofs.Common.{◌≡◌, ℕ, ◌+◌, ◌-◌, ◌≤◌, List, length, Ok}
-use Rattle.tl_load.proofs.Common.{Gave, IsSamePart, most_unfinished, Lifts, most_taken, Takes, bytes_used}
+use Rattle.std.proofs.Common.{List, Ok, length, ℕ, ◌+◌, ◌-◌, ◌≡◌, ◌≤◌}
+use Rattle.tl_load.proofs.Common.{Gave, IsSamePart, Lifts, Takes, bytes_used, most_taken, most_unfinished}
 use Rattle.tl_load.proofs.loader_for.LoaderFor.read_to_end.Given as goal
 
 abbrev pub invariant-loop-count : goal.invariant-loop-count

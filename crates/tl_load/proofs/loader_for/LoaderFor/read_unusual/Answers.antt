@@ -1,4 +1,7 @@
-use Rattle.tl_load.proofs.{Common.rules, LineLaws.judged_short, Steps.place_not_device, Views.on_ok_by}
+use Rattle.tl_load.proofs.Common.{rules}
+use Rattle.tl_load.proofs.LineLaws.{judged_short}
+use Rattle.tl_load.proofs.Steps.{place_not_device}
+use Rattle.tl_load.proofs.Views.{on_ok_by}
 use Rattle.tl_load.proofs.loader_for.LoaderFor.read_unusual.Goals as goal
 
 pub returns-in-Ok : goal.returns-in-Ok

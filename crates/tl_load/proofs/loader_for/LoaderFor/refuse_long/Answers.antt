@@ -1,7 +1,6 @@
-use Rattle.tl_load.proofs.Common.{All-append, List, Loaded, ap, append_assoc, arith, drop, false, is_line_feed, length, length-append}
-use Rattle.tl_load.proofs.Common.{length-drop, length-take, longest_line, most_unfinished, refl, seen, sym, take, take-append-drop, ℕ, ◌++◌}
-use Rattle.tl_load.proofs.Common.{◌+◌, ◌-◌, ◌<◌, ◌∙◌, ◌≡◌, ◌≤◌}
-use Rattle.tl_load.proofs.{Steps.refuses, Views.on_ok_of, Views.opened}
+use Rattle.tl_load.proofs.Common.{All-append, List, Loaded, ap, append_assoc, arith, drop, false, is_line_feed, length, length-append, length-drop, length-take, longest_line, most_unfinished, refl, seen, sym, take, take-append-drop, ℕ, ◌++◌, ◌+◌, ◌-◌, ◌<◌, ◌∙◌, ◌≡◌, ◌≤◌}
+use Rattle.tl_load.proofs.Steps.{refuses}
+use Rattle.tl_load.proofs.Views.{on_ok_of, opened}
 use Rattle.tl_load.proofs.loader_for.LoaderFor.refuse_long.Goals as goal
 
 pub returns-clause-takes : goal.returns-clause-takes

@@ -1,6 +1,6 @@
-use Rattle.tl_load.proofs.Common.{List, MatchOption, None, Option, Some, ap, drop, err_from_is_err_and, length-append, refl, rules, seen}
-use Rattle.tl_load.proofs.Common.{sym, ℕ, ◌++◌, ◌∙◌, ◌∷◌, ◌≡◌}
-use Rattle.tl_load.proofs.{Steps.leaves_after, Steps.leaves_all, Steps.leaves_fault, Steps.leaves_taken, Views.rest_of}
+use Rattle.tl_load.proofs.Common.{List, MatchOption, None, Option, Some, ap, drop, err_from_is_err_and, length-append, refl, rules, seen, sym, ℕ, ◌++◌, ◌∙◌, ◌∷◌, ◌≡◌}
+use Rattle.tl_load.proofs.Steps.{leaves_after, leaves_all, leaves_fault, leaves_taken}
+use Rattle.tl_load.proofs.Views.{rest_of}
 use Rattle.tl_load.proofs.loader_for.LoaderFor.take_piece.Goals as goal
 
 none_by : {A : Type 0} (P : Type 0) (Q : A → Type 0) (o : Option A) → ((x : A) → o ≡ Some x → ⊥) → MatchOption o P Q → P

@@ -1,4 +1,6 @@
-use Rattle.tl_load.proofs.{Common.rules, Counts.empty_loader, Histories.fed_nothing}
+use Rattle.tl_load.proofs.Common.{rules}
+use Rattle.tl_load.proofs.Counts.{empty_loader}
+use Rattle.tl_load.proofs.Histories.{fed_nothing}
 use Rattle.tl_load.proofs.loader_for.LoaderFor.with_limit.Goals as goal
 
 pub invariant_of-result : goal.invariant_of-result

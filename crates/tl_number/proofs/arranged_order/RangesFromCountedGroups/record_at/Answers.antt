@@ -1,5 +1,4 @@
-use Rattle.tl_number.proofs.Common.{[], ap, arith, few_chains, length, length-map, packed_sixes, slice_get, subst, sym, type_6_by_chain}
-use Rattle.tl_number.proofs.Common.{unwrap_or, ◌<◌, ◌∙◌}
+use Rattle.tl_number.proofs.Common.{[], ap, arith, few_chains, length, length-map, packed_sixes, slice_get, subst, sym, type_6_by_chain, unwrap_or, ◌<◌, ◌∙◌}
 use Rattle.canonical_form.proofs.Lists.ListPlaces.{get_dropped}
 use Rattle.std.proofs.lemmas.List.{length-drop}
 use Rattle.tl_number.proofs.arranged_order.RangesFromCountedGroups.record_at.Goals as goal

@@ -1,4 +1,4 @@
-use Rattle.tl_number.proofs.Common.{◌∙◌, get_or}
+use Rattle.tl_number.proofs.Common.{get_or, ◌∙◌}
 use Rattle.tl_number.proofs.Ties.PartTables.{read_within, value_there}
 use Rattle.tl_number.proofs.county_part.CountyPart.chain.Goals as goal
 

@@ -1,4 +1,4 @@
-use Rattle.tl_number.proofs.Common.{◌∙◌, ap, cond}
+use Rattle.tl_number.proofs.Common.{ap, cond, ◌∙◌}
 use Rattle.tl_number.proofs.Ties.PartTables.{bodies_read, land_read, links_read, read_within}
 use Rattle.tl_number.proofs.county_part.CountyPart.landmark.Goals as goal
 

@@ -1,4 +1,4 @@
-use Rattle.tl_number.proofs.Common.{◌∙◌, ap, cond}
+use Rattle.tl_number.proofs.Common.{ap, cond, ◌∙◌}
 use Rattle.tl_number.proofs.Ties.PartTables.{part_land_count}
 use Rattle.tl_number.proofs.county_part.CountyPartChart.landmark_count.Goals as goal
 

@@ -1,4 +1,4 @@
-use Rattle.tl_number.proofs.Common.{[], ◌∙◌, ap, cond, lands, nat_cmp, contains, sym}
+use Rattle.tl_number.proofs.Common.{[], ap, cond, contains, lands, nat_cmp, sym, ◌∙◌}
 use Rattle.tl_number.proofs.Ties.PartTables.{found_too, part_lands}
 use Rattle.tl_number.proofs.county_part.CountyPartChart.landmark_place.Goals as goal
 

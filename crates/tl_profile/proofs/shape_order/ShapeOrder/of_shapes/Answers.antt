@@ -1,5 +1,4 @@
-use Rattle.tl_profile.proofs.Common.{map, sym, ap, ◌∙◌, subst, points_cmp, map-map, is_either_way, open_places, placed_directed}
-use Rattle.tl_profile.proofs.Common.{AreInShapeOrder, points_along}
+use Rattle.tl_profile.proofs.Common.{AreInShapeOrder, ap, is_either_way, map, map-map, open_places, placed_directed, points_along, points_cmp, subst, sym, ◌∙◌}
 use Rattle.tl_profile.proofs.shape_order.ShapeOrder.of_shapes.Goals as goal
 
 pub returns : goal.returns

@@ -1,4 +1,4 @@
-use Rattle.std.proofs.Common.{reverse, sym, ap, ◌∙◌}
+use Rattle.std.proofs.Common.{ap, reverse, sym, ◌∙◌}
 use Rattle.tl_shape.specs.PointOrder.{point_cmp, points_cmp}
 use Rattle.tl_shape.proofs.Reversed.{after_equal, at_unequal}
 use Rattle.tl_shape.proofs.shape.Shape.cmp_reverse.Goals as goal

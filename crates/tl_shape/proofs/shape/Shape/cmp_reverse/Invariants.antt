@@ -1,5 +1,5 @@
 -- The points so far are the same from both ends, so the rest decides.
-use Rattle.std.proofs.Common.{◌≡◌, drop, reverse}
+use Rattle.std.proofs.Common.{drop, reverse, ◌≡◌}
 use Rattle.tl_shape.specs.PointOrder.{points_cmp}
 use Rattle.tl_shape.proofs.shape.Shape.cmp_reverse.Given as goal
 

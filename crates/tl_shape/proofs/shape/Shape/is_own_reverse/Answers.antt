@@ -1,6 +1,6 @@
-use Rattle.std.proofs.Common.{reverse, sym, ◌∙◌, ap}
+use Rattle.std.proofs.Common.{ap, reverse, sym, ◌∙◌}
 use Rattle.std.specs.Ordering.{is_eq}
-use Rattle.tl_shape.proofs.Orders.{points_exact, points_same, equal_from_test}
+use Rattle.tl_shape.proofs.Orders.{equal_from_test, points_exact, points_same}
 use Rattle.tl_shape.proofs.shape.Shape.is_own_reverse.Goals as goal
 
 pub returns : goal.returns

@@ -1,5 +1,5 @@
-use Rattle.arranged_county.proofs.Common.{List, [], ap, append-nil, arith, length, subst, sym, ℕ, ◌++◌, ◌∙◌, ◌≡◌}
-use Rattle.record_groups.proofs.Common.{err_from_is_err_and}
+use Rattle.std.proofs.Common.{List, [], ap, append-nil, arith, length, subst, sym, ℕ, ◌++◌, ◌∙◌, ◌≡◌}
+use Rattle.std.proofs.lemmas.Result.{err_from_is_err_and}
 use Rattle.tl_write.specs.GoingOut.{IsGoingOut, Waiting, up_to_most}
 use Rattle.tl_write.proofs.text_buffer.TextBuffer.finish.Goals as goal
 

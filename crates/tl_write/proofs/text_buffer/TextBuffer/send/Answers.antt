@@ -1,6 +1,6 @@
-use Rattle.std.proofs.Common.{◌≡◌, ◌<◌, ◌+◌, ◌++◌, ◌∙◌, ℕ, List, arith, subst, sym, ap, take, drop, length, length-drop, append_assoc, min}
-use Rattle.std.proofs.lemmas.List.{take-append-drop, length-append, length-take}
-use Rattle.tl_write.specs.GoingOut.{HasCounted, IsGoingOut, HoldsBeginning, up_to_most}
+use Rattle.std.proofs.Common.{List, ap, append_assoc, arith, drop, length, length-drop, min, subst, sym, take, ℕ, ◌++◌, ◌+◌, ◌<◌, ◌∙◌, ◌≡◌}
+use Rattle.std.proofs.lemmas.List.{length-append, length-take, take-append-drop}
+use Rattle.tl_write.specs.GoingOut.{HasCounted, HoldsBeginning, IsGoingOut, up_to_most}
 use Rattle.tl_write.proofs.text_buffer.TextBuffer.send.Goals as goal
 
 -- a sink that failed holds the bytes sent before and the first of the waiting bytes

@@ -1,4 +1,5 @@
-use Rattle.county_chart.proofs.{ByKey.PolygonSets.keys_themselves, Common.rules}
+use Rattle.county_chart.proofs.ByKey.PolygonSets.{keys_themselves}
+use Rattle.county_chart.proofs.Common.{rules}
 use Rattle.county_chart.proofs.keys.key_set.KeySet+PolygonKey.in_order.Goals as goal
 
 pub returns : goal.returns

@@ -1,4 +1,4 @@
-use Rattle.std.proofs.Common.{Some, ap, ◌∙◌, option_map}
+use Rattle.std.proofs.Common.{Some, ap, option_map, ◌∙◌}
 use Rattle.county_chart.proofs.Lists.StoredParts.{value-at-kept}
 use Rattle.county_chart.proofs.stored.stored_chart.StoredCountyChart.name_body_there.Goals as goal
 

@@ -1,7 +1,7 @@
-use Rattle.std.proofs.Common.{sym, subst}
+use Rattle.std.proofs.Common.{subst, sym}
 use Rattle.county_chart.specs.CountyRules.{tlids}
 use Rattle.ordered_lists.proofs.ByKey.Keys.{nat_keys, times-permutation}
-use Rattle.canonical_form.specs.Arrangement.{ascending, arranged_tlids}
+use Rattle.canonical_form.specs.Arrangement.{arranged_tlids, ascending}
 use Rattle.canonical_form.specs.WholeArrangements.{NamesEachOnce}
 use Rattle.canonical_form.proofs.CanonicalLists.Ascending.{sides_in_profile}
 use Rattle.canonical_form.proofs.Choices.TidyChoices.{shapes_arrange}

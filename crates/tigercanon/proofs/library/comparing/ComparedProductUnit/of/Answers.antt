@@ -1,4 +1,4 @@
-use Rattle.tigercanon.proofs.{Verdicts.found_of_sets}
+use Rattle.tigercanon.proofs.Verdicts.{found_of_sets}
 use Rattle.tigercanon.proofs.library.comparing.ComparedProductUnit.of.Goals as goal
 
 pub returns : goal.returns

@@ -1,5 +1,5 @@
-use Rattle.tigercanon.proofs.Common.{Err, MatchResult, Ok, Result, WriteFault, [], arith, if◌then◌else◌, is_ok, ℕ, ◌+◌, ◌≡◌}
-use Rattle.tigercanon.proofs.{CanonicalTexts.only_of_set, CanonicalTexts.text_of_set, Common.refl}
+use Rattle.tigercanon.proofs.Common.{Err, MatchResult, Ok, Result, WriteFault, [], arith, if◌then◌else◌, is_ok, refl, ℕ, ◌+◌, ◌≡◌}
+use Rattle.tigercanon.proofs.CanonicalTexts.{only_of_set, text_of_set}
 use Rattle.tigercanon.proofs.library.products.HashProductUnit.of.Goals as goal
 
 -- a sink that counts no failure took the whole text

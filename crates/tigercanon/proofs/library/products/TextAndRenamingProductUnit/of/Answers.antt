@@ -1,4 +1,4 @@
-use Rattle.tigercanon.proofs.{CanonicalTexts.carried_of_set, CanonicalTexts.text_of_set}
+use Rattle.tigercanon.proofs.CanonicalTexts.{carried_of_set, text_of_set}
 use Rattle.tigercanon.proofs.library.products.TextAndRenamingProductUnit.of.Goals as goal
 
 pub returns : goal.returns

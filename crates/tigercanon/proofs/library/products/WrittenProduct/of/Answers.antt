@@ -1,4 +1,5 @@
-use Rattle.tigercanon.proofs.{CanonicalTexts.goes_out, CanonicalTexts.text_of_set, Common.refl}
+use Rattle.tigercanon.proofs.CanonicalTexts.{goes_out, text_of_set}
+use Rattle.tigercanon.proofs.Common.{refl}
 use Rattle.tigercanon.proofs.library.products.WrittenProduct.of.Goals as goal
 
 pub returns : goal.returns

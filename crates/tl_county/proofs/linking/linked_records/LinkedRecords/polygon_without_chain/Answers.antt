@@ -1,5 +1,4 @@
-use Rattle.tl_county.proofs.Common.{IsLeastPassing, Typed, ap, by_type_of, county_of, flat_map, is_unknown, is_without_chain, key_cmp}
-use Rattle.tl_county.proofs.Common.{least-same, map, ordered_of, p_key, side_keys, subst, sym, type_after_type, ◌∙◌}
+use Rattle.tl_county.proofs.Common.{IsLeastPassing, Typed, ap, by_type_of, county_of, flat_map, is_unknown, is_without_chain, key_cmp, least-same, map, ordered_of, p_key, side_keys, subst, sym, type_after_type, ◌∙◌}
 use Rattle.tl_county.proofs.Rules.WithoutChain.{same_without_chain}
 use Rattle.tl_county.proofs.linking.linked_records.LinkedRecords.polygon_without_chain.Goals as goal
 

@@ -1,6 +1,5 @@
 -- The fields were written after fifteen blanks, and the columns after these are kept.
-use Rattle.tl_layout.proofs.Common.{List, ap, arith, blanks, body_1_of, body_1_text, body_1_texts, columns_are_text, drop, fields_again}
-use Rattle.tl_layout.proofs.Common.{joined-before, take, take_all, ℕ, ◌∙◌, ◌≡◌}
+use Rattle.tl_layout.proofs.Common.{List, ap, arith, blanks, body_1_of, body_1_text, body_1_texts, columns_are_text, drop, fields_again, joined-before, take, take_all, ℕ, ◌∙◌, ◌≡◌}
 use Rattle.tl_layout.proofs.Writes.{whole}
 use Rattle.tl_layout.proofs.type1.body.Body1.of.Goals as goal
 

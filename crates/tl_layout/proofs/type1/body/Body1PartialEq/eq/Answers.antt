@@ -1,6 +1,5 @@
 -- Contents are the same exactly if their columns are.
-use Rattle.tl_layout.proofs.Common.{ap, body_1_of, body_1_text, comparing, rules, same_from_decides, slice_eq-Decides, sym, text_of_columns}
-use Rattle.tl_layout.proofs.Common.{unsigned_Decides, ◌∙◌}
+use Rattle.tl_layout.proofs.Common.{ap, body_1_of, body_1_text, comparing, rules, same_from_decides, slice_eq-Decides, sym, text_of_columns, unsigned_Decides, ◌∙◌}
 use Rattle.tl_layout.proofs.type1.body.Body1PartialEq.eq.Goals as goal
 
 pub returns : goal.returns
