@@ -8,6 +8,9 @@
 
 # The most memory that one proof of this repository takes, in kB.
 a_proof=5000000
+# How long it takes on four processors to prove and build the program, and to compile it as the sources are. docs/measurements.md says more.
+proving_takes="half an hour or longer"
+compiling_takes="three minutes"
 
 say() { printf '%s: %s\n' "${0##*/}" "$*" >&2; }
 
@@ -117,7 +120,7 @@ prove_program() {
     has_kit || stop "the program has to be proved and built, and $lacking"
     make_stage || stop "$root/out can't be written"
     jobs="$(jobs_that_fit)"
-    say "every crate is proved, and the program is built: about half an hour on four processors"
+    say "every crate is proved, and the program is built: $proving_takes on four processors"
     CDPATH="" cd -- "$root/crates" && attend setsid rt all check --jobs "${jobs:-1}" >&2 &&
         cd tigercanon_main && attend setsid rt run -- respell /dev/null >&2 || stop "the program isn't proved"
     built="$root/crates/tigercanon_main/out/tigercanon_main"
@@ -133,7 +136,7 @@ compile_program() {
     if is_made "$root/out/unproved" tigercanon; then return; fi
     has_kit || stop "the program has to be compiled, and $lacking"
     make_stage || stop "$root/out can't be written"
-    say "compiling the sources as they are, which takes some three minutes; the program stays in out/unproved until they are edited"
+    say "compiling the sources as they are, which takes some $compiling_takes; the program stays in out/unproved until they are edited"
     attend setsid "$root/scripts/compile-unproved" --program "$stage/tigercanon" >&2 || exit "${status_of_stop-1}"
     keep "$stage" "$root/out/unproved" "$sources" || stop "$root/out can't be written"
 }
