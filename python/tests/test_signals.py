@@ -3,12 +3,13 @@
 import os
 import random
 import signal
+import sys
 import time
 from contextlib import suppress
 from pathlib import Path
 
 import pytest
-from dev.testing import await_that
+from dev.testing import ROOT, await_that
 from support import HEAD, NAME, Process, begin, call, complete, count_of_lines, end, left_behind, limit_files, listed, manifest
 from support import processes, put, zip_up
 
@@ -66,18 +67,27 @@ def test_at_any_moment(archive: Path) -> None:
     """Runs that are stopped again and again, while Python starts, while they look for counties, judge and write: in the end all is done."""
     pauses = random.Random(1)
     for _ in range(25):
-        run = begin("fingerprint", "--jobs", "2", "-o", "m", "in")
-        time.sleep(pauses.uniform(0.1, 0.8))
+        run = begin("fingerprint", "--jobs", "2", "-o", "m", "in", program=[ROOT / "tigercanon-tools"], env={"PYTHON": sys.executable})
+        time.sleep(pauses.uniform(0.05, 0.8))
         number = pauses.choice(SIGNALS[:3])
         run.send_signal(number)
-        status = end(run, 10).status
-        # Python, or the shell that starts it, ends with 1 or 2 if it is interrupted before the command has started.
-        assert status in (0, -number, *([1, 2] if number == signal.SIGINT else []))
+        ended = end(run, 10)
+        # Python ends with 1 if it is interrupted in the milliseconds before the first line of the script that it was given.
+        assert ended.status in (0, -number) or "Fatal Python error: init_" in ended.err
         assert_nothing_is_left(archive)
         text = listed("m") or HEAD
         assert text.startswith(HEAD) and set(text.splitlines()) <= set(WANTED.splitlines()) and text.endswith("\n")
     assert_the_rest_is_done()
     assert count_of_lines("calls") < 60
+
+
+@pytest.mark.parametrize("number", SIGNALS[:3])
+def test_a_signal_while_the_command_line_is_read(room: Path, number: signal.Signals) -> None:
+    """No command has started, and none has failed: the process ends by the signal."""
+    kills = f"import argparse, os\nargparse.ArgumentParser.add_subparsers = lambda *_, **__: os.kill(os.getpid(), {number.value})\n"
+    put("early/sitecustomize.py", kills.encode())
+    ended = call("fingerprint", "in", env={"PYTHONPATH": "early"})
+    assert (ended.status, ended.err) == (-number, f"{NAME}stopped by {number.name[3:]}\n")
 
 
 def test_a_signal_that_is_ignored(archive: Path) -> None:

@@ -1,11 +1,14 @@
 """Starts the tools: python3 -m tigercanon, or the command tigercanon-tools."""
 
+import signal
 import sys
-
-from .commands import run
 
 
 def main() -> None:
+    if signal.getsignal(signal.SIGINT) is signal.default_int_handler:
+        signal.signal(signal.SIGINT, signal.SIG_DFL)  # until the command has its own handler, and not a traceback
+    from .commands import run
+
     sys.exit(run(sys.argv[1:]))
 
 

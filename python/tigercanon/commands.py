@@ -260,11 +260,11 @@ def run(arguments: Sequence[str]) -> int:
     none comes at a bad moment. A command that can't go on ends this process, in which other threads may still be at work."""
     open_streams()
     console, resources = Console(), Resources(prints=True)
+    for number in SIGNALS:
+        if signal.getsignal(number) is not signal.SIG_IGN:
+            signal.signal(number, Stop(console, resources))
     try:
         options = parser().parse_args(list(arguments))
-        for number in SIGNALS:
-            if signal.getsignal(number) is not signal.SIG_IGN:
-                signal.signal(number, Stop(console, resources))
         return ThreadPoolExecutor(1).submit(perform, options, console, resources).result()
     except Failure as failure:
         console.report(str(failure))
