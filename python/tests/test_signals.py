@@ -67,7 +67,9 @@ def test_at_any_moment(archive: Path) -> None:
     """Runs that are stopped again and again, while Python starts, while they look for counties, judge and write: in the end all is done."""
     pauses = random.Random(1)
     for _ in range(25):
-        run = begin("fingerprint", "--jobs", "2", "-o", "m", "in", program=[ROOT / "tigercanon-tools"], env={"PYTHON": sys.executable})
+        run = begin(
+            "fingerprint", "--jobs", "2", "-o", "m", "in", program=[str(ROOT / "tigercanon-tools")], env={"PYTHON": sys.executable}
+        )
         time.sleep(pauses.uniform(0.05, 0.8))
         number = pauses.choice(SIGNALS[:3])
         run.send_signal(number)

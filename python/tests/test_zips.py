@@ -18,13 +18,22 @@ from tigercanon import storage
 from tigercanon.errors import Unreadable
 
 TEXT = b"county\n" * 40
+RECORD = b"5                1\n"
 COUNTY = members("TGR00001", TEXT)
 
 
 def patched(text: bytes, *changes: tuple[int, bytes]) -> bytes:
     for at, new in changes:
+        at %= len(text)
         text = text[:at] + new + text[at + len(new) :]
     return text
+
+
+def with_large_end(text: bytes, count: int) -> bytes:
+    """Puts an end with larger numbers, which counts so many files, before the end of a zip."""
+    at = len(text) - 22
+    large = struct.pack("<4sQHHLLQQQQ", b"PK\6\6", 44, 45, 45, 0, 0, count, count, *struct.unpack("<LL", text[at + 12 : at + 20]))
+    return text[:at] + large + struct.pack("<4sLQL", b"PK\6\7", 0, at, 1) + text[at:]
 
 
 def broken_zips() -> dict[str, tuple[bytes, str]]:
@@ -35,6 +44,8 @@ def broken_zips() -> dict[str, tuple[bytes, str]]:
     data = before + 30 + len(name)
     broken, two, unknown = f"the zip is broken at {name}", "the zip has 2 counties in it:", "compressed by an unknown method"
     large = {**COUNTY, last: b" " * 300_000}
+    counts, whole = "the zip is broken: its directory has 9 files, and its end counts", packed({"all.txt": RECORD})
+    in_whole = whole.rindex(b"all.txt") - 46
     too_large = f"the zip unpacks to {sum(map(len, large.values()))} bytes, more than --largest 200000"
     return {
         "no-zip": (b"no zip", "it isn't a zip"),
@@ -43,8 +54,16 @@ def broken_zips() -> dict[str, tuple[bytes, str]]:
         "cut-in-half": (good[: len(good) // 2], "the zip is cut off"),
         "byte": (patched(good, (data + 8, bytes([good[data + 8] ^ 255]))), broken),
         "directory": (patched(good, (line, b"XX")), "the zip is broken: its directory can't be read"),
-        "few": (patched(good, (len(good) - 12, b"\5\0")), "the zip is broken: its directory has 9 files, and its end counts 5"),
-        "many": (patched(good, (len(good) - 12, b"\x0a\0")), "the zip is broken: its directory has 9 files, and its end counts 10"),
+        "few": (patched(good, (len(good) - 12, b"\5\0")), f"{counts} 5"),
+        "many": (patched(good, (len(good) - 12, b"\x0a\0")), f"{counts} 10"),
+        "uncounted": (patched(good, (len(good) - 12, b"\xff\xff")), f"{counts} 65,535"),
+        "large-count": (with_large_end(good, 10), f"{counts} 10"),
+        "whole-locked": (patched(whole, (6, b"\1"), (in_whole + 8, b"\1")), "the zip is locked with a password"),
+        "whole-method": (
+            patched(whole, (8, b"\x09"), (in_whole + 10, b"\x09")),
+            f"the zip can't be unpacked: all.txt is {unknown}",
+        ),
+        "whole-sum": (patched(whole, (in_whole + 16, b"XXXX")), "the zip is broken at all.txt"),
         "header": (patched(good, (before, b"XX")), broken),
         "locked": (patched(good, (before + 6, b"\1"), (line + 8, b"\1")), "the zip is locked with a password"),
         "method": (patched(good, (before + 8, b"\x09"), (line + 10, b"\x09")), f"the zip can't be unpacked: {name} is {unknown}"),
@@ -63,11 +82,14 @@ def test_broken_zips(room: Path, fake: Path) -> None:
         put(f"in/{name}.ZIP", text)
     put("in/lower.zip", packed({**{name.lower(): text for name, text in COUNTY.items()}, "tgr00001.rta": b"A", "x/y.txt": b""}))
     put("in/stored.zip", packed(COUNTY, zipfile.ZIP_STORED))
+    put("in/large-end.zip", patched(with_large_end(packed(COUNTY), 9), (-12, b"\xff\xff")))
+    put("in/whole.zip", packed({"all.txt": RECORD, "read.me": b""}))
     put("in/folder.ZiP", packed(members("of/TGR00001", TEXT), zipfile.ZIP_BZIP2))
     complete("in/single", TEXT)
     ended = call("fingerprint", "--largest", "200kB", "in")
     assert (ended.status, ended.reports) == (1, {f"in/{name}": report for name, (_, report) in zips.items()})
-    assert ended.out == manifest({f"in/{name}": TEXT for name in ("folder", "lower", "single", "stored")})
+    read = dict.fromkeys(("folder", "large-end", "lower", "single", "stored"), TEXT) | {"whole": RECORD}
+    assert ended.out == manifest({f"in/{name}": text for name, text in read.items()})
     assert left_behind() == []
 
 

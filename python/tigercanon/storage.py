@@ -21,8 +21,9 @@ from .layout import TYPES, is_record, kind_of, stem_of
 PAUSES = (0.5, 2.0)  # seconds between the three attempts to read a file at a URL
 NO_ROOM = (errno.ENOSPC, errno.EDQUOT, errno.EFBIG)
 END_OF_DIRECTORY = b"PK\5\6"
+LARGE_END = b"PK\6\6"  # begins the end with numbers that the usual end can't hold
 LONGEST_END = 65557
-LARGE_COUNT = 0xFFFF  # the end of a zip with more files than it can count
+LARGE_END_BYTES = 76  # with what follows it, up to the usual end
 PIECE = 1 << 20
 GZIP = b"\x1f\x8b"
 LONGEST_LINE = 240
@@ -202,13 +203,14 @@ def opened_zip(path: str) -> zipfile.ZipFile:
     try:
         archive = zipfile.ZipFile(path)
         files, counted = len(archive.infolist()), counted_at_end(path)
-        if counted not in (files, LARGE_COUNT):
+        if counted != files:
             archive.close()
             raise Unreadable(f"the zip is broken: its directory has {files:,} files, and its end counts {counted:,}")
         return archive
-    except (OSError, MemoryError, Unreadable):
-        raise
-    except Exception:
+    except Exception as error:
+        # Python 3.9 answers a directory before the file with EINVAL.
+        if isinstance(error, (OSError, MemoryError, Unreadable)) and getattr(error, "errno", 0) != errno.EINVAL:
+            raise
         with open(path, "rb") as file:
             if file.read(2) != b"PK":
                 raise Unreadable("it isn't a zip") from None
@@ -221,10 +223,11 @@ def opened_zip(path: str) -> zipfile.ZipFile:
 def counted_at_end(path: str) -> int:
     """Returns how many files the end of a zip counts."""
     with open(path, "rb") as file:
-        file.seek(max(0, file.seek(0, 2) - LONGEST_END))
+        file.seek(max(0, file.seek(0, 2) - LONGEST_END - LARGE_END_BYTES))
         tail = file.read()
-    at = tail.rindex(END_OF_DIRECTORY) + 10
-    return int.from_bytes(tail[at : at + 2], "little")
+    at = tail.rindex(END_OF_DIRECTORY)
+    large = tail[max(0, at - LARGE_END_BYTES) : at]
+    return int.from_bytes(large[32:40] if large.startswith(LARGE_END) else tail[at + 10 : at + 12], "little")
 
 
 def members_of(archive: zipfile.ZipFile) -> dict[str, zipfile.ZipInfo]:
@@ -237,9 +240,7 @@ def members_of(archive: zipfile.ZipFile) -> dict[str, zipfile.ZipInfo]:
         if kind in [*TYPES]:
             counties.setdefault(stem_of(member.filename).upper(), {}).setdefault(kind, []).append(member)
     if not counties:
-        counties = {member.filename: {"": [member]} for member in members if begins_with_a_record(archive, member)}
-    if not counties:
-        raise Unreadable("the zip has no county in it")
+        counties = {member.filename: {"": [member]} for member in whole_members(archive, members)}
     if len(counties) > 1:
         names = ", ".join(sorted(ascii(name)[1:-1] for name in counties)[:3])
         raise Unreadable(f"the zip has {len(counties)} counties in it: {names}")
@@ -247,21 +248,28 @@ def members_of(archive: zipfile.ZipFile) -> dict[str, zipfile.ZipInfo]:
     for kind, entries in county.items():
         if len(entries) > 1:
             raise Unreadable(f"the zip has {len(entries)} files .RT{kind}")
-        if entries[0].flag_bits & 1:
-            raise Unreadable("the zip is locked with a password")
     return {kind: county[kind][0] for kind in ["", *TYPES] if kind in county}
 
 
-def begins_with_a_record(archive: zipfile.ZipFile, member: zipfile.ZipInfo) -> bool:
-    if member.is_dir() or kind_of(member.filename) or member.flag_bits & 1:
-        return False
-    with suppress(Unreadable):
-        return is_record(next(pieces_of(archive, member), b"")[:LONGEST_LINE].partition(b"\n")[0].rstrip(b"\r"))
-    return False
+def whole_members(archive: zipfile.ZipFile, members: list[zipfile.ZipInfo]) -> list[zipfile.ZipInfo]:
+    """The files in a zip that begin with a record. Raises Unreadable if there is none, with the reason if one can't be read."""
+    wholes, troubles = [], [Unreadable("the zip has no county in it")]
+    for member in members:
+        if not (member.is_dir() or kind_of(member.filename)):
+            try:
+                line = next(pieces_of(archive, member), b"")[:LONGEST_LINE].partition(b"\n")[0].rstrip(b"\r")
+                wholes += [member] if is_record(line) else []
+            except Unreadable as trouble:
+                troubles.insert(-1, trouble)
+    if not wholes:
+        raise troubles[0]
+    return wholes
 
 
 def pieces_of(archive: zipfile.ZipFile, member: zipfile.ZipInfo) -> Iterator[bytes]:
     """The bytes of a file in a zip, and never more than the directory announces."""
+    if member.flag_bits & 1:
+        raise Unreadable("the zip is locked with a password")
     name = ascii(member.filename)[1:-1]
     left = member.file_size
     try:
