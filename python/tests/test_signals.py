@@ -1,9 +1,12 @@
 """A signal, whenever it comes: the command ends by it within a second and leaves nothing behind, and the same command goes on."""
 
+import fcntl
 import os
 import random
 import signal
+import struct
 import sys
+import termios
 import time
 from contextlib import suppress
 from pathlib import Path
@@ -155,17 +158,37 @@ def test_a_command_that_can_not_go_on(archive: Path) -> None:
     assert_nothing_is_left(archive)
 
 
-def test_a_terminal(archive: Path) -> None:
-    """A progress bar, if tqdm is installed, and the lines above it."""
+def rows_of(shown: bytes) -> list[str]:
+    """The rows of a terminal that was sent this: what comes after a CR stands over what was in the row."""
+    rows = []
+    for line in shown.decode().split("\n"):
+        row = ""
+        for text in line.split("\r"):
+            row = text + row[len(text) :]
+        rows.append(row.rstrip())
+    return rows
+
+
+@pytest.mark.parametrize("is_stopped", [False, True])
+def test_a_terminal(archive: Path, is_stopped: bool) -> None:
+    """A progress bar, if tqdm is installed. It goes away for each line, and at the end."""
     pytest.importorskip("tqdm")
     put("in/TGR5.RT1", b"broken\n")
+    if is_stopped:
+        put("waits")
     terminal, inner = os.openpty()
-    run = begin("fingerprint", "--jobs", "1", "-o", "m", "in", stderr=inner)
+    fcntl.ioctl(inner, termios.TIOCSWINSZ, struct.pack("HHHH", 24, 150, 0, 0))
+    run = begin("fingerprint", "--jobs", "2", "in", stdout=inner, stderr=inner)
     os.close(inner)
-    told = b""
+    shown = b""
     with suppress(OSError), open(terminal, "rb", buffering=0) as screen:
-        while True:
-            told += screen.read(4096)
-    assert end(run).status == 1
-    assert b"0/10" in told and b" counties/s" in told
-    assert b"tigercanon-tools: in/TGR5: refused 1 UnknownType 1 1\r\n" in told
+        while text := screen.read(4096):
+            shown += text
+            if is_stopped and b"9/10" in shown:
+                run.send_signal(signal.SIGINT)
+    assert end(run).status == (-signal.SIGINT if is_stopped else 1)
+    assert b"0/10" in shown and b" counties/s" in shown
+    rows, wanted = rows_of(shown), {*WANTED.splitlines(), f"{NAME}in/TGR5: refused 1 UnknownType 1 1", ""}
+    rest = [row for row in rows if row not in wanted]
+    ends = ["stopped by INT: 9 of 10 counties done"] if is_stopped else ["10 counties: 9 fingerprints", "refused: 1 by 1 UnknownType"]
+    assert len(rest) == len(ends) and all(row.startswith(NAME + text) for row, text in zip(rest, ends)), rest

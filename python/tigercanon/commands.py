@@ -231,13 +231,17 @@ class Stop:
         for each in SIGNALS:
             signal.signal(each, signal.SIG_IGN)
         self.resources.end()
-        progress, self.console.progress = self.console.progress, None  # the bar stays as it is
-        how_far = f": {progress.how_far} done" if progress else ""
-        line = f"stopped by {signal.Signals(number).name[3:]}{how_far}"
-        last = threading.Thread(target=self.console.report, args=(line,), daemon=True)
+        last = threading.Thread(target=self.report, args=(signal.Signals(number).name[3:],), daemon=True)
         last.start()
         last.join(PATIENCE)  # nobody may be reading standard error
         end_by(number)
+
+    def report(self, name: str) -> None:
+        """Reports the signal and how far the command has come, without the progress bar."""
+        progress = self.console.progress
+        if progress:
+            progress.close()
+        self.console.report(f"stopped by {name}{f': {progress.how_far} done' if progress else ''}")
 
 
 def open_streams() -> None:
