@@ -2,14 +2,11 @@
 
 import shutil
 import signal
-import subprocess
 import sys
 from pathlib import Path
-from typing import Iterator
 
 import pytest
-from dev.testing import await_that
-from support import FAKES, Four, built_program, complete, environment
+from support import FAKES, Four, built_program, complete
 
 sys.dont_write_bytecode = True
 
@@ -29,16 +26,6 @@ def room(tmp_path: Path, monkeypatch: pytest.MonkeyPatch) -> Path:
         (tmp_path / name).mkdir()
         monkeypatch.setenv(variable, str(tmp_path / name))
     return tmp_path
-
-
-@pytest.fixture(scope="session")
-def server(tmp_path_factory: pytest.TempPathFactory) -> Iterator[str]:
-    """The place of a server that runs the tools for sessions."""
-    place = tmp_path_factory.mktemp("server") / "socket"
-    with subprocess.Popen([sys.executable, "-B", FAKES / "server.py", place], env=environment()) as running:
-        assert await_that(place.exists)
-        yield str(place)
-        running.kill()
 
 
 @pytest.fixture

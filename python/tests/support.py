@@ -13,6 +13,7 @@ import subprocess
 import sys
 import zipfile
 from contextlib import suppress
+from functools import lru_cache
 from pathlib import Path
 from typing import Any, Callable, Iterator, Mapping, NamedTuple, Sequence
 
@@ -84,8 +85,20 @@ def environment(**more: str) -> dict[str, str]:
     return {**os.environ, "PYTHONDONTWRITEBYTECODE": "1", **more, "PYTHONPATH": path}
 
 
-def call(*words: object, **options: Any) -> Ended:
-    return end(begin(*words, **options))
+@lru_cache(maxsize=None)
+def server() -> str:
+    """Starts a process that runs the tools in forks of itself, and returns its place."""
+    command = [sys.executable, "-B", str(FAKES / "server.py")]
+    process = subprocess.Popen(command, env=environment(), stdout=subprocess.PIPE, preexec_fn=die_with_the_test)
+    assert process.stdout
+    return process.stdout.readline().decode().rstrip("\n")
+
+
+def call(*words: object, env: Mapping[str, str] = {}, **options: Any) -> Ended:
+    """Calls the tools. To start Python takes longer than most calls, so one without options doesn't start it."""
+    is_plain = not options and "PYTHONPATH" not in env
+    start = [sys.executable, "-I", "-S", "-B", str(FAKES / "client.py"), server()] if is_plain else TOOLS
+    return end(begin(*words, program=start, env=env, **options))
 
 
 def shell(command: str, server: str = "") -> Ended:

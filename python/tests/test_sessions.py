@@ -5,7 +5,7 @@ from pathlib import Path
 
 import pytest
 from dev.sessions import Session, sessions_of
-from support import PACKAGE, built_program, left_behind, shell
+from support import PACKAGE, built_program, left_behind, server, shell
 
 SESSIONS = [session for file in sorted((PACKAGE / "tests/sessions").glob("*.txt")) for session in sessions_of(file)]
 
@@ -16,7 +16,7 @@ def files(room: Path) -> dict[Path, object]:
 
 
 @pytest.mark.parametrize("session", SESSIONS, ids=[session.name for session in SESSIONS])
-def test_session(room: Path, fake: Path, server: str, session: Session) -> None:
+def test_session(room: Path, fake: Path, session: Session) -> None:
     """Each line on standard error begins with the name of the tools, and no other one does. No command leaves a temporary folder behind,
     and one that ends with status 2 changes no file."""
     if not shutil.which("zip") and any("zip -" in step.command for step in session.steps):
@@ -26,7 +26,7 @@ def test_session(room: Path, fake: Path, server: str, session: Session) -> None:
     for step in session.steps:
         before = files(room)
         is_real = "<(" in step.command or "PYTHONPATH=" in step.command  # bash's pipes, and other modules, need a start of Python
-        ended = shell(step.command, "" if is_real else server)
+        ended = shell(step.command, "" if is_real else server())
         fault = step.fault(ended.status, ended.out + ended.err, room)
         assert not fault, fault
         errors = [line for line in (ended.out + ended.err).splitlines() if line.startswith("tigercanon-tools")]

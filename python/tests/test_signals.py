@@ -190,5 +190,7 @@ def test_a_terminal(archive: Path, is_stopped: bool) -> None:
     assert b"0/10" in shown and b" counties/s" in shown
     rows, wanted = rows_of(shown), {*WANTED.splitlines(), f"{NAME}in/TGR5: refused 1 UnknownType 1 1", ""}
     rest = [row for row in rows if row not in wanted]
-    ends = ["stopped by INT: 9 of 10 counties done"] if is_stopped else ["10 counties: 9 fingerprints", "refused: 1 by 1 UnknownType"]
+    ends = (
+        ["stopped by INT: 9 of 10 counties done"] if is_stopped else ["10 counties: 9 fingerprints", "refused: 1 by 1 UnknownType"]
+    )
     assert len(rest) == len(ends) and all(row.startswith(NAME + text) for row, text in zip(rest, ends)), rest

@@ -18,7 +18,7 @@ streams = [number for number in range(3) if is_open(number)]
 for _ in range(3 - len(streams)):
     os.open(os.devnull, os.O_RDONLY)
 peer = _socket.socket(_socket.AF_UNIX)
-peer.connect(sys.argv[1])
+peer.connect(f"\0{sys.argv[1]}")
 command = {"streams": streams, "folder": os.getcwd(), "environment": dict(os.environ), "words": sys.argv[2:]}
 text = marshal.dumps(command)
 numbers = b"".join(number.to_bytes(4, "little") for number in streams)

@@ -1,4 +1,4 @@
-"""Runs tigercanon-tools for sessions: each command in a fork of one process that has loaded the package, since to start Python takes
+"""Runs tigercanon-tools for the tests: each command in a fork of one process that has loaded the package, since to start Python takes
 longer than most commands. `client.py` takes the place of the command. What only a real start shows is in test_commands.py."""
 
 from __future__ import annotations
@@ -13,11 +13,13 @@ from typing import Any
 
 
 def serve(place: str) -> None:
+    """Listens at a name that no file has, and prints it."""
     from tigercanon import archive, commands  # noqa: F401
 
     with socket.socket(socket.AF_UNIX) as listener:
-        listener.bind(place)
+        listener.bind(f"\0{place}")
         listener.listen()
+        print(place, flush=True)
         signal.signal(signal.SIGCHLD, signal.SIG_IGN)
         while True:
             peer, _ = listener.accept()
@@ -68,4 +70,4 @@ def perform(command: dict[str, Any], streams: list[int]) -> None:
     os._exit(status)
 
 
-serve(sys.argv[1])
+serve(f"tigercanon-{os.getpid()}")
