@@ -246,7 +246,7 @@ class TestDask:
         """It is reported; counties that only shared a worker with it aren't."""
         put("in/TGR90001.RT1", b"kill\r\n")
         ended = call(*BY_DASK)
-        wanted = {**archive.reports, "in/TGR90001": "every worker that judged it ended"}
+        wanted = {**archive.reports, "in/TGR90001": "every worker that checked it ended"}
         assert (ended.status, plain(ended.reports)) == (1, wanted)
         assert_all_done(archive, killed=8)
 

@@ -117,7 +117,7 @@ def test_workers_that_end(monkeypatch: pytest.MonkeyPatch) -> None:
     """A county isn't blamed for a worker that ended, and has failed if its judging did; without its scheduler the engine is gone."""
     monkeypatch.setattr(engines, "client_of", lambda *_: Client(0))
     engine = engines.DaskEngine("there:1")
-    assert engine.answer(Lost("KilledWorker")) == Answer(Kind.MEMORY, "every worker that judged it ended")
+    assert engine.answer(Lost("KilledWorker")) == Answer(Kind.MEMORY, "every worker that checked it ended")
     assert engine.answer(Lost("ValueError")) == Answer(Kind.FAILED, "its judging ended with ValueError: why")
     for name in engines.SCHEDULER_ENDED:
         with pytest.raises(engines.Gone, match="the scheduler at there:1 is gone"):

@@ -132,9 +132,9 @@ def add_judging_commands(commands: Any) -> None:
     command = add_command(commands, "fingerprint", about, runs.fingerprint)
     about = "write the manifest to this file; counties that it already lists are skipped, and so are those that it lists as refused"
     command.add_argument("-o", "--output", metavar="MANIFEST", help=about)
-    about = "with -o: judge again the counties whose files have another size or time than the manifest has"
+    about = "with -o: check again the counties whose files have another size or time than the manifest has"
     command.add_argument("--update", action="store_true", help=about)
-    command.add_argument("--again", action="store_true", help="with -o: judge again all counties that were refused")
+    command.add_argument("--again", action="store_true", help="with -o: check again all counties that were refused")
     about = "with --update: take out of the manifest the counties below a SOURCE that are gone"
     command.add_argument("--prune", action="store_true", help=about)
     about = "reject a county if one of its files is missing, or if the one of type 1, 2 or I is empty"
@@ -145,7 +145,7 @@ def add_judging_commands(commands: Any) -> None:
     about = "check counties against their fingerprints in a manifest: OK, FAILED or MISSING for each"
     command = add_command(commands, "verify", about, runs.verify)
     command.add_argument("--quiet", action="store_true", help="don't print counties that are OK")
-    about = "judge only counties whose files have other sizes or times than the manifest has"
+    about = "check only counties whose files have other sizes or times than the manifest has"
     command.add_argument("--quick", action="store_true", help=about)
     command.add_argument("--root", metavar="FOLDER", help="look for the names in the manifest below this folder")
     add_judging_options(command)

@@ -100,7 +100,7 @@ class DaskEngine(Engine):
             if name in SCHEDULER_ENDED:
                 raise Gone(f"{self.name} is gone") from None
             if name == "KilledWorker":
-                return Answer(Kind.MEMORY, "every worker that judged it ended")
+                return Answer(Kind.MEMORY, "every worker that checked it ended")
             if not isinstance(error, Exception):
                 raise
             return Answer(Kind.FAILED, f"its judging ended with {name}: {reason(error)}")

@@ -14,7 +14,7 @@ from .errors import Failure, reason
 VARIABLE = "TIGERCANON"
 PACKAGE = Path(__file__).resolve().parent
 ADVICE = "./tigercanon --prove builds it, and --program names another one"
-PAGE = "the page tigercanon.html judges counties in any browser"
+PAGE = "the page tigercanon.html checks counties in any browser"
 # Settings that make the program faster, unless the user has others: its memory is in large pages, and it keeps memory that it frees.
 TUNABLES = "glibc.malloc.hugetlb=1:glibc.malloc.mmap_threshold=8589934592:glibc.malloc.trim_threshold=17179869184"
 
