@@ -4,41 +4,72 @@
 // A county has a stem, which is its name, and either single files by their types, a zip or one whole file. trouble says why it can't be
 // judged, and notes are reported with its result.
 import { beginsWithRecord } from "./first_line.js";
-import { baseOf, byBytes, endingOf, foldedName, isLeftOut, kindOf, stemOf } from "./names.js";
+import { groupedBy } from "./grouping.js";
+import { baseOf, byBytes, endingOf, folderOf, foldedName, isLeftOut, keyOf, kindOf, stemOf } from "./names.js";
+import { counted } from "./numbers.js";
 import { FORM, TYPES } from "./tables.js";
+import { Unreadable } from "./unreadable.js";
 
 const FILE_KINDS = [...TYPES, "ZIP"];
 const MANIFEST_HEAD = 200;
 const UNREADABLE = "it can't be read: it was moved, changed or is locked";
+const PACKED = "it is one file of several, packed by gzip: unpack it first";
+const COUNTY_NAME = /^TGR[0-9]{5}$/;
+const OTHER_ENDINGS = /\.(?:met|csv|geojson|html)$/i; // of files that are distributed with a county's records, or made of them
 
 // The files are given with their paths. Names that differ only in case belong to one county. A file without a folder was named by the
-// user, so it is a manifest or a county even if no record is in it. In folders such files are skipped and counted.
+// user, so it is a manifest or a county even if no record is in it. In folders such files are skipped.
 export async function sortedOut(files) {
-  const found = { counties: [], manifests: [], skipped: new Map() };
-  const groups = new Map();
-  for (const given of files.filter(({ path }) => !isLeftOut(path))) {
-    if (FILE_KINDS.includes(kindOf(given.path))) addTo(groups, foldedName(stemOf(given.path)), given);
-    else await sortOther(given, found);
-  }
-  for (const group of groups.values()) found.counties.push(countyOf(group));
+  const found = { counties: [], manifests: [], skipped: [] };
+  const named = files.filter(({ path }) => !isLeftOut(path));
+  const isOfNine = ({ path }) => FILE_KINDS.includes(kindOf(path));
+  for (const group of groupedBy(named.filter(isOfNine), ({ path }) => foldedName(stemOf(path))).values()) found.counties.push(countyOf(group));
+  for (const given of named) if (!isOfNine(given)) await sortOther(given, found);
+  found.counties = [...groupedBy(found.counties.map(nameable), ({ stem }) => stem).values()].map(firstOf);
   found.counties.sort((one, other) => byBytes(one.stem, other.stem));
   return found;
 }
 
-function addTo(groups, key, given) {
-  if (!groups.has(key)) groups.set(key, []);
-  groups.get(key).push(given);
-}
-
 // A file that isn't one of a county's nine, nor a zip.
-async function sortOther({ path, file }, found) {
+async function sortOther(given, found) {
+  const { path, file } = given;
   const isNamed = !path.includes("/") && kindOf(path) === "";
   try {
-    if (await isManifest(file)) found.manifests.push({ path, file });
-    else if (isNamed || (await isWholeFile(path, file))) found.counties.push({ stem: path, whole: file, notes: [] });
-    else found.skipped.set(endingOf(path), (found.skipped.get(endingOf(path)) ?? 0) + 1);
+    if (await isManifest(file)) return found.manifests.push(given);
   } catch {
-    found.counties.push({ stem: path, trouble: UNREADABLE, notes: [] });
+    return found.counties.push(failing(path, UNREADABLE));
+  }
+  const county = isNamed ? wholeCounty(given) : await countyIn(given);
+  return county ? found.counties.push(county) : found.skipped.push(given);
+}
+
+const wholeCounty = ({ path, file }) => ({ stem: path, whole: file, notes: [] });
+
+const failing = (stem, trouble) => ({ stem, trouble, notes: [] });
+
+// A line of a manifest can't have a name with a line break.
+const nameable = (county) => (county.stem.includes("\n") ? failing(county.stem, "its name has a line break in it") : county);
+
+// Of a zip or single files and a file with all records of the same name without an ending the former.
+const firstOf = ([county, other]) => (other ? { ...county, notes: [...county.notes, `the file ${baseOf(county.stem)} beside it isn't read`] } : county);
+
+// The endings of files with their counts, the most frequent first.
+export function endingsOf(files) {
+  const counts = [...groupedBy(files, ({ path }) => endingOf(path))].map(([ending, { length }]) => [ending, length]);
+  return counts.sort((one, other) => other[1] - one[1]).map(([ending, count]) => `${counted(count)} ${ending}`).join(", ");
+}
+
+// The county that a file in a folder is, although it isn't one of a county's nine, nor a zip; or nothing. What can't be read or unpacked
+// is one that fails. A county is what begins with a record and, however it begins, what has a county's name or is listed in a manifest.
+export async function countyIn({ path, file }, isListed = false) {
+  const inner = path.replace(/\.gz$/i, "");
+  const isCounty = isListed || COUNTY_NAME.test(keyOf(path));
+  if (kindOf(path) || OTHER_ENDINGS.test(inner)) return undefined;
+  if (kindOf(inner)) return isCounty && FILE_KINDS.includes(kindOf(inner)) ? failing(path, PACKED) : undefined;
+  try {
+    return (await beginsWithRecord(file)) || isCounty ? wholeCounty({ path, file }) : undefined;
+  } catch (error) {
+    return failing(path, error instanceof Unreadable ? error.message : UNREADABLE);
   }
 }
 
@@ -47,9 +78,6 @@ async function isManifest(file) {
   const start = await file.slice(0, MANIFEST_HEAD).text();
   return start.startsWith(FORM) || /^# --no-|^[0-9a-fA-F]{64} {2}[^\n]/.test(start);
 }
-
-// A packed file of a county's nine isn't a whole one.
-const isWholeFile = async (path, file) => kindOf(path) === "" && kindOf(path.replace(/\.gz$/i, "")) === "" && (await beginsWithRecord(file));
 
 // The county of files whose names differ only in case and ending: its single files if there are any, else its zip.
 function countyOf(group) {
@@ -62,11 +90,18 @@ function countyOf(group) {
   const several = kinds.find((kind) => named.get(kind).length > 1);
   if (several) {
     const what = several === "ZIP" ? "zips" : `files of type ${several}`;
-    return { stem, notes: [], trouble: `there are ${named.get(several).length} ${what}: ${listed(several)}` };
+    return failing(stem, `there are ${named.get(several).length} ${what}: ${listed(several)}`);
   }
   if (!singles.length) return { stem, zip: named.get("ZIP")[0].file, notes: [] };
   const notes = named.get("ZIP").length ? [`its single files are read, and not ${listed("ZIP")}`] : [];
   return { stem, files: Object.fromEntries(singles.map((kind) => [kind, named.get(kind)[0].file])), notes };
+}
+
+// The files with all records beside a zip or single files of the same name, each with the county of these.
+export function doublesAmong(counties) {
+  const name = ({ stem }) => folderOf(stem) + keyOf(stem);
+  const others = new Map(counties.filter(({ zip, files }) => zip || files).map((county) => [name(county), county]));
+  return new Map(counties.filter(({ whole }) => whole).map((county) => [county, others.get(name(county))]));
 }
 
 // The bytes that a county's files take as they are.

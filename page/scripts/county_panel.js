@@ -51,7 +51,7 @@ export class CountyPanel {
   }
 
   showTrouble() {
-    replace(this.head, this.title(badge("refused", "Not judged")));
+    replace(this.head, this.title(badge("refused", "Failed")));
     replace(this.body, troubleOf(this.trouble));
     announce(`${this.name}: ${this.trouble}`);
   }

@@ -1,5 +1,6 @@
 // Whether a file begins with a record, as a file with all records of a county does.
 import { REQUIRED } from "./tables.js";
+import { Unreadable } from "./unreadable.js";
 
 const LONGEST_LINE = 240;
 const LINE_END = 10;
@@ -14,9 +15,14 @@ export async function isPacked(blob) {
 }
 
 // Whether a file, which may be packed by gzip, begins with a record.
-export async function beginsWithRecord(blob) {
-  if (!(await isPacked(blob))) return isRecord(await firstLine(blob.slice(0, LONGEST_LINE).stream()));
-  return isRecord(await firstLine(unzippedStream(blob.slice(0, PACKED_HEAD))).catch(() => ""));
+export async function beginsWithRecord(file) {
+  const packed = await isPacked(file);
+  const start = packed ? unzippedStream(file.slice(0, PACKED_HEAD)) : file.slice(0, LONGEST_LINE).stream();
+  const isSo = isRecord(await firstLine(start).catch((error) => {
+    throw packed ? new Unreadable("it can't be unpacked") : error;
+  }));
+  if (!isSo && !packed && /\.gz$/i.test(file.name)) throw new Unreadable("it can't be unpacked: it isn't a file of gzip, as its name says");
+  return isSo;
 }
 
 // The first line of a stream, without its line ending: at most so many bytes of it as the longest record has.

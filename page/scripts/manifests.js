@@ -1,9 +1,10 @@
 // Manifests in the form of tigercanon-tools: a line with the fingerprint, two blanks and the name for each county, in the order of the
 // names, behind a first line with the form of the texts and the flags that leave fields out. The tools also write comments: the sizes
 // and times of files, and counties that were refused. They are read over here.
-import { byBytes, keyOf, kindOf } from "./names.js";
+import { groupedBy } from "./grouping.js";
+import { byBytes, folderOf, keyOf, kindOf } from "./names.js";
 import { FLAGS, FORM, IS_PROVED, UNPROVED } from "./tables.js";
-import { Unreadable } from "./zips.js";
+import { Unreadable } from "./unreadable.js";
 
 const LINE = /^([0-9a-fA-F]{64}) {2}([^\n]+)$/;
 const COMMENT = /^# [0-9?]+ [^ \n]+(?:, [0-9?]+ [^ \n]+)* {2}(?:(refused [0-9A-Za-z ]+|failed: (?:(?! {2})[^\n])+) {2})?([^\n]+)$/;
@@ -60,21 +61,39 @@ function masksOf(line) {
 }
 
 // How counties compare with a manifest: OK, FAILED, MISSING or NEW for each name, and whether one that failed has another map; of those
-// that it lists as refused REFUSED, or ACCEPTED if one is accepted now. Names must be the same; if none is, counties are matched by their
-// names without folder, case and ending. A county without a fingerprint has failed.
+// that it lists as refused REFUSED, or ACCEPTED if one is accepted now. A county without a fingerprint has failed. `double` is the county
+// whose map a file beside it has.
 export function verified(manifest, counties) {
-  const names = new Set(manifest.counties.map(({ stem }) => stem));
-  const isByName = counties.some(({ stem }) => names.has(stem));
-  const key = isByName ? (stem) => stem : keyOf;
-  const there = new Map(counties.map((county) => [key(county.stem), county]));
-  const known = new Set(manifest.counties.map(({ stem }) => key(stem)));
-  const lines = manifest.counties.map(({ stem, fingerprint }) => {
-    const county = there.get(key(stem));
-    if (!county) return { stem, state: "MISSING" };
-    if (!fingerprint) return { stem: county.stem, state: county.fingerprint ? "ACCEPTED" : county.isRefused ? "REFUSED" : "FAILED" };
-    if (county.fingerprint === fingerprint) return { stem: county.stem, state: "OK" };
-    return { stem: county.stem, state: "FAILED", wanted: fingerprint, isOtherMap: Boolean(county.fingerprint) };
-  });
-  const others = counties.filter(({ stem }) => !known.has(key(stem))).map(({ stem }) => ({ stem, state: "NEW" }));
+  const { isByName, found } = matched(manifest.counties, counties);
+  const lines = manifest.counties.map((line) => lineOfCounty(line, found.get(line)));
+  const wanted = new Map([...found].map(([{ fingerprint }, county]) => [county, fingerprint]));
+  const stateOf = ({ double, fingerprint, isUnread }) => (isUnread ? "FAILED" : double && wanted.get(double) === fingerprint ? "OK" : "NEW");
+  const others = counties.filter((county) => !wanted.has(county)).map((county) => ({ stem: county.stem, state: stateOf(county) }));
   return { isByName, lines: [...lines, ...others] };
+}
+
+function lineOfCounty({ stem: name, fingerprint: wanted }, county) {
+  if (!county) return { stem: name, state: "MISSING" };
+  const { stem, fingerprint, isRefused } = county;
+  if (!wanted) return { stem, state: fingerprint ? "ACCEPTED" : isRefused ? "REFUSED" : "FAILED" };
+  return fingerprint === wanted ? { stem, state: "OK" } : { stem, state: "FAILED", wanted, isOtherMap: Boolean(fingerprint) };
+}
+
+// The counties of a manifest's lines. They have the same names, or, if files were packed, unpacked or joined since, the same but for case
+// and ending. If no county is found so, the folders don't count either. A name that several have is none.
+function matched(lines, counties) {
+  const found = new Map();
+  const matchBy = (key, isExact = false) => {
+    const taken = new Set(found.values());
+    const named = groupedBy(lines.filter((line) => !found.has(line)), ({ stem }) => key(stem));
+    const left = counties.filter((county) => !taken.has(county) && (isExact || !county.double));
+    for (const [name, there] of groupedBy(left, ({ stem }) => key(stem))) {
+      if (there.length === 1 && named.get(name)?.length === 1) found.set(named.get(name)[0], there[0]);
+    }
+  };
+  matchBy((stem) => stem, true);
+  matchBy((stem) => folderOf(stem) + keyOf(stem));
+  const isByName = found.size > 0;
+  if (!isByName) matchBy(keyOf);
+  return { isByName, found };
 }

@@ -1,11 +1,13 @@
 // Many counties: a table with the result of each, to be saved as a manifest, and compared with one.
 import { troubleOf } from "./card.js";
+import { countyIn, doublesAmong, endingsOf } from "./counties.js";
 import { CountyTable } from "./county_table.js";
 import { counted } from "./numbers.js";
 import { announce, h, replace, save, sizeText } from "./dom.js";
 import { Crew } from "./jobs.js";
+import { groupedBy } from "./grouping.js";
 import { flagsOf, manifestOf, readManifest, verified } from "./manifests.js";
-import { shownName } from "./names.js";
+import { foldedName, shownName } from "./names.js";
 import { Queue, weightOf } from "./queue.js";
 
 const SHOWN_DIGITS = 16;
@@ -32,6 +34,7 @@ export class ManyCounties {
 
   async start() {
     await this.readManifests();
+    await this.takeListed();
     this.queue = new Queue(this.counties, this.masks, (task, masks) => this.judge(task, masks));
     this.showSummary();
     for await (const task of this.queue.ended()) {
@@ -57,6 +60,17 @@ export class ManyCounties {
     this.actions.fixMasks(this.masks);
   }
 
+  // Takes files that were skipped, although the manifest lists them.
+  async takeListed() {
+    const listed = new Set(this.manifest?.counties.map(({ stem }) => foldedName(stem)));
+    const found = await Promise.all(this.skipped.map((given) => countyIn(given, listed.has(foldedName(given.path)))));
+    this.skipped = this.skipped.filter((_, place) => !found[place]);
+    const more = found.filter(Boolean);
+    for (const { stem } of more) this.table.add(stem, "busy", "Waiting");
+    this.counties = [...this.counties, ...more];
+    this.bar.max = this.counties.length;
+  }
+
   judge(task, masks) {
     this.table.setResult(task.county.stem, "busy", "Judging");
     return this.crew.job("judgeOfMany", { county: task.county, masks }, weightOf(task.county), (assistant) => {
@@ -68,58 +82,65 @@ export class ManyCounties {
     const cells = this.table.cells(county.stem);
     const open = h("button", { type: "button", class: "link", onclick: () => this.actions.open(county) }, shownName(county.stem));
     replace(cells[0], open);
-    const [count, kind, text] = trouble ? ["troubled", "refused", "Not judged"] : result.isAccepted ? ["accepted", "accepted", "Accepted"] : ["refused", "refused", "Refused"];
+    const [count, kind, text] = trouble ? ["troubled", "refused", "Failed"] : result.isAccepted ? ["accepted", "accepted", "Accepted"] : ["refused", "refused", "Refused"];
     this.counts[count] += 1;
     this.table.setResult(county.stem, kind, text);
     replace(cells[2], result?.isAccepted ? digitsOf(result.fingerprint) : h("span", {}, trouble ?? result.line));
     replace(cells[3], (result?.notes ?? []).join("; "));
   }
 
-  get accepted() {
-    return this.queue.tasks.filter(({ result }) => result?.isAccepted).map(({ county, result }) => ({ stem: county.stem, fingerprint: result.fingerprint }));
+  // The counties with their results. A file with the map of the zip or the single files beside it is a double.
+  judged() {
+    const judged = new Map(this.queue.tasks.map(({ county, result }) => {
+      const isRefused = result && !result.isAccepted;
+      return [county, { stem: county.stem, fingerprint: result?.fingerprint, isRefused, isUnread: Boolean(county.trouble) }];
+    }));
+    for (const [file, county] of doublesAmong(this.counties)) {
+      const [double, first] = [judged.get(file), judged.get(county)];
+      if (!double.fingerprint || double.fingerprint !== first?.fingerprint) continue;
+      double.double = first;
+      this.table.cells(file.stem)[3].prepend(`the same map as ${shownName(county.stem)}, which is counted once `);
+    }
+    return [...judged.values()];
   }
 
   showSummary() {
     const { accepted, refused, troubled } = this.counts;
     const ended = accepted + refused + troubled;
-    const parts = [`${counted(accepted)} accepted`, `${counted(refused)} refused`, `${counted(troubled)} not judged`];
+    const parts = [`${counted(accepted)} accepted`, `${counted(refused)} refused`, `${counted(troubled)} failed`];
     this.bar.value = ended;
     this.summary.textContent = `${counted(ended)} of ${counted(this.counties.length)} counties: ${parts.join(", ")}.${this.skippedText()}`;
   }
 
   skippedText() {
-    const all = [...this.skipped].sort((one, other) => other[1] - one[1]);
-    return all.length ? ` Other files were skipped: ${all.map(([ending, count]) => `${counted(count)} ${ending}`).join(", ")}.` : "";
+    return this.skipped.length ? ` Other files were skipped: ${endingsOf(this.skipped)}.` : "";
   }
 
   finish() {
     this.crew.end();
     this.bar.parentElement.hidden = true;
-    const text = manifestOf(this.accepted, this.masks);
-    const button = h("button", { type: "button", class: "main", disabled: !this.accepted.length, onclick: () => save("counties.manifest", new Blob([text])) }, [
+    const judged = this.judged();
+    const accepted = judged.filter(({ fingerprint, double }) => fingerprint && !double);
+    const text = manifestOf(accepted, this.masks);
+    const button = h("button", { type: "button", class: "main", disabled: !accepted.length, onclick: () => save("counties.manifest", new Blob([text])) }, [
       "Save as manifest ", h("span", { class: "size" }, sizeText(text.length)),
     ]);
     const verify = h("button", { type: "button", onclick: this.actions.addMore }, "Compare with a manifest…");
     replace(this.actionRow, button, verify);
-    this.showAlike();
-    const verdict = this.manifest ? this.verify() : "";
+    this.showAlike(accepted);
+    const verdict = this.manifest ? this.verify(judged) : "";
     this.table.order();
     announce(`${this.summary.textContent} ${verdict}`);
   }
 
   // Which counties are one map.
-  showAlike() {
-    const groups = new Map();
-    for (const { stem, fingerprint } of this.accepted) {
-      if (!groups.has(fingerprint)) groups.set(fingerprint, []);
-      groups.get(fingerprint).push(stem);
-    }
-    const alike = [...groups.values()].filter((group) => group.length > 1);
-    if (alike.length) this.notes.append(h("div", { class: "note" }, alike.map((group) => h("p", {}, `One map: ${group.join(", ")}.`))));
+  showAlike(accepted) {
+    const alike = [...groupedBy(accepted, ({ fingerprint }) => fingerprint).values()].filter((group) => group.length > 1);
+    const listed = (group) => group.map(({ stem }) => shownName(stem)).join(", ");
+    if (alike.length) this.notes.append(h("div", { class: "note" }, alike.map((group) => h("p", {}, `One map: ${listed(group)}.`))));
   }
 
-  verify() {
-    const judged = this.queue.tasks.map(({ county, result }) => ({ stem: county.stem, fingerprint: result?.fingerprint, isRefused: result && !result.isAccepted }));
+  verify(judged) {
     const { isByName, lines } = verified(this.manifest, judged);
     const counts = new Map();
     for (const { stem, state, isOtherMap, wanted } of lines) {
@@ -128,7 +149,7 @@ export class ManyCounties {
       this.table.setResult(stem, KINDS_OF_STATES[state], state);
       const cells = this.table.cells(stem);
       if (isOtherMap) cells[3].prepend(h("strong", {}, "another map "));
-      if (state === "FAILED") cells[2].append(h("div", { class: "wanted" }, "in the manifest: ", digitsOf(wanted)));
+      if (wanted) cells[2].append(h("div", { class: "wanted" }, "in the manifest: ", digitsOf(wanted)));
     }
     const text = [...counts].map(([state, count]) => `${counted(count)} ${state}`).join(", ");
     const flags = flagsOf(this.masks).join(" ") || "no flags";

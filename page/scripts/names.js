@@ -17,8 +17,10 @@ export const shownName = (path) => path.replace(/[\u061c\u200e\u200f\u202a-\u202
 
 export const baseOf = (path) => path.slice(path.lastIndexOf("/") + 1);
 
+export const folderOf = (path) => path.slice(0, path.length - baseOf(path).length);
+
 // A path that is the same for names that differ only in case.
-export const foldedName = (path) => path.slice(0, path.length - baseOf(path).length) + baseOf(path).toUpperCase();
+export const foldedName = (path) => folderOf(path) + baseOf(path).toUpperCase();
 
 // Whether a file is none of a county's, whatever its name: what a Mac leaves beside others, or what is in a hidden folder.
 export function isLeftOut(path) {

@@ -1,7 +1,6 @@
 // The page: takes files, and shows one county, two, or many.
 import { takeCarried, unpackCarried } from "./carried.js";
-import { counted } from "./numbers.js";
-import { sortedOut } from "./counties.js";
+import { endingsOf, sortedOut } from "./counties.js";
 import { announce, h, replace } from "./dom.js";
 import { chosenFiles, droppedFiles } from "./dropping.js";
 import { bytesOfBase64, engineModule } from "./jobs.js";
@@ -13,7 +12,8 @@ import { TwoCounties } from "./two.js";
 
 const byId = (id) => document.getElementById(id);
 const MASK_BOXES = ["no-sources", "no-reserved"];
-const state = { counties: [], manifests: [], skipped: new Map(), view: null, adds: false, taking: Promise.resolve(), round: 0 };
+const NOTHING = { counties: [], manifests: [], skipped: [] };
+const state = { ...NOTHING, view: null, adds: false, taking: Promise.resolve(), round: 0 };
 const NEEDED = "This page needs a browser of 2023 or later: Chrome or Edge 103, Firefox 113, Safari 16.4.";
 
 const masksNow = () => ({ sources: byId("no-sources").checked, reserved: byId("no-reserved").checked });
@@ -93,14 +93,16 @@ function take(files, adds) {
 function put({ counties, manifests, skipped }, adds) {
   const isSecond = state.counties.length === 1 && counties.length === 1 && !manifests.length;
   const keeps = adds || isSecond || !counties.length || state.view instanceof ManyCounties;
-  const kept = keeps ? state.counties : [];
+  const before = { counties: state.counties, manifests: state.manifests, skipped: state.skipped };
+  const kept = keeps ? before : NOTHING;
   const names = new Set(counties.map(({ stem }) => stem));
   // Two files of one name are two counties, so the later one gets another name, unless it goes into a table.
-  if (kept.length === 1 && counties.length === 1 && names.delete(kept[0].stem)) counties[0].stem = `${counties[0].stem} (2)`;
-  const first = kept.filter(({ stem }) => !names.has(stem));
-  const left = keeps || state.counties.length < 2 ? undefined : { counties: state.counties, manifests: state.manifests, skipped: state.skipped };
+  if (kept.counties.length === 1 && counties.length === 1 && names.delete(kept.counties[0].stem)) counties[0].stem = `${counties[0].stem} (2)`;
+  const first = kept.counties.filter(({ stem }) => !names.has(stem));
+  const left = keeps || before.counties.length < 2 ? undefined : before;
   if (left) history.pushState(null, "");
-  Object.assign(state, { counties: [...first, ...counties], manifests: [...(keeps ? state.manifests : []), ...manifests], skipped, before: left });
+  const all = { counties: [...first, ...counties], manifests: [...kept.manifests, ...manifests], skipped: [...kept.skipped, ...skipped] };
+  Object.assign(state, { ...all, before: left });
   complain("");
   show();
   if (left) notify(left.counties);
@@ -115,8 +117,7 @@ function notify(left) {
 }
 
 function nothingIn(files, skipped) {
-  const kinds = [...skipped].map(([ending, count]) => `${counted(count)} ${ending}`).join(", ");
-  return `There is no county in ${files.length === 1 ? "this" : "these"}: ${kinds || "no files"}. A county is nine files .RT1 to .RTP, a zip of them, or one file with all records.`;
+  return `There is no county in ${files.length === 1 ? "this" : "these"}: ${endingsOf(skipped) || "no files"}. A county is nine files .RT1 to .RTP, a zip of them, or one file with all records.`;
 }
 
 function complain(text) {
@@ -130,12 +131,12 @@ async function example(name) {
     const file = new File([await bytesOfBase64(gzip)], path.replace("/all", "").replace(/^.*\//, ""));
     return { path: file.name, file };
   });
-  Object.assign(state, { counties: [], manifests: [] });
+  Object.assign(state, NOTHING);
   await take(Promise.all(files), false);
 }
 
 function startAgain() {
-  Object.assign(state, { counties: [], manifests: [], skipped: new Map(), before: undefined, round: state.round + 1 });
+  Object.assign(state, { ...NOTHING, before: undefined, round: state.round + 1 });
   if (state.ownMasks) setMasks(state.ownMasks);
   state.ownMasks = undefined;
   complain("");

@@ -1,14 +1,21 @@
 // Reads the parts of a county: in the order of the nine files, or the one file with all records.
 import { isPacked, unzippedStream } from "./first_line.js";
 import { TYPES } from "./tables.js";
-import { checkSize, LARGEST, membersOf, Unreadable, unpacked } from "./zips.js";
+import { Unreadable } from "./unreadable.js";
+import { checkSize, LARGEST, membersOf, unpacked } from "./zips.js";
 
 // The parts with their names, and notes about files that are missing or empty. `report` is told how far reading has come.
 export async function partsOf(county, report) {
+  const all = await partsRead(county, report);
+  if (all.parts.every(({ length }) => !length)) throw new Unreadable("it is empty, so it has no records");
+  return all;
+}
+
+async function partsRead(county, report) {
   if (county.trouble) throw new Unreadable(county.trouble);
   if (county.whole) return wholeParts(county, report);
   const { files, names } = county.zip ? await unzipped(county.zip, report) : await singles(county.files, report);
-  if (files.has("")) return { parts: [files.get("")], names: [names.get("")], notes: [...notesOnWhole(files.get("")), ...county.notes] };
+  if (files.has("")) return { parts: [files.get("")], names: [names.get("")], notes: county.notes };
   const parts = [...TYPES].map((type) => files.get(type) ?? new Uint8Array(0));
   return { parts, names: [...TYPES].map((type) => names.get(type) ?? `.RT${type}`), notes: [...notesOn(files), ...county.notes] };
 }
@@ -18,10 +25,8 @@ async function wholeParts({ whole, notes }, report) {
   checkSize(whole.size, "the file has");
   const count = reading(report, whole.size);
   const bytes = (await isPacked(whole)) ? await unpackedFile(whole, count) : await readFile(whole, count);
-  return { parts: [bytes], names: [whole.name], notes: [...notesOnWhole(bytes), ...notes] };
+  return { parts: [bytes], names: [whole.name], notes };
 }
-
-const notesOnWhole = (bytes) => (bytes.length ? [] : ["the file is empty"]);
 
 const reading = (report, total) => progress(report, "reading", total);
 

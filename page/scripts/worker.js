@@ -12,7 +12,7 @@ import { lineOf } from "./refusals.js";
 import { partsOf } from "./sets.js";
 import { shownOf } from "./faulty.js";
 import { shapesOf } from "./shapes.js";
-import { Unreadable } from "./zips.js";
+import { Unreadable } from "./unreadable.js";
 
 const MOST_LISTED = 400_000_000; // bytes of both canonical texts: the list needs about seven times as much memory
 const FULL = "There wasn't enough memory for this in the browser. Close other pages and try again, or use the program.";

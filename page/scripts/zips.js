@@ -4,6 +4,7 @@ import { firstLine, isRecord } from "./first_line.js";
 import { isLeftOut, kindOf, stemOf } from "./names.js";
 import { counted } from "./numbers.js";
 import { TYPES } from "./tables.js";
+import { Unreadable } from "./unreadable.js";
 
 export const LARGEST = 1_000_000_000;
 
@@ -23,9 +24,6 @@ const LOCKED = 1;
 const UTF_8 = 0x800;
 const BEYOND_32_BITS = 0xffffffff;
 const LARGE_NUMBERS = 1; // the extra field with numbers that 32 bits don't hold
-
-// What can't be read. The message says why, as a user can be told.
-export class Unreadable extends Error {}
 
 const noDirectory = () => new Unreadable("the zip is broken: its directory can't be read");
 

@@ -5,12 +5,13 @@ import { test } from "node:test";
 import { gzipSync } from "node:zlib";
 import { example, take } from "./scripts.mjs";
 
-const { packedSize, sortedOut } = await take("counties");
+const { countyIn, doublesAmong, endingsOf, packedSize, sortedOut } = await take("counties");
 const { chosenFiles, droppedFiles, TooManyFiles } = await take("dropping");
 const { beginsWithRecord, isRecord } = await take("first_line");
 const { partsOf } = await take("sets");
 const { byBytes, canonicalName, endingOf, keyOf, plainName } = await take("names");
-const { LARGEST, Unreadable } = await take("zips");
+const { Unreadable } = await take("unreadable");
+const { LARGEST } = await take("zips");
 
 const record = Buffer.from(example("autauga/all.txt")).toString("latin1").split("\n")[0];
 const given = (path, text = "1") => ({ path, file: new File([text], path.split("/").at(-1)) });
@@ -20,7 +21,7 @@ const none = () => {};
 async function found(...files) {
   const { counties, manifests, skipped } = await sortedOut(files.map((file) => (typeof file === "string" ? given(file) : file)));
   const told = counties.map(({ stem, files: singles, zip, whole, trouble }) => [stem, trouble ?? (singles ? Object.keys(singles).join("") : zip ? "zip" : whole && "whole")]);
-  return { counties: Object.fromEntries(told), manifests: manifests.map(({ path }) => path), skipped: Object.fromEntries(skipped) };
+  return { counties: Object.fromEntries(told), manifests: manifests.map(({ path }) => path), skipped: skipped.map(({ path }) => path) };
 }
 
 test("single files of one stem are a county, in any case of their names", async () => {
@@ -40,23 +41,62 @@ test("single files go before a zip, and a note says so", async () => {
   assert.deepEqual((await found("in/A.ZIP")).counties, { "in/A": "zip" });
 });
 
-test("in folders a file is a county if its first line is a record, and others are counted", async () => {
-  const packed = gzipSync(`${record}\r\n`);
+const packed = gzipSync(`${record}\r\n`);
+
+test("in folders a file is a county if its first line is a record", async () => {
+  const others = [given("in/all.RT1.gz", packed), given("in/notes.tar.gz", gzipSync("nothing")), given("in/empty.gz", gzipSync("")), ...["in/read.me", "in/b.me", "in/TGR01001.RT3", "in/none"].map((path) => given(path))];
+  const { counties, skipped } = await found(given("in/all.txt", `${record}\n`), given("in/all.txt.gz", packed), given("in/plain.gz", record), ...others);
+  assert.deepEqual(counties, { "in/all.txt": "whole", "in/all.txt.gz": "whole", "in/plain.gz": "whole" });
+  assert.deepEqual(skipped, others.map(({ path }) => path));
+  assert.equal(endingsOf(others), "2 .gz, 2 .me, 1 .tar.gz, 1 .RT3, 1 without an ending");
+});
+
+test("in folders a file with a county's name is one, however it begins, unless its ending is another's", async () => {
+  const { counties, skipped } = await found("in/TGR01001", "in/tgr01003.txt", "in/TGR01005.met", "in/TGR01007.csv", "in/TGR01009.GeoJSON", "in/TGR01011.html", "in/TGR01013.csv.gz", "in/TGR010155", "in/XTGR01017");
+  assert.deepEqual(counties, { "in/TGR01001": "whole", "in/tgr01003.txt": "whole" });
+  assert.equal(skipped.length, 7);
+});
+
+test("in folders what can't be unpacked is a county that fails, and so is a single file that gzip packed", async () => {
   const { counties, skipped } = await found(
-    given("in/all.txt", `${record}\n`), given("in/all.txt.gz", packed), given("in/TGR01001.RT1.gz", packed), "in/read.me", "in/b.me",
-    given("in/archive.tar.gz", gzipSync("nothing")), "in/TGR01001.RT3", "in/none",
+    given("in/a.gz", packed.subarray(0, 40)), given("in/b.txt", packed.subarray(0, 9)), given("in/c.GZ", "nothing"), given("in/TGR01001.RT1.gz", packed), given("in/TGR01001.RT3.gz", packed),
   );
-  assert.deepEqual(counties, { "in/all.txt": "whole", "in/all.txt.gz": "whole" });
-  assert.deepEqual(skipped, { ".gz": 1, ".me": 2, ".tar.gz": 1, ".RT3": 1, "without an ending": 1 });
+  assert.deepEqual(counties, {
+    "in/a.gz": "it can't be unpacked", "in/b.txt": "it can't be unpacked", "in/c.GZ": "it can't be unpacked: it isn't a file of gzip, as its name says",
+    "in/TGR01001.RT1.gz": "it is one file of several, packed by gzip: unpack it first",
+  });
+  assert.deepEqual(skipped, ["in/TGR01001.RT3.gz"]);
+});
+
+test("a file that a manifest lists is a county, unless its ending is another's", async () => {
+  const listed = async (path) => (await countyIn(given(path, "nothing"), true)) ?? "none";
+  const { whole, ...rest } = await listed("in/read.me");
+  assert.deepEqual([whole.name, rest], ["read.me", { stem: "in/read.me", notes: [] }]);
+  assert.deepEqual([await listed("in/a.RT3"), await listed("in/a.csv")], ["none", "none"]);
+  assert.equal((await listed("in/a.RT1.gz")).trouble, "it is one file of several, packed by gzip: unpack it first");
 });
 
 test("a file that the user named is a county, whatever is in it", async () => {
-  assert.deepEqual((await found("read.me", "TGR01001.RT3")), { counties: { "read.me": "whole" }, manifests: [], skipped: { ".RT3": 1 } });
+  assert.deepEqual(await found("read.me", "TGR01001.RT3"), { counties: { "read.me": "whole" }, manifests: [], skipped: ["TGR01001.RT3"] });
+});
+
+test("a county whose name has a line break in it fails", async () => {
+  assert.deepEqual((await found("a\nb.RT1")).counties, { "a\nb": "its name has a line break in it" });
+});
+
+test("of single files or a zip and a file of the same name without an ending the former are read, and a note says so", async () => {
+  const { counties } = await sortedOut([given("in/A", record), given("in/A.ZIP")]);
+  assert.deepEqual(counties.map(({ stem, zip, notes }) => [stem, zip.name, notes]), [["in/A", "A.ZIP", ["the file A beside it isn't read"]]]);
+});
+
+test("files with all records beside a zip or single files of the same name", async () => {
+  const { counties } = await sortedOut([given("in/A.ZIP"), given("in/a.txt", record), given("b.txt"), given("B.RT1"), given("other/A.txt", record)]);
+  assert.deepEqual([...doublesAmong(counties)].map((pair) => pair.map((county) => county?.stem)), [["b.txt", "B"], ["in/a.txt", "in/A"], ["other/A.txt", undefined]]);
 });
 
 test("what a Mac leaves and hidden folders are left out", async () => {
   const files = ["in/._TGR01001.RT1", "in/__MACOSX/TGR01001.RT1", "__MACOSX/A.ZIP", ".DS_Store", "in/.DS_Store", "in/.git/A.RT1", "._A.ZIP"];
-  assert.deepEqual(await found(...files), { counties: {}, manifests: [], skipped: {} });
+  assert.deepEqual(await found(...files), { counties: {}, manifests: [], skipped: [] });
   assert.deepEqual((await found(".in/A.RT1")).counties, { ".in/A": "1" });
 });
 
@@ -103,6 +143,8 @@ test("the nine parts in their order, with their names and what is missing", asyn
   assert.deepEqual([stages[0], stages.at(-1)], [{ stage: "reading", done: 0, total: 5 }, { stage: "reading", done: 5, total: 5 }]);
   assert.equal(packedSize(counties[0]), 5);
   await assert.rejects(partsOf({ trouble: "there are 2 zips: a, b" }, none), new Unreadable("there are 2 zips: a, b"));
+  const empty = new Unreadable("it is empty, so it has no records");
+  for (const path of ["A.RT1", "all.txt"]) await assert.rejects(partsOf((await sortedOut([given(path, "")])).counties[0], none), empty);
 });
 
 // A file of this size whose stream has other bytes.

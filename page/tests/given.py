@@ -122,7 +122,7 @@ def try_broken_files(page: Page) -> None:
     empty = page.room / "empty.txt"
     empty.write_bytes(b"")
     page.show([empty])
-    page.equal("the note on an empty file", "The file is empty.", page.browser.text(".note"))
+    page.equal("an empty file", "It is empty, so it has no records.", page.browser.text(".refusal .line"))
 
 
 def archive(page: Page) -> Path:
@@ -136,7 +136,16 @@ def archive(page: Page) -> Path:
     (folder / "TGR01005.RT7").unlink()
     (folder / "TGR01004.RT2").rename(folder / "tgr01004.rt2")
     (folder / "TGR01006.RT1").write_bytes((EXAMPLES / "broken.txt").read_bytes())
-    (folder / "readme.pdf").write_bytes(b"")
+    make_county("--seed", 3, 200, folder / "TGR01003.txt")
+    for name, text in {
+        "TGR01007": b"nothing",
+        "TGR01008.RT1.gz": gzip.compress(b"1"),
+        "TGR01010.txt": b"",
+        "cut.txt.gz": gzip.compress(b"1" * 300)[:20],
+        "readme.pdf": b"",
+        "words.txt": b"nothing",
+    }.items():
+        (folder / name).write_bytes(text)
     return folder
 
 
@@ -154,7 +163,7 @@ def try_many(page: Page) -> None:
     lines_of_tools = [line for line in (page.room / "manifest").read_bytes().splitlines() if not re.match(rb"# [0-9?]", line)]
     page.equal("the manifest of the page and of the tools", unmarked(lines_of_tools), unmarked(saved.splitlines()))
     text = page.browser.text(".summary")
-    page.holds("skipped files are counted", "1 .pdf" in text and "2 refused" in text, text)
+    page.holds("skipped files are counted", "1 .pdf, 1 .txt" in text and "3 refused, 3 failed" in text, text)
     page.holds(
         "counties of one map", "tiger/TGR01001, tiger/TGR01002" in page.browser.text(".many .note"), page.browser.text(".many")
     )
@@ -164,7 +173,7 @@ def try_many(page: Page) -> None:
     comments = (
         "# 12 2026-11-29T22:20:40.7Z, 3 ?  tiger/TGR01001\n# 5 2026-11-29T22:20:40Z  refused 4 BadNumber 1 4 6  tiger/TGR01006\n"
     )
-    changed.write_text("".join(lines[:-1]) + f"{comments}{'1' * 64}  tiger/TGR01009\n")
+    changed.write_text("".join(lines[:-1]) + f"{comments}{'1' * 64}  tiger/TGR01009\n{'1' * 64}  tiger/words.txt\n")
     page.browser.give([changed])
     compared(page, changed, folder, "a manifest after the counties")
     page.browser.click("tbody tr button")

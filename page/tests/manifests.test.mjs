@@ -72,6 +72,38 @@ test("a county that a manifest lists as refused is still refused, accepted now, 
   assert.deepEqual(lines.map(({ state }) => state), ["ACCEPTED", "REFUSED", "FAILED", "MISSING"]);
 });
 
+// What comes of a manifest with these lines, each a name and a digit of its fingerprint, beside such counties.
+const compared = (lines, counties) => {
+  const each = ([stem, digit, more]) => ({ stem, fingerprint: digit && print(digit), ...more });
+  const judged = counties.map(each);
+  for (const county of judged) county.double = judged.find(({ stem }) => stem === county.double);
+  const { lines: found, isByName } = verified({ counties: lines.map(each) }, judged);
+  return [isByName, ...found.map(({ stem, state }) => `${stem} ${state}`)];
+};
+
+test("counties may have been packed, unpacked or joined since", () => {
+  const [lines, counties] = [[["in/A", "1"], ["in/b.txt.gz", "2"], ["c/A", "3"]], [["in/a.txt", "1"], ["in/B", "2"], ["d/A", "3"]]];
+  assert.deepEqual(compared(lines, counties), [true, "in/a.txt OK", "in/B OK", "c/A MISSING", "d/A NEW"]);
+});
+
+test("a name that several counties have stands for none of them", () => {
+  assert.deepEqual(compared([["a/A", "1"]], [["b/A", "1"], ["c/A", "2"]]), [false, "a/A MISSING", "b/A NEW", "c/A NEW"]);
+  assert.deepEqual(compared([["a/A", "1"], ["b/A", "2"]], [["c/A", "1"]]), [false, "a/A MISSING", "b/A MISSING", "c/A NEW"]);
+  assert.deepEqual(compared([["A", "1"], ["a", "2"]], [["A", "1"], ["a", "2"]]), [true, "A OK", "a OK"]);
+});
+
+test("a file with the map of the zip beside it is OK if that is, unless the manifest lists it", () => {
+  const both = [["A", "1"], ["A.txt", "1", { double: "A" }]];
+  assert.deepEqual(compared([["a", "1"]], both), [true, "A OK", "A.txt OK"]);
+  assert.deepEqual(compared([["a", "2"]], both), [true, "A FAILED", "A.txt NEW"]);
+  assert.deepEqual(compared([["B", "2"]], both), [false, "B MISSING", "A NEW", "A.txt NEW"]);
+  assert.deepEqual(compared([["A", "1"], ["A.txt", "2"]], both), [true, "A OK", "A.txt FAILED"]);
+});
+
+test("a county that can't be read has failed, although the manifest doesn't have it", () => {
+  assert.deepEqual(compared([["A", "1"]], [["A", "1"], ["B", "", { isUnread: true }], ["C", ""]]), [true, "A OK", "B FAILED", "C NEW"]);
+});
+
 test("if a manifest names none of the counties they are matched without folder, case and ending", () => {
   const manifest = { counties: [{ stem: "tiger/TGR01001", fingerprint: print("1") }, { stem: "tiger/TGR01003.txt", fingerprint: print("3") }] };
   const { isByName, lines } = verified(manifest, [{ stem: "tgr01001", fingerprint: print("1") }, { stem: "x/y", fingerprint: print("2") }]);
