@@ -42,6 +42,8 @@ function progress(report, stage, total) {
   };
 }
 
+const changed = ({ name }) => new Unreadable(`a file changed while it was read: ${name}`);
+
 async function readFile(file, count) {
   const bytes = new Uint8Array(file.size);
   const reader = file.stream().getReader();
@@ -49,12 +51,12 @@ async function readFile(file, count) {
   for (;;) {
     const { done, value } = await reader.read();
     if (done) break;
-    if (at + value.length > bytes.length) throw new Unreadable(`${file.name} changed while it was read`);
+    if (at + value.length > bytes.length) throw changed(file);
     bytes.set(value, at);
     at += value.length;
     count(value.length);
   }
-  if (at !== bytes.length) throw new Unreadable(`${file.name} changed while it was read`);
+  if (at !== bytes.length) throw changed(file);
   return bytes;
 }
 
@@ -64,7 +66,7 @@ async function unpackedFile(file, count) {
   let size = 0;
   for (;;) {
     const { done, value } = await reader.read().catch(() => {
-      throw new Unreadable(`${file.name} can't be unpacked`);
+      throw new Unreadable("it can't be unpacked");
     });
     if (done) break;
     size += value.length;

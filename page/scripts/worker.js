@@ -78,7 +78,7 @@ async function compareTexts({ texts, most = MOST_LISTED }) {
 async function respelled(module, county) {
   const { parts } = await partsOf(county, () => report({ stage: "reading again" }));
   const { text } = respell(module, parts);
-  if (!text) throw new Unreadable(`${county.stem} can't be read again as it was`);
+  if (!text) throw new Unreadable(`a county can't be read again as it was: ${county.stem}`);
   return { parts, text };
 }
 

@@ -1,6 +1,7 @@
 // Reads zips as TIGER/Line files are distributed. What is unpacked is bounded: never more than a zip's directory announces, and no
 // county of more than LARGEST bytes.
 import { firstLine, isRecord } from "./first_line.js";
+import { groupedBy } from "./grouping.js";
 import { isLeftOut, kindOf, stemOf } from "./names.js";
 import { counted } from "./numbers.js";
 import { TYPES } from "./tables.js";
@@ -18,6 +19,7 @@ const END_BYTES = 22;
 const LOCATOR_BYTES = 20;
 const END_64_BYTES = 56;
 const ENTRY_BYTES = 46;
+const FILE_BYTES = 30;
 const STORED = 0;
 const DEFLATED = 8;
 const LOCKED = 1;
@@ -83,9 +85,10 @@ function readEntry(directory, at) {
   const name = new Uint8Array(directory.buffer, at + ENTRY_BYTES, short(28));
   const extra = new DataView(directory.buffer, at + ENTRY_BYTES + short(28), short(30));
   const [size, packed, place] = largeNumbers([long(24), long(20), long(42)], extra);
-  const text = new TextDecoder(short(8) & UTF_8 ? "utf-8" : "windows-1252").decode(name);
-  return { entry: { name: text, flags: short(8), method: short(10), crc: long(16), packed, size, at: place }, bytes };
+  return { entry: { name: nameIn(name, short(8)), flags: short(8), method: short(10), crc: long(16), packed, size, at: place }, bytes };
 }
+
+const nameIn = (bytes, flags) => new TextDecoder(flags & UTF_8 ? "utf-8" : "windows-1252").decode(bytes);
 
 // Numbers of an entry. Those that 32 bits don't hold stand in an extra field, in this order.
 function largeNumbers(numbers, extra) {
@@ -105,56 +108,63 @@ function largeNumbers(numbers, extra) {
 // The files of the one county in a zip by their types, in either case of their names; or the one file with all records, by no type.
 export async function membersOf(blob) {
   const entries = (await entriesOf(blob)).filter(({ name }) => !isLeftOut(name));
-  const counties = countiesAmong(entries);
-  if (counties.size === 0) for (const entry of entries) if (await isWholeMember(blob, entry)) counties.set(entry.name, new Map([["", [entry]]]));
-  if (counties.size === 0) throw new Unreadable("the zip has no county in it");
+  const singles = entries.filter(({ name }) => [...TYPES].includes(kindOf(name)));
+  const counties = singles.length ? groupedBy(singles, ({ name }) => stemOf(name).toUpperCase()) : await wholesAmong(blob, entries);
   if (counties.size > 1) {
     const names = [...counties.keys()].sort().slice(0, 3).join(", ");
     throw new Unreadable(`the zip has ${counties.size} counties in it: ${names}`);
   }
   const members = new Map();
-  for (const [kind, found] of [...counties.values()][0]) {
+  for (const [kind, found] of groupedBy([...counties.values()][0], ({ name }) => kindOf(name))) {
     if (found.length > 1) throw new Unreadable(`the zip has ${found.length} files .RT${kind}`);
-    if (found[0].flags & LOCKED) throw new Unreadable("the zip is locked with a password");
+    if (found[0].flags & LOCKED) throw locked();
     members.set(kind, found[0]);
   }
   checkSize([...members.values()].reduce((sum, entry) => sum + entry.size, 0), "the zip unpacks to");
   return members;
 }
 
-// The entries of a county's files by their types, of each county by its stem without case.
-function countiesAmong(entries) {
-  const counties = new Map();
-  for (const entry of entries) {
-    const kind = kindOf(entry.name);
-    if (kind === "" || !TYPES.includes(kind)) continue;
-    const stem = stemOf(entry.name).toUpperCase();
-    if (!counties.has(stem)) counties.set(stem, new Map());
-    const files = counties.get(stem);
-    files.set(kind, [...(files.get(kind) ?? []), entry]);
+// The files of a zip that begin with a record. If there is none, what can't be read may have been one.
+async function wholesAmong(blob, entries) {
+  const found = new Map();
+  let trouble = new Unreadable("the zip has no county in it");
+  for (const entry of entries.filter(({ name }) => !name.endsWith("/") && !kindOf(name)).reverse()) {
+    try {
+      if (await beginsWithRecordIn(blob, entry)) found.set(entry.name, [entry]);
+    } catch (error) {
+      trouble = error;
+    }
   }
-  return counties;
+  if (!found.size) throw trouble;
+  return found;
 }
 
-async function isWholeMember(blob, entry) {
-  if (entry.name.endsWith("/") || kindOf(entry.name) || entry.flags & LOCKED) return false;
-  const stream = await unpackedStream(blob, entry).catch(() => undefined);
-  return Boolean(stream) && isRecord(await firstLine(stream).catch(() => ""));
+async function beginsWithRecordIn(blob, entry) {
+  if (entry.flags & LOCKED) throw locked();
+  const line = firstLine(await unpackedStream(blob, entry));
+  return isRecord(await line.catch((error) => {
+    throw reasonFor(error, entry);
+  }));
 }
 
 export function checkSize(size, what) {
   if (size > LARGEST) throw new Unreadable(`${what} ${counted(size)} bytes, and this page takes at most ${counted(LARGEST)}: use the program`);
 }
 
+const locked = () => new Unreadable("the zip is locked with a password");
 const brokenAt = (entry) => new Unreadable(`the zip is broken at ${entry.name}`);
 
-// A stream of the bytes of a file in a zip.
+// Why bytes of a file in a zip can't be read: there is no memory for them, the zip is gone, or else they are wrong.
+const reasonFor = (error, entry) => (error instanceof RangeError || error.name === "NotReadableError" ? error : brokenAt(entry));
+
+// A stream of the bytes of a file in a zip, which has its name before them too.
 async function unpackedStream(blob, entry) {
-  const head = await wordsOf(blob, entry.at, entry.at + 30);
-  if (head.byteLength < 30 || head.getUint32(0, true) !== FILE_MARK) throw brokenAt(entry);
-  const from = entry.at + 30 + head.getUint16(26, true) + head.getUint16(28, true);
+  const head = await wordsOf(blob, entry.at, entry.at + FILE_BYTES);
+  if (head.byteLength < FILE_BYTES || head.getUint32(0, true) !== FILE_MARK) throw brokenAt(entry);
+  const named = entry.at + FILE_BYTES + head.getUint16(26, true);
+  const from = named + head.getUint16(28, true);
   const packed = blob.slice(from, from + entry.packed);
-  if (packed.size !== entry.packed) throw brokenAt(entry);
+  if (packed.size !== entry.packed || nameIn(await wordsOf(blob, entry.at + FILE_BYTES, named), entry.flags) !== entry.name) throw brokenAt(entry);
   if (![STORED, DEFLATED].includes(entry.method)) {
     throw new Unreadable(`the zip can't be unpacked: ${entry.name} is compressed by an unknown method`);
   }
@@ -165,26 +175,26 @@ async function unpackedStream(blob, entry) {
 export async function unpacked(blob, entry, progress) {
   const stream = await unpackedStream(blob, entry);
   const bytes = new Uint8Array(entry.size);
-  const length = await filled(bytes, stream.getReader(), brokenAt(entry), progress);
+  const length = await filled(bytes, stream.getReader(), entry, progress);
   if (length !== entry.size || checksum(bytes) !== entry.crc) throw brokenAt(entry);
   return bytes;
 }
 
-// Reads pieces into so many bytes, and returns how many came. More are never taken.
-async function filled(bytes, reader, broken, progress) {
+// Reads pieces into so many bytes, and returns how many came. What is behind them isn't read.
+async function filled(bytes, reader, entry, progress) {
   let at = 0;
   try {
-    for (;;) {
+    while (at < bytes.length) {
       const { done, value } = await reader.read();
-      if (done) return at;
-      if (at + value.length > bytes.length) throw broken;
-      bytes.set(value, at);
-      at += value.length;
-      progress(value.length);
+      if (done) break;
+      const piece = value.subarray(0, bytes.length - at);
+      bytes.set(piece, at);
+      at += piece.length;
+      progress(piece.length);
     }
+    return at;
   } catch (error) {
-    if (error instanceof RangeError) throw error;
-    throw broken;
+    throw reasonFor(error, entry);
   } finally {
     reader.cancel().catch(() => {});
   }

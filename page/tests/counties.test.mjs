@@ -152,8 +152,8 @@ const changing = (size, pieces, name = "a.txt") => ({ name, size, slice: () => n
 
 test("a file that changes while it is read isn't judged", async () => {
   for (const pieces of [["1"], ["12", "34"], []]) {
-    await assert.rejects(partsOf({ whole: changing(3, pieces), notes: [] }, none), new Unreadable("a.txt changed while it was read"));
-    await assert.rejects(partsOf({ files: { 1: changing(3, pieces) }, notes: [] }, none), new Unreadable("a.txt changed while it was read"));
+    await assert.rejects(partsOf({ whole: changing(3, pieces), notes: [] }, none), new Unreadable("a file changed while it was read: a.txt"));
+    await assert.rejects(partsOf({ files: { 1: changing(3, pieces) }, notes: [] }, none), new Unreadable("a file changed while it was read: a.txt"));
   }
 });
 

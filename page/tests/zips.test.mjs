@@ -36,6 +36,7 @@ function zipOf(files, { count = files.length, isLarge = false } = {}) {
     const all = { method: says?.stored ? 0 : 8, crc: checksum(content), packed: packed.length, size: content.length, ...says };
     const fields = Buffer.alloc(26);
     fields.writeUInt16LE(20, 0);
+    fields.writeUInt16LE(all.flags ?? 0, 2);
     fields.writeUInt16LE(all.method, 4);
     fields.writeUInt32LE(all.crc, 10);
     fields.writeUInt32LE(all.packed, 14);
@@ -87,10 +88,12 @@ test("a file is unpacked whole", async () => {
 });
 
 for (const stored of [false, true]) {
-  test(`a file that isn't what the directory announces is broken, ${stored ? "stored" : "compressed"}`, async () => {
+  test(`of a file so many bytes are read as the directory announces, if these are right, ${stored ? "stored" : "compressed"}`, async () => {
     const more = await outcome(zipOf([[name, large, { size: 100, stored }]]));
     assert.equal(more.sentence, broken);
     assert.ok(more.taken <= 100);
+    const begun = await outcome(zipOf([[name, large, { size: 100, stored, crc: checksum(large.subarray(0, 100)) }]]));
+    assert.deepEqual([Buffer.from(begun.bytes).toString(), begun.taken], ["1".repeat(100), 100]);
     const less = await outcome(zipOf([[name, large, { size: large.length + 1, stored }]]));
     assert.equal(less.sentence, broken);
     const other = await outcome(zipOf([[name, large, { crc: 1, stored }]]));
@@ -136,12 +139,23 @@ test("a zip with one file of all records is that file", async () => {
   assert.equal((await outcome(zipOf([["read.me", "nothing"]]))).sentence, "the zip has no county in it");
 });
 
+test("of a zip without a county the reason is the first file that can't be read", async () => {
+  const nothing = ["read.me", "nothing"];
+  const locked = ["a.txt", all, { flags: 1 }];
+  for (const [files, sentence] of [
+    [[nothing, locked, ["b.txt", all, { method: 99 }]], "the zip is locked with a password"],
+    [[nothing, ["b.txt", all, { method: 99 }], locked], "the zip can't be unpacked: b.txt is compressed by an unknown method"],
+    [[["b.txt", "xxxxxxxxxxxxxxxxx", { stored: true, method: 8 }], nothing], "the zip is broken at b.txt"],
+  ]) assert.equal((await outcome(zipOf(files))).sentence, sentence);
+  assert.ok((await outcome(zipOf([locked, ["all.txt", all]]))).bytes);
+});
+
 test("a file that gzip packed is unpacked, and a broken one can't be", async () => {
   const whole = (bytes, called = "all.txt.gz") => partsOf({ whole: new File([bytes], called), notes: ["a note"] }, () => {});
   const { parts, names, notes } = await whole(gzipSync(all));
   assert.ok(Buffer.from(all).equals(Buffer.from(parts[0])));
   assert.deepEqual([names, notes], [["all.txt.gz"], ["a note"]]);
-  await assert.rejects(whole(gzipSync(all).subarray(0, 300)), new Unreadable("all.txt.gz can't be unpacked"));
+  await assert.rejects(whole(gzipSync(all).subarray(0, 300)), new Unreadable("it can't be unpacked"));
   await assert.rejects(whole(gzipSync("")), new Unreadable("it is empty, so it has no records"));
 });
 
@@ -159,6 +173,7 @@ test("a zip that is cut off, one that isn't a zip, and files that can't be unpac
     [changed(directory + 8, [1]), "the zip is locked with a password"],
     [changed(directory + 10, [99]), `the zip can't be unpacked: ${name} is compressed by an unknown method`],
     [changed(0, "XX"), broken],
+    [changed(30, "X"), broken],
     [changed(directory + 42, [1]), broken],
     [zipOf([[name, "1", { packed: 1000 }]]), broken],
     [zipOf([["A.RT1", "1"], ["a.rt1", "2"]]), "the zip has 2 files .RT1"],
