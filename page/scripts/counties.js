@@ -3,7 +3,7 @@
 //
 // A county has a stem, which is its name, and either single files by their types, a zip or one whole file. trouble says why it can't be
 // judged, and notes are reported with its result.
-import { beginsWithRecord } from "./first_line.js";
+import { beginningOf, beginsWithRecord } from "./first_line.js";
 import { groupedBy } from "./grouping.js";
 import { baseOf, byBytes, endingOf, folderOf, foldedName, isLeftOut, keyOf, kindOf, stemOf } from "./names.js";
 import { counted } from "./numbers.js";
@@ -11,7 +11,7 @@ import { FORM, TYPES } from "./tables.js";
 import { Unreadable } from "./unreadable.js";
 
 const FILE_KINDS = [...TYPES, "ZIP"];
-const MANIFEST_HEAD = 200;
+const AT_ONCE = 32; // files of which the beginning is read
 const UNREADABLE = "it can't be read: it was moved, changed or is locked";
 const PACKED = "it is one file of several, packed by gzip: unpack it first";
 const COUNTY_NAME = /^TGR[0-9]{5}$/;
@@ -24,23 +24,34 @@ export async function sortedOut(files) {
   const named = files.filter(({ path }) => !isLeftOut(path));
   const isOfNine = ({ path }) => FILE_KINDS.includes(kindOf(path));
   for (const group of groupedBy(named.filter(isOfNine), ({ path }) => foldedName(stemOf(path))).values()) found.counties.push(countyOf(group));
-  for (const given of named) if (!isOfNine(given)) await sortOther(given, found);
+  for (const [kind, each] of await eachOf(named.filter((given) => !isOfNine(given)), decided)) found[kind].push(each);
   found.counties = [...groupedBy(found.counties.map(nameable), ({ stem }) => stem).values()].map(firstOf);
   found.counties.sort((one, other) => byBytes(one.stem, other.stem));
   return found;
 }
 
-// A file that isn't one of a county's nine, nor a zip.
-async function sortOther(given, found) {
+// What a function makes of each thing, in their order. It is called for several at a time.
+async function eachOf(things, make) {
+  const [made, entries] = [new Array(things.length), things.entries()];
+  const makeSome = async () => {
+    for (const [place, thing] of entries) made[place] = await make(thing);
+  };
+  await Promise.all(Array.from({ length: AT_ONCE }, makeSome));
+  return made;
+}
+
+// What a file is that isn't one of a county's nine, nor a zip.
+async function decided(given) {
   const { path, file } = given;
   const isNamed = !path.includes("/") && kindOf(path) === "";
   try {
-    if (await isManifest(file)) return found.manifests.push(given);
+    const head = await beginningOf(file);
+    if (isManifest(head)) return ["manifests", given];
+    const county = isNamed ? wholeCounty(given) : await countyIn(given, false, head);
+    return county ? ["counties", county] : ["skipped", given];
   } catch {
-    return found.counties.push(failing(path, UNREADABLE));
+    return ["counties", failing(path, UNREADABLE)];
   }
-  const county = isNamed ? wholeCounty(given) : await countyIn(given);
-  return county ? found.counties.push(county) : found.skipped.push(given);
 }
 
 const wholeCounty = ({ path, file }) => ({ stem: path, whole: file, notes: [] });
@@ -61,21 +72,21 @@ export function endingsOf(files) {
 
 // The county that a file in a folder is, although it isn't one of a county's nine, nor a zip; or nothing. What can't be read or unpacked
 // is one that fails. A county is what begins with a record and, however it begins, what has a county's name or is listed in a manifest.
-export async function countyIn({ path, file }, isListed = false) {
+export async function countyIn({ path, file }, isListed, head) {
   const inner = path.replace(/\.gz$/i, "");
   const isCounty = isListed || COUNTY_NAME.test(keyOf(path));
   if (kindOf(path) || OTHER_ENDINGS.test(inner)) return undefined;
   if (kindOf(inner)) return isCounty && FILE_KINDS.includes(kindOf(inner)) ? failing(path, PACKED) : undefined;
   try {
-    return (await beginsWithRecord(file)) || isCounty ? wholeCounty({ path, file }) : undefined;
+    return (await beginsWithRecord(file, head ?? (await beginningOf(file)))) || isCounty ? wholeCounty({ path, file }) : undefined;
   } catch (error) {
     return failing(path, error instanceof Unreadable ? error.message : UNREADABLE);
   }
 }
 
 // A manifest begins with its form, or with a fingerprint and two blanks.
-async function isManifest(file) {
-  const start = await file.slice(0, MANIFEST_HEAD).text();
+function isManifest(head) {
+  const start = new TextDecoder().decode(head);
   return start.startsWith(FORM) || /^# --no-|^[0-9a-fA-F]{64} {2}[^\n]/.test(start);
 }
 

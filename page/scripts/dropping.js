@@ -15,17 +15,22 @@ export async function droppedFiles(transfer, most = MOST_FILES) {
   const dropped = items.map((item) => item.getAsFileSystemHandle?.() ?? item.webkitGetAsEntry?.()).filter(Boolean);
   if (!dropped.length) return chosenFiles(transfer.files);
   const found = [];
-  for (const item of await Promise.all(dropped)) await collect(item, item.name, found, most);
-  return found;
+  for (const item of await Promise.all(dropped)) {
+    for await (const each of filesIn(item, item.name)) {
+      if (found.length >= most) throw new TooManyFiles(`There are more than ${counted(most)} files. Drop fewer at once, or use tigercanon-tools.`);
+      found.push(each);
+    }
+  }
+  return Promise.all(found.map(async ({ item, path }) => ({ path, file: await fileOf(item) })));
 }
 
-// Handles have a kind, and entries say whether they are files.
-async function collect(item, path, found, most) {
-  if (found.length >= most) throw new TooManyFiles(`There are more than ${counted(most)} files. Drop fewer at once, or use tigercanon-tools.`);
-  if (item.kind === "file") found.push({ path, file: await item.getFile() });
-  else if (item.isFile) found.push({ path, file: await new Promise((resolve, reject) => item.file(resolve, reject)) });
-  else for await (const child of childrenOf(item)) await collect(child, `${path}/${child.name}`, found, most);
+// The files in a handle or an entry, each with its path. Handles have a kind, and entries say whether they are files.
+async function* filesIn(item, path) {
+  if (item.kind === "file" || item.isFile) yield { item, path };
+  else for await (const child of childrenOf(item)) yield* filesIn(child, `${path}/${child.name}`);
 }
+
+const fileOf = (item) => (item.kind ? item.getFile() : new Promise((resolve, reject) => item.file(resolve, reject)));
 
 async function* childrenOf(folder) {
   if (folder.kind) return yield* folder.values();

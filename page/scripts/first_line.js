@@ -9,21 +9,24 @@ const FILLED = { false: /^ *[0-9]+ *$/, true: /^ *[+-]?[0-9]+ *$/ };
 
 export const unzippedStream = (blob) => blob.stream().pipeThrough(new DecompressionStream("gzip"));
 
-export async function isPacked(blob) {
-  const [first, second] = new Uint8Array(await blob.slice(0, 2).arrayBuffer());
-  return first === 0x1f && second === 0x8b;
-}
+// As many bytes as the longest record has.
+export const beginningOf = async (blob) => new Uint8Array(await blob.slice(0, LONGEST_LINE).arrayBuffer());
 
-// Whether a file, which may be packed by gzip, begins with a record.
-export async function beginsWithRecord(file) {
-  const packed = await isPacked(file);
-  const start = packed ? unzippedStream(file.slice(0, PACKED_HEAD)) : file.slice(0, LONGEST_LINE).stream();
-  const isSo = isRecord(await firstLine(start).catch((error) => {
-    throw packed ? new Unreadable("it can't be unpacked") : error;
-  }));
-  if (!isSo && !packed && /\.gz$/i.test(file.name)) throw new Unreadable("it can't be unpacked: it isn't a file of gzip, as its name says");
+export const isPacked = ([first, second]) => first === 0x1f && second === 0x8b;
+
+// Whether a file with this beginning, which may be packed by gzip, begins with a record.
+export async function beginsWithRecord(file, beginning) {
+  if (isPacked(beginning)) {
+    return isRecord(await firstLine(unzippedStream(file.slice(0, PACKED_HEAD))).catch(() => {
+      throw new Unreadable("it can't be unpacked");
+    }));
+  }
+  const isSo = isRecord(lineIn(beginning));
+  if (!isSo && /\.gz$/i.test(file.name)) throw new Unreadable("it can't be unpacked: it isn't a file of gzip, as its name says");
   return isSo;
 }
+
+const lineIn = (bytes) => String.fromCharCode(...bytes.slice(0, LONGEST_LINE)).split("\n")[0].replace(/\r+$/, "");
 
 // The first line of a stream, without its line ending: at most so many bytes of it as the longest record has.
 export async function firstLine(stream) {
@@ -38,7 +41,7 @@ export async function firstLine(stream) {
   } finally {
     reader.cancel().catch(() => {});
   }
-  return String.fromCharCode(...bytes.slice(0, LONGEST_LINE)).split("\n")[0].replace(/\r+$/, "");
+  return lineIn(bytes);
 }
 
 // Whether a line has the form of a record: a record type, and what that type requires in its numbers and coordinates.

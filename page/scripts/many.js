@@ -63,7 +63,7 @@ export class ManyCounties {
   // Takes files that were skipped, although the manifest lists them.
   async takeListed() {
     const listed = new Set(this.manifest?.counties.map(({ stem }) => foldedName(stem)));
-    const found = await Promise.all(this.skipped.map((given) => countyIn(given, listed.has(foldedName(given.path)))));
+    const found = await Promise.all(this.skipped.map((given) => listed.has(foldedName(given.path)) && countyIn(given, true)));
     this.skipped = this.skipped.filter((_, place) => !found[place]);
     const more = found.filter(Boolean);
     for (const { stem } of more) this.table.add(stem, "busy", "Waiting");

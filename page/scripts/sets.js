@@ -1,5 +1,5 @@
 // Reads the parts of a county: in the order of the nine files, or the one file with all records.
-import { isPacked, unzippedStream } from "./first_line.js";
+import { beginningOf, isPacked, unzippedStream } from "./first_line.js";
 import { TYPES } from "./tables.js";
 import { Unreadable } from "./unreadable.js";
 import { checkSize, LARGEST, membersOf, unpacked } from "./zips.js";
@@ -24,7 +24,7 @@ async function partsRead(county, report) {
 async function wholeParts({ whole, notes }, report) {
   checkSize(whole.size, "the file has");
   const count = reading(report, whole.size);
-  const bytes = (await isPacked(whole)) ? await unpackedFile(whole, count) : await readFile(whole, count);
+  const bytes = isPacked(await beginningOf(whole)) ? await unpackedFile(whole, count) : await readFile(whole, count);
   return { parts: [bytes], names: [whole.name], notes };
 }
 

@@ -7,7 +7,7 @@ import { example, take } from "./scripts.mjs";
 
 const { countyIn, doublesAmong, endingsOf, packedSize, sortedOut } = await take("counties");
 const { chosenFiles, droppedFiles, TooManyFiles } = await take("dropping");
-const { beginsWithRecord, isRecord } = await take("first_line");
+const { beginningOf, beginsWithRecord, isRecord } = await take("first_line");
 const { partsOf } = await take("sets");
 const { byBytes, canonicalName, endingOf, keyOf, plainName } = await take("names");
 const { Unreadable } = await take("unreadable");
@@ -120,9 +120,10 @@ test("a record is known by its type and by what that type requires", async () =>
   for (const line of ["", "1", `3${record.slice(1)}`, record.slice(0, 209), `${record.slice(0, 5)}          ${record.slice(15)}`, record.replace("-86477532", "x86477532")]) {
     assert.equal(isRecord(line), false, line);
   }
-  assert.ok(await beginsWithRecord(new File([`${record}\r\nmore`], "a")));
-  assert.equal(await beginsWithRecord(new File([`${record}x`], "a")), true);
-  assert.equal(await beginsWithRecord(new File([`\n${record}`], "a")), false);
+  const begins = async (file) => beginsWithRecord(file, await beginningOf(file));
+  assert.ok(await begins(new File([`${record}\r\nmore`], "a")));
+  assert.equal(await begins(new File([`${record}x`], "a")), true);
+  assert.equal(await begins(new File([`\n${record}`], "a")), false);
 });
 
 test("names for files to save, keys and endings", () => {
