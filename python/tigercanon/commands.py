@@ -93,7 +93,7 @@ def add_command(commands: Any, name: str, about: str, run: Run) -> argparse.Argu
     return command
 
 
-WHERE = "default: the one that $TIGERCANON names, else the one built here, else the one on the PATH"
+WHERE = "default: $TIGERCANON, else the program of this tree or package, else tigercanon on the PATH"
 SHARED: dict[str, dict[str, Any]] = {
     "--program": {"metavar": "FILE", "help": f"the program tigercanon to run ({WHERE})"},
     "--no-sources": {"action": "store_true", "help": "leave out the fields that record where data came from"},
@@ -113,7 +113,7 @@ def add_judging_options(command: argparse.ArgumentParser, with_flags: bool = Tru
     add_shared(command, "--program")
     engine = command.add_mutually_exclusive_group()
     engine.add_argument("--jobs", metavar="N", type=count_of, help="process N counties at a time (default: one per processor)")
-    about = "use the workers of the Dask scheduler at this address, or at the one in a file that the scheduler has written"
+    about = "use the workers of the Dask scheduler at this address, or of the scheduler that has written this file"
     engine.add_argument("--scheduler", metavar="ADDRESS", help=about)
     about = "limit the memory of each process, for example to 4GB; a county that doesn't fit is tried again, alone"
     command.add_argument("--memory", metavar="SIZE", type=size_of, help=about)
@@ -130,14 +130,14 @@ def add_judging_options(command: argparse.ArgumentParser, with_flags: bool = Tru
 def add_judging_commands(commands: Any) -> None:
     about = "print or write a manifest: the fingerprint and the name of each county"
     command = add_command(commands, "fingerprint", about, runs.fingerprint)
-    about = "write the manifest to this file; counties that it already lists are skipped, and so are those that it lists as refused"
+    about = "write the manifest to this file; counties that it already lists are skipped, refused ones too"
     command.add_argument("-o", "--output", metavar="MANIFEST", help=about)
-    about = "with -o: check again the counties whose files have another size or time than the manifest has"
+    about = "with -o: check again the counties whose files have another size or time than in the manifest"
     command.add_argument("--update", action="store_true", help=about)
     command.add_argument("--again", action="store_true", help="with -o: check again all counties that were refused")
     about = "with --update: take out of the manifest the counties below a SOURCE that are gone"
     command.add_argument("--prune", action="store_true", help=about)
-    about = "reject a county if one of its files is missing, or if the one of type 1, 2 or I is empty"
+    about = "reject a county if a file is missing, or if the file of type 1, 2 or I is empty"
     command.add_argument("--strict", action="store_true", help=about)
     add_judging_options(command)
     command.add_argument("sources", metavar="SOURCE", nargs="+", help="where the counties are")
@@ -145,7 +145,7 @@ def add_judging_commands(commands: Any) -> None:
     about = "check counties against their fingerprints in a manifest: OK, FAILED or MISSING for each"
     command = add_command(commands, "verify", about, runs.verify)
     command.add_argument("--quiet", action="store_true", help="don't print counties that are OK")
-    about = "check only counties whose files have other sizes or times than the manifest has"
+    about = "check only counties whose files have another size or time than in the manifest"
     command.add_argument("--quick", action="store_true", help=about)
     command.add_argument("--root", metavar="FOLDER", help="look for the names in the manifest below this folder")
     add_judging_options(command)
@@ -165,7 +165,7 @@ def add_check(commands: Any) -> None:
 
 def add_other_commands(commands: Any) -> None:
     command = add_command(
-        commands, "duplicates", "list the counties of a manifest that are one map, in groups", listing.list_duplicates
+        commands, "duplicates", "list, in groups, the counties of a manifest that are the same map", listing.list_duplicates
     )
     command.add_argument("--different", action="store_true", help="list only groups in which counties have different names")
     add_shared(command, "--json", "manifest")
@@ -174,7 +174,7 @@ def add_other_commands(commands: Any) -> None:
     command = add_command(commands, "changes", about, listing.list_changes)
     command.description = f"{command.description} Counties are matched by their names without folder, case and ending."
     command.add_argument("--quiet", action="store_true", help="don't print counties that are the same")
-    about = "take the counties below this folder of the one manifest for an edition; give it for each edition, in their order"
+    about = "take the counties below this folder as an edition, if there is one manifest; give it for each edition, in order"
     command.add_argument("--edition", metavar="FOLDER", action="append", default=[], help=about)
     add_shared(command, "--json")
     about = "print how many chains, landmarks, polygons and names are only in the first map, only in the second, or changed"
@@ -192,7 +192,7 @@ def add_other_commands(commands: Any) -> None:
     )
     add_shared(command, "--program", "--force")
     command.add_argument(
-        "manifests", metavar="MANIFEST", nargs="+", help="a manifest for each edition in their order, or one with all editions"
+        "manifests", metavar="MANIFEST", nargs="+", help="a manifest for each edition, in order, or one manifest with all editions"
     )
 
     command = add_command(commands, "diff", "show where two maps differ, as text, a page or GeoJSON", differences.run)
@@ -207,7 +207,7 @@ def add_other_commands(commands: Any) -> None:
     add_shared(command, "--force")
     command.add_argument("county", metavar="COUNTY", help="a zip, a file with all records, or the stem or a file of the nine")
 
-    about = "explain a refusal: what it means, an example, and what to do; of a county it shows the place too"
+    about = "explain a refusal: its meaning, an example, and what to do; with a county, show the place too"
     command = add_command(commands, "explain", about, explanations.run)
     add_shared(command, "--program")
     about = "the line that the program printed, or the refusal's number or name; a COUNTY may follow it, or be given instead"

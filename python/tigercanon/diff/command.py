@@ -23,11 +23,11 @@ from .words import KINDS, SUBJECTS, told
 ABOUT = """\
 Show where two maps differ. FIRST and SECOND are each a file with all records
 of a county, a zip with its files, or the beginning of the names of its files.
-Chains are matched by their points, and shown in canonical direction. The maps
-are one if the program prints the same canonical text for both; the list of
-differences is an aid, and isn't proved.
+Chains are matched by their points, and shown in canonical direction. Whether
+the maps are the same is decided by the program, which is proved. The list of
+differences isn't proved.
 
-Exit status: 0 if the two are one map, 1 if they differ, 2 if they can't be
+Exit status: 0 if the maps are the same, 1 if they differ, 2 if they can't be
 compared or the answer can't be written.
 """
 
@@ -63,7 +63,7 @@ def add_arguments(parser: argparse.ArgumentParser) -> None:
     add("--stem", action="store_true", help="use FIRST and SECOND as the beginnings of names, even if such files exist")
     add("--summary", action="store_true", help="print only how many of each kind differ")
     add("--json", action="store_true", help="print the differences as JSON, or with --summary how many there are")
-    about = "write tigercanon.html with both counties in it, which any browser compares; - is standard output, without the report"
+    about = "write tigercanon.html with both counties in it, to be opened in a browser; - is standard output, without the report"
     add("--page", metavar="FILE", help=about)
     add("--geojson", metavar="FILE", help="write the differences as GeoJSON, for any GIS; - is standard output, without the report")
     add("--all", action="store_true", help="with --geojson: also write what is the same in both maps")
