@@ -134,9 +134,18 @@ class Hand(maps.Hand):
         yield from enumerate((items[at : at + most] for at in range(few, len(items), most)), 19)
 
 
-def spelled(county: maps.County) -> County:
+class SlotHand(Hand):
+    """Numbers that share few slots of the program's tables."""
+
+    def numbers(self, count: int, most: int) -> list[int]:
+        return random.Random("wide").sample(maps.sharing_slots(count, maps.slots_for(count), most), count)
+
+
+def spelled(county: maps.County, share_slots: bool = False) -> County:
     """A county whose parts have the order and the directions of the canonical text, and the same county as somebody else spells it."""
-    return County(lambda: canonical_lines(county), lambda: other_lines(county))
+    hand = SlotHand if share_slots else Hand
+    # By this seed the long chain is turned.
+    return County(lambda: canonical_lines(county), lambda: other_lines(county, hand(random.Random("wide"))))
 
 
 def canonical_lines(county: maps.County) -> Pieces:
@@ -145,10 +154,8 @@ def canonical_lines(county: maps.County) -> Pieces:
         yield f"{line}\n".encode("latin-1")
 
 
-def other_lines(county: maps.County) -> Pieces:
+def other_lines(county: maps.County, hand: Hand) -> Pieces:
     """Every second line is cut at its end."""
-    # By this seed the long chain is turned.
-    hand = Hand(random.Random("wide"))
     for number, line in enumerate(hand.orders(list(maps.lines(county, hand)))):
         yield f"{line.rstrip(' ') if number % 2 else line}\n".encode("latin-1")
 
@@ -184,67 +191,101 @@ def landmark_fields(name: str, number: int) -> maps.Values:
     return {"FILE": maps.FILE, "SOURCE": OF_CHAIN["SOURCE"], "CFCC": "D43", "LANAME": f"{name} {number:06}"}
 
 
-def twins(count: int = 2_000) -> County:
-    """Two groups of chains of one shape among others. At one place the names by type 1 decide which comes first, and at the other the
-    names by type 4."""
-    placed = [(place, name, twin) for place in range(count) for twin, name in enumerate(TWINS.get(place, ("Main",)))]
-    chains = [street_chain(place, place, place + 1, name, names=[twin] * (place == 1_500)) for place, name, twin in placed]
+def twins(count: int = 2_000, groups: Optional[dict[int, Sequence[str]]] = None) -> County:
+    """A street with groups of chains of one shape. In each group the names by type 1 decide which comes first or, if these are alike, the
+    further names."""
+    groups = TWINS if groups is None else groups
+    placed = [(place, name, twin) for place in range(count) for twin, name in enumerate(groups.get(place, ("Main",)))]
+    alike = [place for place, names in groups.items() if len(set(names)) == 1]
+    chains = [street_chain(place, place, place + 1, name, names=[twin] * (place in alike)) for place, name, twin in placed]
     names = [{"FILE": maps.FILE, "FENAME": f"Way {number:06}"} for number in range(4)]
     return spelled(maps.County(chains, names, [], [], outside=" " * 15))
 
 
-def tied(count: int) -> dict[str, County]:
-    """Counties with seven chains of one shape that differ only in their nodes, their further names, their addresses, their polygons, or the
-    landmarks of these."""
+def tied(count: int) -> Iterator[tuple[str, County]]:
+    """Counties with chains of one shape: none, pairs, and seven that differ only in their nodes, their further names, their addresses, their
+    polygons, or the landmarks of these."""
+    yield "none", twins(count, {})
+    yield "one pair", twins(count, {TIED_PLACE: ("Ash", "Birch")})
+    yield "twelve pairs", twins(count, dict.fromkeys(range(100, 1_300, 100), ("Ash", "Birch")))
+    yield "four pairs alike", twins(count, dict.fromkeys(range(100, 500, 100), ("Main", "Main")))
     # One has no start node, and is the first, since a blank comes before any number. Each order of all others has the same text.
-    nodes: list[dict[str, Any]] = [{"start": None}, *({} for _ in range(TIED - 1))]
+    yield "nodes", spelled(ties(count, [{"start": None}, *({} for _ in range(TIED - 1))]))
     # Names of one content are numbered by their first use, so the chains with the first four can change places. All others can't.
     further_names = [{"FILE": maps.FILE, "FENAME": name} for name in ("Ash", "Ash", "Ash", "Ash", "Birch", "Cedar", "Elm")]
-    named: list[dict[str, Any]] = [{"names": [number]} for number in range(TIED)]
+    yield "names", spelled(ties(count, [{"names": [number]} for number in range(TIED)], further_names))
     # These are in the order of the addresses, and of the points of the polygons on their left.
-    addresses = [{"ranges": [{"FRADDL": f"{number:>11}", "FRIADDL": "1"}]} for number in range(1, TIED + 1)]
-    polygons = [maps.Polygon({"FILE": maps.FILE, "WATER": "0"}, (WEST - place, int(LATITUDE))) for place in range(TIED)]
-    lefts: list[dict[str, Any]] = [{"left": polygon} for polygon in range(TIED)]
-    # Here the polygons are in the order of their landmarks, which is decided before that of their points.
-    parks = [maps.Landmark(landmark_fields("Park", number), polygons=[number]) for number in range(TIED)]
-    return {
-        "ties": ties(count, nodes),
-        "names": ties(count, named, further_names),
-        "addresses": ties(count, addresses),
-        "sides": ties(count, lefts, [], polygons),
-        "landmarks": ties(count, lefts, [], polygons[::-1], parks),
-    }
+    yield "addresses", spelled(ties(count, [with_ranges(number) for number in range(1, TIED + 1)]))
+    yield "sides", spelled(ties(count, [{"left": polygon} for polygon in range(TIED)], [], beside(TIED)))
+    yield "landmarks", landmarks_along(count, 0)
+
+
+def landmarks_along(count: int, further: int) -> County:
+    """Seven chains of one shape, each with a polygon and a landmark, and further landmarks on the polygons of the chains after them. The
+    polygons are in the order of their landmarks, which is decided before that of their points."""
+    polygons = beside(TIED)[::-1] + beside(further)
+    parks = [maps.Landmark(landmark_fields("Park", number), polygons=[number]) for number in range(TIED + further)]
+    county = ties(count, [{"left": polygon} for polygon in range(TIED)], [], polygons, parks)
+    for number in range(TIED, TIED + further):
+        county.chains[TIED_PLACE + number].left = number
+    return spelled(county)
+
+
+def beside(count: int) -> list[maps.Polygon]:
+    return [maps.Polygon({"FILE": maps.FILE, "WATER": "0"}, (WEST - place, int(LATITUDE))) for place in range(count)]
+
+
+def with_ranges(*numbers: int) -> dict[str, Any]:
+    return {"ranges": [{"FRADDL": f"{number:>11}", "FRIADDL": "1"} for number in numbers]}
 
 
 def hostile(count: int) -> dict[str, County]:
     """Counties made to be slow: seven chains of one shape, as above, with hundreds of names or ranges each, or with hundreds of landmarks
     beside them. Each of the 5,040 orders is compared by these."""
 
-    def further_names(contents: int) -> County:
-        """Names of their own, with this many contents. Only the names of the last chain tell the orders apart."""
-        named = [{"names": list(range(first, first + EACH))} for first in range(0, TIED * EACH, EACH)]
-        each_of = [name for name in range(TIED * EACH) for _ in range(contents)][: TIED * EACH]
-        return ties(count, named, [{"FILE": maps.FILE, "FENAME": f"Ash {name:04}"} for name in each_of])
-
     def parks(number: int, links: int) -> County:
         """Landmarks, each on this many of the polygons beside the seven chains."""
         sides: list[dict[str, Any]] = [{"left": 2 * place, "right": 2 * place + 1} for place in range(TIED)]
-        polygons = [maps.Polygon({"FILE": maps.FILE, "WATER": "0"}, (WEST - place, int(LATITUDE))) for place in range(2 * TIED)]
         linked = [sorted((first + link) % (2 * TIED) for link in range(links)) for first in range(number)]
-        return ties(count, sides, [], polygons, [maps.Landmark(landmark_fields("Park", at), polygons=on) for at, on in enumerate(linked)])
-
-    def ranges(*numbers: int) -> dict[str, Any]:
-        return {"ranges": [{"FRADDL": f"{number:>11}", "FRIADDL": "1"} for number in numbers]}
+        landmarks = [maps.Landmark(landmark_fields("Park", at), polygons=on) for at, on in enumerate(linked)]
+        return spelled(ties(count, sides, [], beside(2 * TIED), landmarks))
 
     return {
-        "999 further names": further_names(TIED * EACH),
-        "999 names in pairs": further_names(2),
-        "999 ranges": ties(count, [ranges(*range(1, EACH + 1)) for _ in range(TIED)]),
-        "999 ranges with other last ones": ties(count, [ranges(*range(1, EACH), EACH + place) for place in range(TIED)]),
+        "200 names that share a slot": spelled(further_names(count, 200, 200 * TIED), share_slots=True),
+        "999 further names": spelled(further_names(count, EACH, TIED * EACH)),
+        "999 names in pairs": spelled(further_names(count, EACH, 2)),
+        "999 ranges": spelled(ties(count, [with_ranges(*range(1, EACH + 1)) for _ in range(TIED)])),
+        "999 ranges with other last ones": spelled(ties(count, [with_ranges(*range(1, EACH), EACH + place) for place in range(TIED)])),
         "1,000 landmarks": parks(1_000, 1),
         "300 landmarks of 14 links": parks(300, 2 * TIED),
         "1,000 landmarks of 14 links": parks(1_000, 2 * TIED),
+        "400 landmarks on fixed chains": landmarks_along(count, 400),
     }
+
+
+def slowest() -> dict[str, County]:
+    """The counties of a few megabytes that take longest, too long for a test."""
+    found = {f"{each} names that share a slot": further_names(1_000, each, each * TIED) for each in (500, 2_000)}
+    found.update({f"{fixed} fixed chains with 4,900 names that share a slot": named_chains(fixed) for fixed in (2, 20)})
+    return {name: spelled(county, share_slots=True) for name, county in found.items()}
+
+
+def further_names(count: int, each: int, alike: int) -> maps.County:
+    """Seven chains of one shape with names of their own, of which some have one content. Only the names of the last chain tell the orders
+    apart."""
+    named = [{"names": list(range(first, first + each))} for first in range(0, TIED * each, each)]
+    return ties(count, named, [{"FILE": maps.FILE, "FENAME": f"Ash {number // alike:04}"} for number in range(TIED * each)])
+
+
+def named_chains(fixed: int) -> maps.County:
+    """Seven chains of one shape with a few names. Each of these first appears on another chain, which has many more names."""
+    more = list(range(1, FURTHER_NAMES))
+    own = [0, *range(FURTHER_NAMES, FURTHER_NAMES + fixed - 1)]
+    names = [{"FILE": maps.FILE, "FENAME": "Ash"} for _ in range(FURTHER_NAMES + fixed - 1)]
+    county = ties(1_000, [{"names": own} for _ in range(TIED)], names)
+    for chain, name in zip(county.chains, own):
+        chain.names = [name, *more]
+    return county
 
 
 def ties(
@@ -253,13 +294,13 @@ def ties(
     names: Sequence[maps.Values] = (),
     polygons: Sequence[maps.Polygon] = (),
     landmarks: Sequence[maps.Landmark] = (),
-) -> County:
+) -> maps.County:
     """A street with seven chains of one shape, all between nodes of their own unless it says otherwise: all 5,040 orders of them have the
     same records of type 1. The last chain has all names, or as many as its records hold."""
     nodes, topology = itertools.count(TIED_PLACE + 1), {"FILE": maps.FILE}
-    tied = [street_chain(TIED_PLACE, **{"start": next(nodes), "end": next(nodes), **more}, topology=topology) for more in seven]
+    same = [street_chain(TIED_PLACE, **{"start": next(nodes), "end": next(nodes), **more}, topology=topology) for more in seven]
     further = next(nodes) - TIED_PLACE - 1
-    chains = [street_chain(place, place, place + 1, topology=topology) for place in range(TIED_PLACE)] + tied
+    chains = [street_chain(place, place, place + 1, topology=topology) for place in range(TIED_PLACE)] + same
     chains += [street_chain(place, place + further, place + further + 1, topology=topology) for place in range(TIED_PLACE + 1, count)]
     chains[-1].names = list(range(min(len(names), FURTHER_NAMES)))
-    return spelled(maps.County(chains, list(names), list(polygons), list(landmarks), outside=" " * 15))
+    return maps.County(chains, list(names), list(polygons), list(landmarks), outside=" " * 15)

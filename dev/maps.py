@@ -17,6 +17,9 @@ Point = tuple[int, int]
 Values = dict[str, str]
 """Fields of a record by their names. A field that isn't there is blank."""
 
+# How many slots the program's tables have for each item, and for each of few items.
+SLOTS, SLOTS_OF_FEW, FEW = 2, 8, 1 << 13
+
 
 @dataclass
 class Chain:
@@ -165,3 +168,14 @@ def turned(chain: Chain) -> Chain:
     ends = {"start": chain.end, "end": chain.start, "left": chain.right, "right": chain.left, "outside": chain.outside[::-1]}
     ranges = [fields(RANGE, each) for each in chain.ranges]
     return replace(chain, fields=fields(CHAIN, chain.fields), points=chain.points[::-1], ranges=ranges, **ends)
+
+
+def slots_for(items: int) -> int:
+    """Returns how many slots the program's table for this many items has."""
+    return max(items * (SLOTS_OF_FEW if items < FEW else SLOTS), 1)
+
+
+def sharing_slots(count: int, slots: int, most: int) -> list[int]:
+    """Returns this many numbers up to the greatest one that share as few slots as possible: a number has the slot of its remainder."""
+    rounds = max(most // slots - 1, 1)
+    return [slots * (1 + place % rounds) + place // rounds for place in range(count)]
