@@ -1,4 +1,4 @@
-"""The crates of the repository as crates.txt has them, and what the libraries that are proved here were proved from."""
+"""The crates of the repository as crates.txt lists them, and the sources that the libraries here were proved from."""
 
 import contextlib
 import hashlib
@@ -34,7 +34,7 @@ def kit_of_rt() -> Optional[Path]:
 
 
 def free_memory() -> int:
-    """The bytes of memory that are free, of the machine's and of what this process's control group may have."""
+    """The bytes of memory that are free in the machine, and in the control group of this process."""
     free = 1024 * int(re.findall(r"MemAvailable: *(\d+)", Path("/proc/meminfo").read_text())[0])
     group = Path("/sys/fs/cgroup")
     with contextlib.suppress(OSError, ValueError):
@@ -96,12 +96,12 @@ def words_to_build(crates: Crates, kit: Path, crate: str, to: Path, toolchain: P
 
 
 def library_of(crate: str) -> Path:
-    """Returns the place of a library: in the folder in which rt looks for its own. Without rt's stamp rt doesn't take it."""
+    """Returns the place of a library, in the folder where rt looks for it. Without rt's stamp rt doesn't take it."""
     return folder_of(crate) / "out" / "rlib" / f"{crate}.rlib"
 
 
 class Notes:
-    """What each library that is proved here was proved from. The note lies beside the library, and goes when rt makes it again."""
+    """The sources that each library here was proved from. The note is beside the library, and goes when rt makes it again."""
 
     def __init__(self, crates: Crates, kit: Path, root: Path = ROOT) -> None:
         self.crates, self.kit, self.root = crates, kit, root

@@ -25,9 +25,9 @@ ITEM = re.compile(
 )
 # What rattle prints about a text that it can't read. An edit that only makes a statement false can be read.
 UNREADABLE = re.compile(r"is not in scope|has no field|is no name|operand is missing|expected the end|cannot continue")
-# What it prints of a proof file that names what an edit took away, and of what cites that proof.
+# Its line about a proof file with a name that an edit took away, and about the files that cite that proof.
 NAMES_LOST = re.compile(r"(note: )?(\./)?proofs/.*(has no field|is not in scope|has no `|was not admitted)")
-# What it prints at a limit of its own, which it meets wherever it checks the same.
+# Its line at a limit that it meets wherever it checks the same.
 LIMITS = re.compile(
     r"antt ran out of (stack|the (steps|memory) that the check of one declaration may (take|use))"
     r"|(outgrew the memory limit|stopped at the step limit) \("
@@ -37,7 +37,7 @@ PR_SET_PDEATHSIG = 1
 
 
 class Function(NamedTuple):
-    """A function of a crate: the path of its module, its name with that of its type, and the rows that it has in its file."""
+    """A function of a crate: the path of its module, its name with its type, and its rows in the file."""
 
     file: str
     module: str
@@ -81,7 +81,7 @@ def parts_of(text: str, separator: str) -> list[str]:
 
 
 def name_of(text: str, parameters: set[str], is_argument: bool) -> str:
-    """rattle's name for a type: its own and those of its arguments, without type parameters and lifetimes."""
+    """rattle's name for a type, with its arguments, without type parameters and lifetimes."""
     text = re.sub(r"^(&|'\w+\s*|mut |dyn )+", lambda found: "Ref" if "&" in found[0] else "", text.strip())
     prefix, text = ("Ref", text[3:]) if text.startswith("Ref") and text[3:4] in ("[", "(") else ("", text)
     if text[:1] in ("[", "("):
@@ -97,7 +97,7 @@ def name_of(text: str, parameters: set[str], is_argument: bool) -> str:
 
 
 def owner_of(header: str) -> str:
-    """rattle's name for an impl, from its header without the word impl: that of the type, and that of a trait."""
+    """rattle's name for an impl, from its header without the word impl: the names of the type and of a trait."""
     parameters: set[str] = set()
     header = re.split(r"\{| where\b", header)[0].strip()
     if header.startswith("<"):
@@ -159,7 +159,7 @@ def item_at(text: str, at: int) -> str:
 
 
 class Edit:
-    """An edit of a crate: what it replaces by what, and the functions that must be refused for it."""
+    """An edit of a crate: the texts that it replaces, the new ones, and the functions that must be refused for it."""
 
     def __init__(self, crate: str, path: Path) -> None:
         self.crate, self.path, self.name = crate, path, path.name.removesuffix(".edit")
@@ -218,7 +218,7 @@ def edits_of(crate: str, folder: Path) -> tuple[list[Edit], list[str]]:
 
 
 def users_of(names: set[str], folder: Path) -> set[Function]:
-    """The functions of a crate whose bodies have one of these names."""
+    """The functions of a crate whose bodies have any of the names."""
     found = set()
     for path in sorted((folder / "src").rglob("*.rt")):
         file, text = str(path.relative_to(folder)), path.read_text(encoding="utf-8")
@@ -254,7 +254,7 @@ class Ran(NamedTuple):
         return self.status in (0, 1) and bool(re.match(r"only=\d+ proved=\d+$", self.lines[-1]))
 
     def unread(self, files: Iterable[str]) -> str:
-        """The first line about a text of src/, specs/ or one of these files that could not be read."""
+        """The first line about a text of src/, specs/ or a named file that could not be read."""
         for line in self.lines:
             at = re.match(r"(?:\./)?(\S+?):\d+:\d+: error: (?:(`[^`]*`): )?(.*)", line)
             if at and (at[1] in files or at[1].startswith(("src/", "specs/"))):
@@ -264,18 +264,18 @@ class Ran(NamedTuple):
 
 
 def is_refused_itself(state: str) -> bool:
-    """Whether a function's own proof fails, and not only that of a function that it calls."""
+    """Whether a function's own proof fails, and not only the proof of a function that it calls."""
     return state.startswith(("not proved", "no proof")) and not state.startswith("no proof: it calls")
 
 
 def first_reason(lines: list[str]) -> str:
-    """Returns the first of these lines that isn't only about a name that the edit took away, which a proof file still has. Empty if there
+    """Returns the first line that isn't only about a name that the edit took away, which a proof file still has. Empty if there
     is none: then no contract has refused the edit."""
     return next((line for line in lines if not NAMES_LOST.match(line)), "")
 
 
 def refused_at(functions: Iterable[Function], ran: Ran) -> str:
-    """Where the own proof of one of these functions fails, and the first line about it. Empty if none does, or none for a reason of its
+    """Where the own proof of a function fails, and the first line about it. Empty if none does, or none for a reason of its
     own."""
     for name, state in ran.states().items():
         function = next((each for each in functions if each.is_named(name)), None)
@@ -308,7 +308,7 @@ class Prover:
         self.is_stopped = False
 
     def run(self, crate: str, texts: dict[str, str], only: Iterable[str], jobs: int = 1) -> Ran:
-        """Checks a copy of a crate with these texts in place of its own: all of it, or only some functions and those that they call."""
+        """Checks a copy of a crate with these texts in its files: all of it, or only some functions and those that they call."""
         folder = self.place.root / "crates" / crate
         with tempfile.TemporaryDirectory(prefix=f"tigercanon-edit-{os.getpid()}-") as room:
             for part in filter(lambda it: (folder / it).is_dir(), PARTS):

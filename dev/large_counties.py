@@ -1,6 +1,6 @@
-"""Made-up counties that are large in many ways. Each is made twice: as its canonical text, in which everything has the order that it is
-made in, and as other records of the same map, with other numbers, half of the chains turned, points and names packed otherwise, and
-the lines in another order.
+"""Made-up counties that are large in many ways. Each is made twice: as its canonical text, with everything in the order that it is made
+in, and as other records of the same map, with other numbers, half of the chains turned, points and names packed otherwise, and the
+lines in another order.
 
 In each the chains are a street from west to east, so that their points put them in order and no chain is turned. The longest street is
 written by pieces of many lines at a time, which is as fast as Python gets.
@@ -33,7 +33,7 @@ def masked(text: bytes, flags: Sequence[str]) -> bytes:
 
 
 def laid_out(rtype: str, fields: dict[int, bytes], is_cut: bool = False) -> bytes:
-    """A line with these contents at their columns, in which numbers are left open; its trailing blanks may be cut."""
+    """A line with these contents at their columns and with numbers left open; its trailing blanks may be cut."""
     line, column = rtype.encode() + b"2006", 6
     for first, content in sorted(fields.items()):
         line += b" " * (first - column) + content
@@ -203,8 +203,8 @@ def twins(count: int = 2_000, groups: Optional[dict[int, Sequence[str]]] = None)
 
 
 def tied(count: int) -> Iterator[tuple[str, County]]:
-    """Counties with chains of one shape: none, pairs, and seven that differ only in their nodes, their further names, their addresses, their
-    polygons, or the landmarks of these."""
+    """Counties with chains of one shape: none, pairs, and seven that differ only in their nodes, names, addresses or polygons, or in
+    the landmarks on these."""
     yield "none", twins(count, {})
     yield "one pair", twins(count, {TIED_PLACE: ("Ash", "Birch")})
     yield "twelve pairs", twins(count, dict.fromkeys(range(100, 1_300, 100), ("Ash", "Birch")))
@@ -222,7 +222,7 @@ def tied(count: int) -> Iterator[tuple[str, County]]:
 
 def landmarks_along(count: int, further: int) -> County:
     """Seven chains of one shape, each with a polygon and a landmark, and further landmarks on the polygons of the chains after them. The
-    polygons are in the order of their landmarks, which is decided before that of their points."""
+    polygons are in the order of their landmarks, which is decided before the order of their points."""
     polygons = beside(TIED)[::-1] + beside(further)
     parks = [maps.Landmark(landmark_fields("Park", number), polygons=[number]) for number in range(TIED + further)]
     county = ties(count, [{"left": polygon} for polygon in range(TIED)], [], polygons, parks)
@@ -271,14 +271,14 @@ def slowest() -> dict[str, County]:
 
 
 def further_names(count: int, each: int, alike: int) -> maps.County:
-    """Seven chains of one shape with names of their own, of which some have one content. Only the names of the last chain tell the orders
+    """Seven chains of one shape, each with other names, some with the same content. Only the names of the last chain tell the orders
     apart."""
     named = [{"names": list(range(first, first + each))} for first in range(0, TIED * each, each)]
     return ties(count, named, [{"FILE": maps.FILE, "FENAME": f"Ash {number // alike:04}"} for number in range(TIED * each)])
 
 
 def named_chains(fixed: int) -> maps.County:
-    """Seven chains of one shape with a few names. Each of these first appears on another chain, which has many more names."""
+    """Seven chains of one shape with a few names. Each name first appears on another chain, which has many more names."""
     more = list(range(1, FURTHER_NAMES))
     own = [0, *range(FURTHER_NAMES, FURTHER_NAMES + fixed - 1)]
     names = [{"FILE": maps.FILE, "FENAME": "Ash"} for _ in range(FURTHER_NAMES + fixed - 1)]
@@ -295,8 +295,8 @@ def ties(
     polygons: Sequence[maps.Polygon] = (),
     landmarks: Sequence[maps.Landmark] = (),
 ) -> maps.County:
-    """A street with seven chains of one shape, all between nodes of their own unless it says otherwise: all 5,040 orders of them have the
-    same records of type 1. The last chain has all names, or as many as its records hold."""
+    """A street with seven chains of one shape, each between other nodes unless it says otherwise: all 5,040 orders of them have the same
+    records of type 1. The last chain has all names, or as many as its records hold."""
     nodes, topology = itertools.count(TIED_PLACE + 1), {"FILE": maps.FILE}
     same = [street_chain(TIED_PLACE, **{"start": next(nodes), "end": next(nodes), **more}, topology=topology) for more in seven]
     further = next(nodes) - TIED_PLACE - 1

@@ -1,5 +1,5 @@
 """Maps as values whose parts can be changed, and hands, which are ways to write one: under other numbers, with chains turned, and with
-records in another order and packing. All that is one map."""
+records in another order and packing. The map stays the same."""
 
 from __future__ import annotations
 
@@ -24,7 +24,7 @@ SLOTS, SLOTS_OF_FEW, FEW = 2, 8, 1 << 13
 @dataclass
 class Chain:
     """A chain: the fields of types 1 and I, all its points, its further names and ranges, and the nodes and polygons at it. A side without
-    a polygon has its CENID, if there is one here, or else that of the county."""
+    a polygon has its CENID, if there is one here, or else the county's."""
 
     fields: Values
     points: list[Point]
@@ -48,7 +48,7 @@ class Polygon:
 
 @dataclass
 class Landmark:
-    """The fields of a record of type 7, and those of more records under the same number. They are at its point, if none is among them.
+    """The fields of a record of type 7, and of more records under the same number. They are at its point, if none is among them.
     Its links to polygons have the county's FILE, if there is none here."""
 
     fields: Values

@@ -1,4 +1,4 @@
-"""Small counties made at random, in which much is there twice and points leave much open; their spellings; and lines in which a field
+"""Small counties made at random, with much twice and points that leave much open; their spellings; and lines whose field
 differs or something is wrong. A random.Random with the same seed makes the same."""
 
 from __future__ import annotations
@@ -117,7 +117,7 @@ class Maker:
         return {**self.values(LANDMARK), PLACE: maps.spelt(self.some([None, None, *self.places]))}
 
     def landmark(self, county: County, polygons: Sequence[int]) -> Landmark:
-        """A landmark on some of these polygons. It may have the contents of another one, with its links, one other link, or others."""
+        """A landmark on some of the polygons. It may have the contents of another one, with its links, one other link, or others."""
         if county.landmarks and self.is_so(0.6):
             landmark = copy.deepcopy(self.some(county.landmarks))
         else:
@@ -230,7 +230,7 @@ def shifted(content: str, width: int, chance: Chance) -> str:
 
 
 def number(had: str, is_required: bool, chance: Chance) -> str:
-    """Another spelling of a number. None is blank or zeros, and what is malformed stays as it is."""
+    """Another spelling of a number. None is blank or zeros, and a malformed one stays as it is."""
     digits = had.strip(" ")
     if not digits and not is_required:
         return chance.choice([had, shifted("0" * chance.randint(1, len(had)), len(had), chance)])
@@ -308,7 +308,7 @@ def other_value(field: Field, had: str, lines: Sequence[str], chance: Chance) ->
 
 
 def pick(lines: Sequence[str], types: str, chance: Chance) -> Optional[int]:
-    """The place of a line of one of these types, each type as likely as the others that are there."""
+    """The place of a line of any of the types, each type as likely as the others that are there."""
     there = sorted({line[0] for line in lines} & {*types})
     kind = chance.choice(there) if there else ""
     return chance.choice([place for place, line in enumerate(lines) if line[0] == kind]) if there else None
@@ -408,7 +408,7 @@ def crowd(lines: list[str], chance: Chance) -> None:
 
 
 def edit(lines: list[str], kinds: str, value: Callable[[Field], str], chance: Chance) -> None:
-    """Puts a value into a field of one of these kinds."""
+    """Puts a value into a field of any of the kinds."""
     place = pick(lines, "".join(kind for kind in TYPES if any(field.kind in kinds for field in FIELDS[kind])), chance)
     if place is not None:
         field = chance.choice([field for field in FIELDS[lines[place][0]] if field.kind in kinds])

@@ -28,7 +28,7 @@ EXAMPLES = {
 
 
 def refusals() -> dict[int, dict[str, Any]]:
-    """The refusals by their numbers: the name, the meanings of the places, and what the page on refusals says."""
+    """The refusals by their numbers: the name, the meanings of the places, and the text of the page on refusals."""
     found = {}
     text = explanations.page()
     sections = explanations.sections(text)
@@ -53,7 +53,7 @@ def names(text: str, count: int) -> list[str]:
 
 
 def each_field(record: str) -> Iterator[list[Any]]:
-    """The fields of a record type: name, first and last column, kind, and what it holds."""
+    """The fields of a record type: name, first and last column, kind, and contents."""
     yield from (["record type", 1, 1, "", "the type"], ["VERSION", 2, 5, "F", "the version of the files"])
     for places, name, kind, holds in ROW.findall(record):
         between = spans(places)

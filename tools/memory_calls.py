@@ -115,7 +115,7 @@ def with_values(source: Any, call: Call, values: dict[str, str]) -> str:
 
 def unknown_numbers(found: list[Any], named: set[tuple[str, bool]]) -> Iterator[tuple[str, str, str]]:
     """The file, the name and the body of each of these functions that returns a number of which no clause says anything. The clauses of
-    a trait are those of its types."""
+    a trait count for its types."""
     for source, function, _ in found:
         if function.is_unknown and not function.is_method and (function.name, function.is_method) in named:
             body = " ".join(source.code[function.first : function.last].split())

@@ -51,7 +51,7 @@ def open_page(page: Page, path: Path) -> bool:
 
 
 def try_random_pairs(page: Page) -> None:
-    """The list of a page is what diff prints."""
+    """The list of a page is the output of diff."""
     path = page.room / "pair.html"
     for pair in islice(pairs.pairs(page.program, page.room, int(time.time())), PAIRS):
         flags = [flag for flag in pair.flags if flag != "--all"]

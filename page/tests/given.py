@@ -83,7 +83,7 @@ def try_zips(page: Page) -> None:
 
 
 def broken_zips(page: Page) -> dict[Path, str]:
-    """Zips that can't be read, and what the page says about each."""
+    """Zips that can't be read, and the page's message about each."""
     whole = zipped(page.room / "whole.zip", autauga()).read_bytes()
     at = whole.index(b"PK\1\2")
     entry = whole.index(b"TGR01001.RT1", at) - 46
@@ -198,7 +198,7 @@ def try_many(page: Page) -> None:
 
 
 def compared(page: Page, manifest: Path, folder: Path, name: str) -> None:
-    """Each badge is what the tools say about the county."""
+    """Each badge is the tools' verdict about the county."""
     name_of_manifest = f"document.querySelector('.verified')?.innerText.startsWith('Compared with {manifest.name}')"
     page.holds(f"{name} is compared", page.browser.wait_for(name_of_manifest), page.browser.text("main"))
     verified = run([TOOLS, "verify", "--program", page.program, manifest, folder.name], cwd=page.room).out.decode()
@@ -240,7 +240,7 @@ def try_very_many(page: Page) -> None:
 
 
 def try_one_after_another(page: Page) -> None:
-    """What is given later is shown later, however long the first one takes to be found."""
+    """A later county is shown later, however long the first one takes to be found."""
     first, second = EXAMPLES / "two-maps/first.txt", EXAMPLES / "two-maps/second.txt"
     prints = {path: page.printed("fingerprint", path) for path in (first, second)}
     page.browser.start_again()

@@ -1,4 +1,4 @@
-"""What the page shows in a browser: one county, two and many, what is refused, and what is broken."""
+"""What the page shows in a browser: one county, two and many, refused and broken ones."""
 
 from __future__ import annotations
 
@@ -205,7 +205,7 @@ Array.from(document.querySelectorAll("button, input:not([type=file]), [tabindex=
 
 
 def try_names(page: Page) -> None:
-    """Everything that can be used has a name for screen readers, and what happens is announced."""
+    """Every control has a name for screen readers, and events are announced."""
     files = [EXAMPLES / "two-maps/first.txt", EXAMPLES / "two-maps/second.txt"]
     for shown, until in (
         (files[:1], RESULT),

@@ -96,7 +96,7 @@ class Pair(NamedTuple):
 
 
 def edited(maker: Maker, county: maps.County) -> maps.County:
-    """A county after up to five changes. Nothing lies in a polygon that no chain has on a side any more."""
+    """A county after up to five changes. Nothing is in a polygon that no chain has on a side any more."""
     other = copy.deepcopy(county)
     for _ in range(maker.some([0, 1, 1, 2, 3, 5])):
         maker.some(EDITS)(maker, other)

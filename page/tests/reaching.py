@@ -1,4 +1,4 @@
-"""How the page is printed, how it fits a phone, and how it serves those who can't see all of it: contrasts, names and announcements."""
+"""How the page is printed, how it fits a phone, and how it serves people who don't see all of it: contrasts, names and announcements."""
 
 from __future__ import annotations
 
@@ -38,7 +38,7 @@ def media(page: Page, medium: str = "", scheme: str = "light") -> None:
 
 
 def on_paper(page: Page, name: str) -> None:
-    """What holds of everything that is printed, from a dark screen."""
+    """The page as it is printed from a dark screen: no buttons, and dark ink on white paper."""
     page.browser.driver.execute_script(PRINTED)
     media(page, "print", "dark")
     resize(page, (718, 1000))
@@ -166,7 +166,7 @@ def try_likely_cause(page: Page) -> None:
 
 
 def try_contrast(page: Page) -> None:
-    """Borders of what can be used, and what is drawn on maps, stand out from what is behind them."""
+    """Borders of controls, and the drawings on maps, stand out from their background."""
     names = [
         "edge",
         "first",

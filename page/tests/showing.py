@@ -1,4 +1,4 @@
-"""How the page shows one county, two and what is refused: on a laptop's screen, on a phone, on paper, by keyboard, and to screen readers."""
+"""How the page shows one county, two counties and a refusal: on a laptop's screen, on a phone, on paper, by keyboard, and to screen readers."""
 
 from __future__ import annotations
 
@@ -51,7 +51,7 @@ def try_height(page: Page) -> None:
 
 
 def try_one_screen(page: Page) -> None:
-    """On a laptop everything is on one screen, and the names, the fingerprints and what was compared take three lines."""
+    """On a laptop everything is on one screen, and the names, the fingerprints and the kind of comparison take three lines."""
     show_town(page)
     parts = ".map, .kinds, .filter input, .differences, .side .actions button, .sets, .verdict, footer"
     inside = "(each) => { const { left, top, right, bottom } = each.getBoundingClientRect(); return left >= 0 && top >= 0 && right <= 1280 && bottom <= 800; }"
@@ -72,7 +72,7 @@ def try_one_screen(page: Page) -> None:
 
 
 def try_masks(page: Page) -> None:
-    """The verdict and the third line name what is left out."""
+    """The verdict and the third line name the fields that are left out."""
     show_town(page)
     page.browser.click("#no-sources")
     page.browser.wait_for("document.querySelector('.verdict h2')?.textContent.includes('leaving')")
@@ -96,7 +96,7 @@ def try_numbers(page: Page) -> None:
 
 
 def try_values(page: Page) -> None:
-    """The list shows the old and the new value of what changed."""
+    """The list shows the old and the new value of each change."""
     show_town(page)
     texts = page.browser.texts(".differences li")
     maple = next(text for text in texts if text.startswith("≠\nMaple Ave"))
@@ -106,7 +106,7 @@ def try_values(page: Page) -> None:
 
 
 def search(page: Page, text: str) -> list[str]:
-    """The names of what the list has with these words."""
+    """The names in the list with these words."""
     page.browser.driver.execute_script(
         "const [text] = arguments, box = document.getElementById('filter'); document.querySelector('.listed').textContent = ''; box.value = text; box.dispatchEvent(new Event('input'))",
         text,
@@ -184,7 +184,7 @@ def try_kinds(page: Page) -> None:
 
 
 def try_card(page: Page) -> None:
-    """A card opens on the map, at the place of what was chosen, with both values. It closes by the Escape key."""
+    """A card opens on the map, at the place of the chosen difference, with both values. It closes by the Escape key."""
     show_town(page)
     page.browser.wait_for(NUMBERED)
     page.browser.click(".differences li:nth-child(14) > button")
@@ -224,7 +224,7 @@ def click_map(page: Page, x: float, y: float) -> None:
 
 
 def try_click(page: Page) -> None:
-    """A click on the map opens a card there: of what differs, and of a chain that is alike."""
+    """A click on the map opens a card there: of a difference, and of a chain that is alike."""
     show_town(page)
     page.browser.click(".differences li:nth-child(14) > button")
     page.browser.wait_for(CARD)

@@ -1,4 +1,4 @@
-"""What the tests share: a folder of their own, the real program, and a fake one with four counties."""
+"""What the tests share: a folder for each, the real program, and a fake one with four counties."""
 
 import shutil
 import signal
@@ -10,7 +10,7 @@ from support import FAKES, Four, built_program, complete
 
 sys.dont_write_bytecode = True
 
-# In the background or under nohup some signals are ignored, and what the tests start would ignore them too.
+# In the background or under nohup some signals are ignored, and programs that the tests start would ignore them too.
 for number in (signal.SIGHUP, signal.SIGINT, signal.SIGQUIT):
     if signal.getsignal(number) is signal.SIG_IGN:
         signal.signal(number, signal.SIG_DFL)
@@ -18,7 +18,7 @@ for number in (signal.SIGHUP, signal.SIGINT, signal.SIGQUIT):
 
 @pytest.fixture
 def room(tmp_path: Path, monkeypatch: pytest.MonkeyPatch) -> Path:
-    """A folder for the test, in which it runs. Temporary files go to its folders tmp and shm."""
+    """A folder where the test runs. Temporary files go to its folders tmp and shm."""
     monkeypatch.chdir(tmp_path)
     monkeypatch.delenv("TIGERCANON", raising=False)
     monkeypatch.setenv("TIGERCANON_PAGE", str(FAKES / "page.html"))

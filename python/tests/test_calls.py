@@ -147,7 +147,7 @@ def test_names_and_types_of_the_package() -> None:
 
 
 def test_results_and_paths(four: Four, fake: Path) -> None:
-    """The counties are found when a call is made, with what is skipped, and judged while the results are read. A program can be a path."""
+    """A call finds the counties and the skipped files at once, and checks them while the results are read. A program can be a path."""
     put("in/read.me", b"x")
     results = tigercanon.manifest(Path("in"), output=Path("m"), program=fake)
     assert (results.skipped, os.path.exists("m"), Path("calls").read_text()) == (("in/read.me",), False, "")

@@ -1,4 +1,4 @@
-"""The command line: help, its pages, versions, and how the program is found; the command explain, and the hints beside refusals; and what
+"""The command line: help, its pages, versions, and how the program is found; the command explain, and the hints beside refusals; and how
 the runner of the cases in vectors/ does without a program."""
 
 from __future__ import annotations
@@ -86,7 +86,7 @@ def test_the_program_has_the_same_version() -> None:
 
 
 class TestProgram:
-    """The program is the one that is named, else the one that is built here, else the one on the PATH."""
+    """The program is the named one, else the one built here, else tigercanon on the PATH."""
 
     @pytest.mark.parametrize("place", ["bin", "packages/tigercanon/bin", None])
     def test_an_installed_package(self, room: Path, fake: Path, place: str | None) -> None:

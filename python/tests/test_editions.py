@@ -39,7 +39,7 @@ def folder(room: Path) -> Path:
 
 
 def test_three_editions() -> None:
-    """Each way in which a county can go through three editions."""
+    """Each way for a county to go through three editions."""
     one: dict[str, object] = {"SAME": 1, "BACK": 2, "GONE": 3, "AGAIN": 4, "REFUSED": REFUSED, "MENDED": FAILED, "WORSE": 5}
     two: dict[str, object] = {"SAME": 1, "BACK": 22, "REFUSED": REFUSED, "MENDED": 7, "WORSE": REFUSED, "NEW": 8}
     three: dict[str, object] = {"SAME": 1, "BACK": 2, "AGAIN": 44, "REFUSED": REFUSED, "MENDED": 7, "WORSE": FAILED, "NEW": 88}
@@ -100,7 +100,7 @@ def test_a_name_twice() -> None:
 
 @pytest.mark.parametrize("place", range(3))
 def test_flags_of_each_manifest(place: int) -> None:
-    """They are the same in all manifests, also in the third; the mark of an unproved program doesn't matter."""
+    """They are the same in all manifests, even in the third; the mark of an unproved program doesn't matter."""
     for number in range(3):
         edition(str(number), ("in/A", 1), flags="--no-sources" if number == place else "")
     words = ["no flags", "--no-sources"] if place else ["--no-sources", "no flags"]
@@ -137,7 +137,7 @@ def changes_of(*states: dict[str, object]) -> list[Change]:
 
 
 def test_names_of_pages() -> None:
-    """Of two editions a page has the county's name, of several that of the change too. A county without a map in both has none."""
+    """Of two editions a page has the county's name, of several the change's too. A county without a map in both has none."""
     assert [change.page for change in changes_of({"A": 1, "B": 1, "C": REFUSED}, {"A": 2, "B": 1, "C": 3})] == ["A.html"]
     three = changes_of({"A": 1, "B": 5}, {"A": 2, "B": REFUSED}, {"A": 1, "B": 6})
     assert [(change.page, change.editions, change.old, change.new) for change in three] == [

@@ -1,4 +1,4 @@
-"""What is sent to the workers of a cluster, and what a command makes of their answers. A fake client of Dask does at once
+"""The work that is sent to the workers of a cluster, and the results from their answers. A fake client of Dask does at once
 what it is given."""
 
 from concurrent.futures import CancelledError, Future
@@ -40,7 +40,7 @@ class Client:
 
 @pytest.fixture
 def run(monkeypatch: pytest.MonkeyPatch, capsysbinary: Any) -> Any:
-    """Runs a command by a scheduler, which is gone after some counties: the status, and what comes on both streams."""
+    """Runs a command by a scheduler, which is gone after some counties: the status, and the output on both streams."""
 
     def run(command: str, count: int = 100) -> tuple[int, str, list[str]]:
         monkeypatch.setattr(engines, "client_of", lambda *_: Client(count))
@@ -126,7 +126,7 @@ def test_workers_that_end(monkeypatch: pytest.MonkeyPatch) -> None:
 
 @pytest.mark.parametrize("count", range(5))
 def test_a_scheduler_that_is_gone(four: Four, run: Any, count: int) -> None:
-    """What was answered is printed, and the status isn't that of a run that has done all, even if all that was answered is right."""
+    """What was answered is printed, and the status isn't 0, since not all was done, even if all that was answered is right."""
     put("m", manifest(four).encode())
     left = f"the scheduler at there:1 is gone: {4 - count} counties are left; run the same command again to do them"
     status, out, reports = run("verify --scheduler there:1 m", count)

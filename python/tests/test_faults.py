@@ -1,4 +1,4 @@
-"""The places of refusals in a county's files: the line as the file has it, its part, and what is wrong there."""
+"""The places of refusals in a county's files: the line as the file has it, its part, and the fault there."""
 
 from __future__ import annotations
 
@@ -19,7 +19,7 @@ SHOWN = [file_name("the county", kind) for kind in TYPES]
 
 @pytest.fixture(autouse=True)
 def county(room: Path) -> Path:
-    """Nine files, in which lines end with CR and LF."""
+    """Nine files, whose lines end with CR and LF."""
     for kind, file in zip(TYPES, FILES):
         put(file, b"".join(line + b"\r\n" for line in COUNTY.splitlines() if line[:1] == kind.encode()))
     return room
@@ -48,7 +48,7 @@ def test_a_line_as_it_is(line: bytes) -> None:
 
 
 def test_the_office_of_a_polygon() -> None:
-    """Polygons of two offices have one number. Only that of the office is shown, and at most two lines of it."""
+    """Polygons of two offices have one number. Only the polygon of the office is shown, and at most two lines of it."""
     put(
         "in/a.RTP",
         b"P200601001060010000000012\r\nP200601001060030000000012\r\nP20060100106003        12\r\nP200601001060030000000012\r\n",

@@ -70,7 +70,7 @@ def test_the_current_folder(monkeypatch: pytest.MonkeyPatch) -> None:
 
 def test_links() -> None:
     """Those to folders are followed, a ring of them once; and a county that is there under two names is counted once. Hard links
-    are counties of their own."""
+    are separate counties."""
     os.symlink("..", "in/deep/up")
     assert stems("in") == ALL
     os.unlink("in/deep/up")
@@ -87,7 +87,7 @@ def test_links() -> None:
 
 
 def test_files(archive: Path) -> None:
-    """What is known about a county: one of single files, also if a zip of it is there too, a zip, and one file with all records."""
+    """What is known about a county: one of single files, even if a zip of it is there too, a zip, and one file with all records."""
 
     def at(name: str, size: int = 5) -> File:
         return File(f"{archive}/in/{name}", size)
@@ -125,7 +125,7 @@ def test_skipped_files() -> None:
 
 
 def test_what_a_mac_leaves() -> None:
-    """Its files, hidden folders and what globs exclude are left out. A hidden file may be a county."""
+    """Its files, hidden folders and files that globs exclude are left out. A hidden file may be a county."""
     for name in ("in/._a.ZIP", "in/.DS_Store", "in/__MACOSX/a.ZIP", "in/.git/x.ZIP", "in/deep/.x/y/z.ZIP"):
         put(name)
     finder = Finder(excluded=["*.RT7", "in/deep/er", "read.*"])

@@ -222,7 +222,7 @@ def test_a_file_that_becomes_an_input(archive: Path) -> None:
 
 
 def test_files_that_are_not_read(archive: Path) -> None:
-    """They are written as before, also through links, and the inputs stay as they are."""
+    """They are written as before, even through links, and the inputs stay as they are."""
     inputs = {name: Path(name).read_bytes() for name in ("other", "zips/TGR01001.ZIP")}
     for name in ("a", "b"):
         put(name, b"older")

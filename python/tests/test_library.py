@@ -30,7 +30,7 @@ pytestmark = pytest.mark.library
 
 @pytest.fixture(scope="module", autouse=True, name="library")
 def loaded() -> Iterator[Path]:
-    """The library that the variable names, or the one that was built last."""
+    """The library that the variable names, or the last one built."""
     made = Path(os.environ.get(_library.VARIABLE, ROOT / "out/library/lib" / _library.NAME)).resolve()
     if not made.exists():
         pytest.skip(f"no {made}: scripts/build-library builds it")

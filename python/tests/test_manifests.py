@@ -1,4 +1,4 @@
-"""Manifests: which of several lines counts, what --update notices, locks, and outputs of which one isn't whole."""
+"""Manifests: which of several lines counts, what --update notices, locks, and outputs, one of them not whole."""
 
 from __future__ import annotations
 
@@ -31,7 +31,7 @@ def lines_of(text: str) -> list[Line]:
 
 
 def test_several_lines_for_a_county(room: Path) -> None:
-    """The last one counts, whether it is a fingerprint, a refusal or a failure; the sources stand before their fingerprint."""
+    """The last one counts, whether it is a fingerprint, a refusal or a failure; the sources come before their fingerprint."""
     one, two = f"{1:064}  a\n", f"{2:064}  a\n"
     refused, failed = COMMENT.format("refused 14 LinkMissing 7  a"), COMMENT.format("failed: the zip is cut off  a")
     assert lines_of(one + two) == [Line(f"{2:064}", "a")]
@@ -106,7 +106,7 @@ def test_a_large_zip_is_not_unpacked(room: Path, fake: Path, monkeypatch: pytest
 
 
 def test_a_failure_loses_no_fingerprint(four: Four) -> None:
-    """Without update a listed county keeps its line, also if it can't be read now; and what failed is tried again each time."""
+    """Without update a listed county keeps its line, even if it can't be read now; and failed ones are tried again each time."""
     assert len([*tigercanon.manifest("in", output="m")]) == 4
     os.rename("in/b.RT1", "in/kept")
     os.symlink("nowhere", "in/b.RT1")

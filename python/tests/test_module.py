@@ -1,4 +1,4 @@
-"""The module for Python over a fake library: what it passes to the library, and what it makes of the answers."""
+"""The module for Python over a fake library: its calls of the library, and its results from the answers."""
 
 import array
 import gzip
@@ -116,7 +116,7 @@ def test_many_parts() -> None:
 
 
 def test_large_parts(tmp_path: Path) -> None:
-    """Each byte of a file counts, and lengths have 64 bits. What isn't written of these files takes no space."""
+    """Each byte of a file counts, and lengths have 64 bits. Parts of a file that aren't written take no space."""
     for size in (70 << 20, (4 << 30) + 5):
         path = tmp_path / f"{size}"
         with path.open("wb") as made:
@@ -198,7 +198,7 @@ def test_zips(tmp_path: Path) -> None:
     "name", ["TGR01001.zip", "TGR01001.ZiP", "TGR01001", "TGR01001.RT1", "TGR01001.dat", "TGR01001.ZIP.part", "a b"]
 )
 def test_zips_by_other_names(tmp_path: Path, name: str) -> None:
-    """A zip is one by what is in it."""
+    """A zip is one by its contents."""
     files = {f"TGR01001.RT{kind}": kind.encode() for kind in TYPES}
     assert echoed(put(tmp_path / name, packed(files))) == "|".join(TYPES).encode()
 
@@ -293,7 +293,7 @@ def test_other_threads_run() -> None:
 
 @pytest.fixture
 def package(tmp_path: Path) -> Path:
-    """The package elsewhere, in which there is no library."""
+    """The package elsewhere, without a library."""
     shutil.copytree(ROOT / "python/tigercanon", tmp_path / "python/tigercanon")
     return tmp_path / "python"
 

@@ -40,11 +40,11 @@ NAMES = {
     "TGR{}.MET": None,
     "y{}.RTA": None,
 }
-"""Names of files, and whether they are those of counties: None for names of other files."""
+"""Names of files, and whether they are a county's: None for names of other files."""
 
 
 class Folder:
-    """Random files below a folder, with what is expected of each: accepted, refused or failed, or skipped."""
+    """Random files below a folder, with the answer expected for each: accepted, refused or failed, or skipped."""
 
     def __init__(self, seed: int) -> None:
         self.chance = random.Random(seed)

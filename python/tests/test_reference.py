@@ -1,4 +1,4 @@
-"""tools/compare-with-reference finds nothing wrong with the program, and finds what is wrong with others. Its counties have what it is for."""
+"""tools/compare-with-reference finds nothing wrong with the program, and finds the faults of others. Its counties have the cases to be tried."""
 
 from __future__ import annotations
 
@@ -25,7 +25,7 @@ WRONG = {
     "exit status of refusals": '"$REAL" "$@" || exit 1',
     "places of refusals": '"$REAL" "$@" 2>told; status=$?; sed "s/ [0-9]*$/ 1/" told >&2; exit $status',
 }
-"""Wrong programs, as what a shell does with the real one."""
+"""Wrong programs, each a shell script around the real one."""
 
 
 def compare(program: str | Path, *words: object) -> Answer:

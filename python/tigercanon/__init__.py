@@ -96,7 +96,7 @@ def check(parts: Set) -> None:
     A set is accepted if each line is a record, the records fit together as a county, each polygon with a record of
     type P lies on a side of a chain, and the points of the chains leave few enough choices open.
 
-    Raises Refusal with the first fault; OutOfMemory; and what the module's documentation lists for other parts.
+    Raises Refusal with the first fault; OutOfMemory; and the errors that the module's documentation lists for other parts.
     """
     _library.call("check", [parts])
 

@@ -35,7 +35,7 @@ DIFFERENT = 1  # the status of compare for two maps. Higher ones are refusals.
 
 
 class Refusal(Exception):
-    """The set is rejected. docs/refusals.md describes each refusal and what to do about it.
+    """The set is rejected. docs/refusals.md describes each refusal and its remedy.
 
     number  1 to 7 for a faulty line, 9 if memory ran out (OutOfMemory), 11 to 24 if the records don't fit together
     name    the refusal's name, for example "BadNumber"
@@ -117,7 +117,7 @@ ADDRESS_OF_EMPTY = ctypes.addressof(EMPTY)  # the address of a part without byte
 
 
 def place_of_library() -> tuple[str, str]:
-    """The file that the variable names, else the one beside this package, else that of the release or the clone around it, else a name
+    """The file that the variable names, else the one beside this package, else the library of the release or clone around it, else a name
     that the system searches for. If a clone has no library that was made from its sources, there is no file, and the reason."""
     package = Path(__file__).resolve().parent
     root = package.parent.parent
@@ -201,7 +201,7 @@ def lent(parts: Set) -> Iterator[tuple[Any, int]]:
 
 
 def parts_of(parts: Set) -> Iterable[Any]:
-    """The parts of a set. A path leads to a file or a zip, or is the stem of a county's nine files. An absent one of these is empty."""
+    """The parts of a set. A path leads to a file or a zip, or is the stem of a county's nine files. An absent file is empty."""
     if not isinstance(parts, (str, os.PathLike)):
         if lends_bytes(parts) or hasattr(parts, "read"):
             return [parts]

@@ -165,7 +165,7 @@ class Finder:
             return False
 
     def of_name(self, path: str, is_exact: bool = False) -> County:
-        """The county of this name, or the one that a file of this name belongs to. A county that isn't there may have been packed into
+        """The county of this name, or the county that a file of this name belongs to. A county that isn't there may have been packed into
         a zip, or written as one file with all records. An exact name of a zip isn't one of the single files beside it."""
         folder, name = parted(path)
         try:
@@ -226,13 +226,13 @@ def names_among(listed: Iterable[Entry]) -> dict[str, Names]:
 
 
 def is_left_out(entry: Entry) -> bool:
-    """Whether an entry of a folder is what a Mac leaves there, or a hidden folder."""
+    """Whether an entry of a folder is a leftover of a Mac, or a hidden folder."""
     hidden = (".", "__MACOSX") if entry.is_folder else ("._", ".DS_Store")
     return entry.name.startswith(hidden)
 
 
 def ending_of(name: str) -> str:
-    """The ending under which a skipped file is counted."""
+    """The ending that a skipped file is counted by."""
     return ".tar.gz" if name.lower().endswith(".tar.gz") else os.path.splitext(name)[1] or "without an ending"
 
 
@@ -305,7 +305,7 @@ def county_of(folder: str, names: Names) -> County:
 
 
 def doubles_among(counties: Sequence[County]) -> dict[str, str]:
-    """The names of files with all records, each with that of the zip or the single files of the same name in the same folder."""
+    """The names of files with all records, each with the zip or the single files of the same name in the same folder."""
     places = {(parted(county.stem)[0], key_of(county.stem)): county.stem for county in counties if county.zip or county.files}
     pairs = [(county.stem, places.get((parted(county.stem)[0], key_of(county.stem)))) for county in counties if county.whole]
     return {stem: first for stem, first in pairs if first}

@@ -84,7 +84,7 @@ class History(NamedTuple):
 
 
 class Group(NamedTuple):
-    """Counties that are one map: its fingerprint, and their names in the manifest."""
+    """Counties that are the same map: its fingerprint, and their names in the manifest."""
 
     fingerprint: str
     counties: tuple[str, ...]
@@ -116,7 +116,7 @@ def editions_of(names: Sequence[str], folders: Sequence[str] = ()) -> list[Editi
 
 
 def parted(name: str, lines: list[Line], folders: Sequence[str]) -> list[Edition]:
-    """The editions of one manifest: the counties below each of these folders, or else below the folders in which their names begin to
+    """The editions of one manifest: the counties below each of the folders, or else below the folders where their names begin to
     differ."""
     roots = [folder.rstrip("/") for folder in folders]
     if not roots:
@@ -166,7 +166,7 @@ def histories(editions: Sequence[Edition]) -> list[History]:
 
 
 def groups_of(lines: Iterable[Line]) -> list[Group]:
-    """The counties that are one map with another one, in groups."""
+    """The counties that are the same map as another one, in groups."""
     groups: dict[str, list[str]] = {}
     for line in lines:
         if line.fingerprint:
@@ -175,7 +175,7 @@ def groups_of(lines: Iterable[Line]) -> list[Group]:
 
 
 def duplicates(manifest: str | os.PathLike[str]) -> list[Group]:
-    """The counties of a manifest that are one map with another one, in groups. Raises Failure."""
+    """The counties of a manifest that are the same map as another one, in groups. Raises Failure."""
     return groups_of(loaded(os.fspath(manifest))[1])
 
 

@@ -26,7 +26,7 @@ def reason(error: BaseException) -> str:
 
 @contextmanager
 def reported(name: str, what: str = "can't be written") -> Iterator[None]:
-    """Reports an error of the system with a file's name, and what can't be done with the file."""
+    """Reports an error of the system with a file's name, and the action that failed."""
     try:
         yield
     except OSError as error:

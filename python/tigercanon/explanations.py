@@ -1,4 +1,4 @@
-"""What a refusal means, an example line and what to do, from the page on refusals; and the command explain."""
+"""The meaning of a refusal, an example line and the remedy, from the page on refusals; and the command explain."""
 
 from __future__ import annotations
 
@@ -81,7 +81,7 @@ def explain(
     program: str | os.PathLike[str] | None = None,
 ) -> Explanation | None:
     """Explains a refusal: the program's line, the refusal's number or name, or the exception Refusal. If a county is named, its places
-    there are looked up; without a refusal it is the one that the county gets, and None if it is accepted. Raises Failure."""
+    there are looked up; without a refusal it is the county's, and None if it is accepted. Raises Failure."""
     with Resources() as resources:
         return explanation(str(refusal), None if county is None else os.fspath(county), program, resources)
 

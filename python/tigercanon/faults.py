@@ -1,4 +1,4 @@
-"""The place of a refusal in a county's files: the line, its field, what is wrong with it, and an example of what would be right."""
+"""The place of a refusal in a county's files: the line, its field, its fault, and an example of a right one."""
 
 from __future__ import annotations
 
@@ -35,7 +35,7 @@ class Fault:
     example: str = ""
 
     def shown(self) -> list[str]:
-        """The place in words, the line with a mark below the field, and what is wrong."""
+        """The place in words, the line with a mark below the field, and the fault."""
         if not self.line:
             return [f"{self.file}: {self.wrong}"]
         columns = f"columns {self.first} to {self.last}" if self.last > self.first else f"column {self.first}"

@@ -13,10 +13,10 @@ from .layout import is_record, kind_of
 from .storage import first_line
 
 Identity = tuple[int, int]
-STREAMS = {1: "standard output", 2: "standard error"}  # those of a command
+STREAMS = {1: "standard output", 2: "standard error"}  # of a command
 MANIFEST = re.compile(rb"# tigercanon form .*|# --no-.*|[0-9a-fA-F]{64}  .*")  # how a manifest begins
 PAGE = re.compile(rb"(?i)(\xef\xbb\xbf)?\s*<(!doctype )?html")  # how a page begins
-MARK = b'<meta name="generator" content="tigercanon'  # what a page of these commands has at its beginning
+MARK = b'<meta name="generator" content="tigercanon'  # at the beginning of a page that a command wrote
 ON_THIS_MACHINE = ("file://", "local://")  # how URLs of fsspec begin that lead to files here
 
 
@@ -25,7 +25,7 @@ class Inputs:
     through each link."""
 
     def __init__(self, names: Iterable[str], streams: Mapping[int, str] = {}) -> None:
-        """Raises Failure if one of these streams goes to one of the files. Then nothing more is written to it."""
+        """Raises Failure if a stream goes to one of the files. Then nothing more is written to it."""
         self.names: dict[Identity, str] = {}
         for name in names:
             file = identity(path_of(name))
@@ -46,7 +46,7 @@ class Inputs:
             raise Failure(f"{shown}: can't be written: this command reads it{other}")
 
     def spare_all(self, outputs: Iterable[str]) -> None:
-        """Raises Failure if a command can't write to all of these names: one leads to a file that it reads, or is the name of a county's
+        """Raises Failure if a command can't write to all names: one leads to a file that it reads, or is the name of a county's
         file, as when the output's own name was forgotten."""
         for name in outputs:
             self.spare(name, name)
@@ -55,7 +55,7 @@ class Inputs:
 
 
 def refuse_other_files(names: Iterable[str]) -> None:
-    """Raises Failure if one of these names leads to a file that no command has made, but that may be dear to somebody."""
+    """Raises Failure if a name leads to a file that no command has made, but that may be dear to somebody."""
     for name in names:
         why = "it is a symbolic link" if os.path.islink(name) else what_begins(name)
         if why:
@@ -63,7 +63,7 @@ def refuse_other_files(names: Iterable[str]) -> None:
 
 
 def what_begins(name: str) -> str:
-    """What a file is by its beginning: a county, a manifest, or another page than those of these commands. Nothing for any other file."""
+    """What a file is by its beginning: a county, a manifest, or a page that no command wrote. Nothing for any other file."""
     with suppress(OSError, Unreadable):
         line = first_line(name)
         if is_record(line):

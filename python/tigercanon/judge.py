@@ -118,7 +118,7 @@ class Source:
 
     @property
     def names(self) -> list[str]:
-        """The user's names of these files."""
+        """The user's names of the files."""
         return [file_name(self.name, kind) for kind in TYPES] if self.is_stem else [self.name]
 
     @property
@@ -256,7 +256,7 @@ def is_plain(path: str) -> bool:
 
 
 def local(file: File, resources: Resources) -> str:
-    """A file on this machine: itself, or a copy of what a URL leads to."""
+    """A file on this machine: itself, or a copy from a URL."""
     if not is_url(file.place):
         return file.place
     place = resources.place(file.size or 0)

@@ -10,7 +10,7 @@ COUNTY_FILE = re.compile(r"(?ais)(.+)\.(?:RT([0-9A-Z])|ZIP)")
 
 
 def file_name(stem: str, kind: str) -> str:
-    """The name under which the program reads a stem's file of a record type."""
+    """The name of a stem's file of a record type, as the program reads it."""
     return f"{stem}.RT{kind}"
 
 
@@ -33,7 +33,7 @@ def folded(path: str) -> str:
 
 
 def key_of(path: str) -> str:
-    """The name of a county without folder, case and ending, as that of another edition has it too."""
+    """The name of a county without folder, case and ending, as another edition has it too."""
     name = path.rpartition("/")[2].upper()
     name = name[:-3] if name.endswith(".GZ") else name
     return stem_of(name) if kind_of(name) else os.path.splitext(name)[0]

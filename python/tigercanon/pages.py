@@ -77,7 +77,7 @@ def carried_for(change: Change, folder: Path) -> Carried | None:
 
 
 class Comparing:
-    """The command diff over the counties of changes, each by a process of its own."""
+    """The command diff over the counties of changes, each by a separate process."""
 
     def __init__(self, manifests: Sequence[str], root: str | None = None, program: str | None = None) -> None:
         self.root, self.program = root, find_program(program)
@@ -181,7 +181,7 @@ class Pages:
             files[self.index].write("".join(index(self.folder, self.changes, self.reasons)).encode())
 
     def write_one(self, resources: Resources, change: Change) -> str:
-        """Writes a page by a process of its own, and returns why there is none."""
+        """Writes a page by a separate process, and returns why there is none."""
         page = self.folder / change.page
         _, why = self.comparing.run(change, ["--summary", "--page", str(page), *["--force"] * self.is_forced], resources)
         if not why and carried_for(change, self.folder):

@@ -1,4 +1,4 @@
-"""What a command prints on standard output, and what it reports on standard error: lines, its progress and its end."""
+"""The output of a command on standard output, and its reports on standard error: lines, its progress and its end."""
 
 from __future__ import annotations
 

@@ -92,7 +92,7 @@ class Resources:
     def run(
         self, words: Sequence[str], memory: int | None = None, seconds: int | None = None
     ) -> subprocess.CompletedProcess[bytes]:
-        """Runs the program in a session of its own, so that all of it can be ended. memory limits its address space. Raises TimeoutExpired
+        """Runs the program in a separate session, so that all of it can be ended. memory limits its address space. Raises TimeoutExpired
         if it takes longer than these seconds."""
         if memory is not None:
             words = ["/bin/sh", "-c", f'ulimit -v {memory // 1024} && exec "$@"', "sh", *words]
@@ -196,7 +196,7 @@ STANDARD_OUTPUT = ("-", "/dev/stdout", "/dev/fd/1", "/proc/self/fd/1")
 
 
 class NewFile:
-    """A file beside the one that it replaces when it is whole. If it isn't whole at the end of the block, it is removed."""
+    """A file beside the file that it replaces when it is whole. If it isn't whole at the end of the block, it is removed."""
 
     file: BinaryIO
 
@@ -247,7 +247,7 @@ class NewFile:
 
 @contextmanager
 def new_files(names: Iterable[str], inputs: Inputs, resources: Resources, is_forced: bool = False) -> Iterator[dict[str, NewFile]]:
-    """Files to be written, by their names, which take the places of these names when all are whole, and have the modes of the files
+    """Files to be written, by their names, which they get when all are whole, and have the modes of the files
     before them. If anything goes wrong, a signal for example, there are none of them, and what had these names is as it was. Raises
     Failure if one of them is an input, or, unless it is forced, another file than these commands write."""
     with resources.part() as part:

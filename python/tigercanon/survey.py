@@ -162,7 +162,7 @@ class Survey:
         return Judged(county.stem, *((answer.text, None) if is_accepted else (None, answer.text)), answer.notes, is_changed)
 
     def doubled(self, county: County, first: Line, answer: Answer) -> Judged:
-        """The same map as that of the zip or the single files beside it: one county. The manifest notes this file with that county."""
+        """The same map as in the zip or the single files beside it: one county. The manifest notes this file with that county."""
         self.judging.tally.doubles += 1
         if self.manifest:
             self.manifest.drop(county.stem)

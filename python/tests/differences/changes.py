@@ -42,7 +42,7 @@ def made_county(chains: int, seed: int) -> County:
 
 
 class Changing:
-    """A county that is being changed, and the differences that it then has from the one that it was before."""
+    """A county that is being changed, and its differences from the county that it was before."""
 
     def __init__(self, before: County, seed: int) -> None:
         self.before, self.county = before, pickle.loads(pickle.dumps(before))
@@ -52,7 +52,7 @@ class Changing:
         self.touched: set[int] = set()
 
     def files(self, folder: Path) -> tuple[Path, Path]:
-        """Both maps in files, each by a hand of its own."""
+        """Both maps in files, each by another hand."""
         return put(folder / "first", written(self.before, 1)), put(folder / "second", written(self.county, 2))
 
     def tell(self, kind: str, thing: Chain | Landmark | Polygon, *fields: str) -> None:
@@ -113,7 +113,7 @@ def place_of(thing: Landmark | Polygon) -> Point:
 
 
 def split_maps(folder: Path, chains: int, seed: int) -> tuple[Point, Path, Path]:
-    """A county in which the start of a chain gets a node of its own, so that nothing differs but a tie: its place, and both maps in files."""
+    """A county where the start of a chain gets another node, so that nothing differs but a tie: its place, and both maps in files."""
     changing = Changing(made_county(chains, seed), seed)
     nodes = Counter(node for chain in changing.county.chains for node in (chain.start, chain.end))
     (chain,) = changing.chains(1)

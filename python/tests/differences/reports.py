@@ -1,4 +1,4 @@
-"""Calls of tigercanon-tools diff, and readers of what it reports."""
+"""Calls of tigercanon-tools diff, and readers of its reports."""
 
 import json
 import re
@@ -33,7 +33,7 @@ def differing(*words: object, **options: Any) -> str:
 
 
 def example_differences() -> set[Difference]:
-    """The differences that the second map of the example was made with, without that of a feature name."""
+    """The differences that the second map of the example was made with, without a feature name's."""
     rows = json.loads(Path(__file__).with_name("example.json").read_text())
     return {
         Difference(what, kind, tuple((east, north) for east, north in place), frozenset(fields))

@@ -1,5 +1,5 @@
-"""Small counties made at random, in which much is there twice, and small changes of them. What a county says is worked out from these
-values alone, so that it can be compared with what diff finds."""
+"""Small counties made at random, with much twice, and small changes of them. What a county says is worked out from these
+values alone, so that it can be compared with the findings of diff."""
 
 from __future__ import annotations
 
@@ -69,7 +69,7 @@ class Maker:
         return landmark
 
     def county(self) -> County:
-        """A county in which each polygon with a record is on a side, as in those that are accepted."""
+        """A county whose polygons with a record are all on sides, as in accepted ones."""
         county = County([], [self.values(NAME, 0.4) for _ in range(self.some([0, 2, 3]))], [], [])
         county.polygons = [self.polygon() for _ in range(self.some([1, 2, 3, 4]))]
         county.chains = [self.chain(county) for _ in range(self.some([2, 3, 4, 5]))]

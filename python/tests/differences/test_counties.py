@@ -1,4 +1,4 @@
-"""Counties of 5,000 chains by two hands: as they are one map, and as they differ at known places. The numbers in GeoJSON agree with the
+"""Counties of 5,000 chains by two hands: as the same map, and with differences at known places. The numbers in GeoJSON agree with the
 records of the user's files. And the example of two maps."""
 
 import re

@@ -21,7 +21,7 @@ from tigercanon.diff.words import ONE_MAP, TIED, told
 from .changes import made_county
 
 Told = tuple[str, Optional[str], Optional[str]]
-"""The label of a field that differs, and what both maps say."""
+"""The label of a field that differs, and its values in both maps."""
 
 EMPTY = County([], [], [], [])
 WEST, EAST, NEAR_ZERO = "32.000000° N, 86.000000° W", "32.000000° N, 85.999999° W", "0.000002° N, 0.000001° E"

@@ -28,7 +28,7 @@ EDGES = TEMPLATE.read_text().split("></script>")
 
 
 def carried(path: Path) -> dict[str, Any]:
-    """What a page carries. Before and behind it the page is the one without counties, and nothing in it ends the element."""
+    """What a page carries. Before and after it the page is as without counties, and nothing in it ends the element."""
     before, after = (edge.encode() for edge in (f"{EDGES[0]}>", f"</script>{EDGES[1]}"))
     text = path.read_bytes()
     assert text.startswith(before) and text.endswith(after)
@@ -106,7 +106,7 @@ def test_a_page_that_would_be_too_large(room: Path, program: str, monkeypatch: p
 
 
 def test_which_page(room: Path, monkeypatch: pytest.MonkeyPatch) -> None:
-    """The page is the one that the variable names, else that of an installed package, built here, of a clone, of a release."""
+    """The page is the file that the variable names, else the installed package's, the built one, the clone's, the release's."""
     assert pages.find_page() == TEMPLATE
     monkeypatch.delenv("TIGERCANON_PAGE")
     places = ["package", "out/page", "prebuilt", "release"]

@@ -1,4 +1,4 @@
-"""The fields of a chain, a landmark or a polygon, by name and in words, and the fields in which two of them differ."""
+"""The fields of a chain, a landmark or a polygon, by name and in words, and the fields that differ between two of them."""
 
 from __future__ import annotations
 
@@ -131,7 +131,7 @@ def landmark_rows(first: Teller, second: Teller, one: Landmark | None, other: La
 
 
 def aligned(first: Sequence[T], second: Sequence[T], mark: Callable[[T], str]) -> Pair[list[T]]:
-    """Both lists with what they have in common at their beginning, in one order."""
+    """Both lists with their common items at the beginning, in one order."""
     pairs, ones, others = pair_by(first, second, mark)
     pairs.sort(key=lambda pair: mark(pair[0]))
     return [one for one, _ in pairs] + ones, [other for _, other in pairs] + others

@@ -1,8 +1,8 @@
 """Finds what two maps have in common and what differs.
 
-Each map has numbers of its own, so numbers are never compared. What they join comes after the rest.
+Each map has other numbers, so numbers are never compared. What they join comes after the rest.
 
-A canonical text has numbers of its own. The same set, respelled by the program, keeps its own numbers. Both describe one map, so they
+A canonical text has new numbers. The same set, respelled by the program, keeps its own. Both describe the same map, so they
 are matched as two maps are. Things that nothing tells apart may have their numbers exchanged.
 """
 
@@ -113,7 +113,7 @@ def compare(first: County, second: County) -> Comparison:
 
 
 def match_chains(groups: list[Pair[list[Chain]]], first: Teller, second: Teller) -> Matched[Chain]:
-    """Matches chains by their points, and those of the same points by their fields."""
+    """Matches chains by their points, and chains of the same points by their fields."""
     matched: Matched[Chain] = Matched()
     for ones, others in groups:
         if len(ones) == len(others) == 1 and says(ones[0], first) == says(others[0], second):

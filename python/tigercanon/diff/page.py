@@ -70,7 +70,7 @@ def write_page(
     """Writes the page with these counties. Raises Failure if it would be too large."""
     counts = {subject: part.counts for subject, part in zip(SUBJECTS, comparison.parts)}
     fingerprints = [sets.first.fingerprint, sets.second.fingerprint]
-    # JSON in which no letter begins a tag, whatever the input says.
+    # JSON without a letter that begins a tag, whatever the input is.
     text = json.dumps({"fingerprints": fingerprints, "counts": counts, "masks": sets.masks, "counties": counties}).replace(
         "<", "\\u003c"
     )

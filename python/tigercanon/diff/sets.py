@@ -1,4 +1,4 @@
-"""The two sets that are compared: their files, and what the program prints for them."""
+"""The two sets that are compared: their files, and the program's output for them."""
 
 import hashlib
 import os

@@ -1,6 +1,6 @@
 """The words for differences. The finder of the page for browsers has them from here too: page/tables.py takes them there.
 
-{} stands for a number, a name or a place."""
+{} is a number, a name or a place."""
 
 KINDS = ("only in the first", "only in the second", "changed", "alike")
 ONE_MAP = "No differences: the two are one map."
@@ -22,7 +22,7 @@ FIELDS = {
     "record of type 7": ("record {}", "whether there is a further record of type 7"),
     "area": ("polygon {}", "a polygon that the landmark lies in"),
 }
-"""The label of each field that isn't a column of a record, and what it holds."""
+"""The label of each field that isn't a column of a record, and its contents."""
 
 PHRASES = {
     "of range": " of range {}",
