@@ -141,15 +141,15 @@ compile_program() {
     keep "$stage" "$root/out/unproved" "$sources" || stop "$root/out can't be written"
 }
 
-# To be attended: proves and compiles the library for C into crates/tigercanon_c/out, unless it is there: libtigercanon_c.a, and the module
-# that the page is made of.
+# To be attended: proves and compiles the library for C into crates/tigercanon_c/out, unless this kit did it already: libtigercanon_c.a, the
+# module that the page is made of, and the name of the kit.
 prove_library() {
     sources="$(hash_of_sources)" || stop "the sources can't be read"
     out="$root/crates/tigercanon_c/out"
-    if is_made "$out" libtigercanon_c.a && is_made "$out" module.bc; then return; fi
+    if is_made "$out" libtigercanon_c.a && is_made "$out" module.bc && is_made "$out" kit && rt version | cmp -s - "$out/kit"; then return; fi
     make_stage || stop "$root/out can't be written"
     say "the library for C is proved and compiled: two to four minutes on four processors, over what the gate has proved"
-    attend setsid "$root/scripts/prove-library" "$stage" >&2 || stop "the library isn't proved"
+    attend setsid "$root/scripts/prove-library" "$stage" >&2 && rt version >"$stage/kit" || stop "the library isn't proved"
     [ "$(hash_of_sources)" = "$sources" ] || stop "a source was edited meanwhile, so the library isn't that of the sources as they are"
     keep "$stage" "$out" "$sources" || stop "$out can't be written"
 }
