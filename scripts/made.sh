@@ -160,5 +160,5 @@ hash_of_engine_sources() { printf "engine's sources: %s\n" "$(cat "$root"/page/e
 # Prints the engine in the page $1.
 engine_of() { sed -n 's/.* id="engine">\([^<]*\)<.*/\1/p' "$1" | base64 -d | gzip -dc; }
 
-# Prints the program's version, as its own source has it.
-version() { sed -n '/^const VERSION/{n;s/\\*$//p;q;}' "$root/crates/command_line/src/command.rt"; }
+# Prints the program's version, as its own source has it. Fails if it isn't there.
+version() { sed -n '/^const VERSION/{n;s/\\*$//p;q;}' "$root/crates/command_line/src/command.rt" | grep -xE '[0-9]+(\.[0-9]+)*'; }
