@@ -40,13 +40,32 @@ def folder(room: Path) -> Path:
 
 def test_three_editions() -> None:
     """Each way for a county to go through three editions."""
-    one: dict[str, object] = {"SAME": 1, "BACK": 2, "GONE": 3, "AGAIN": 4, "REFUSED": REFUSED, "MENDED": FAILED, "WORSE": 5}
-    two: dict[str, object] = {"SAME": 1, "BACK": 22, "REFUSED": REFUSED, "MENDED": 7, "WORSE": REFUSED, "NEW": 8}
-    three: dict[str, object] = {"SAME": 1, "BACK": 2, "AGAIN": 44, "REFUSED": REFUSED, "MENDED": 7, "WORSE": FAILED, "NEW": 88}
+    one: dict[str, object] = {
+        "SAME": 1,
+        "BACK": 2,
+        "GONE": 3,
+        "AGAIN": 4,
+        "REFUSED": REFUSED,
+        "MENDED": FAILED,
+        "WORSE": 5,
+        "LATE": 6,
+    }
+    two: dict[str, object] = {"SAME": 1, "BACK": 22, "REFUSED": REFUSED, "MENDED": 7, "WORSE": REFUSED, "NEW": 8, "LATE": 6}
+    three: dict[str, object] = {
+        "SAME": 1,
+        "BACK": 2,
+        "AGAIN": 44,
+        "REFUSED": REFUSED,
+        "MENDED": 7,
+        "WORSE": FAILED,
+        "NEW": 88,
+        "LATE": 66,
+    }
     assert histories(one, two, three) == {
         "AGAIN": ["removed", "added"],
         "BACK": ["changed", "changed"],
         "GONE": ["removed", ""],
+        "LATE": ["same", "changed"],
         "MENDED": ["accepted", "same"],
         "NEW": ["added", "changed"],
         "REFUSED": ["refused", "refused"],
@@ -58,6 +77,7 @@ def test_three_editions() -> None:
         "AGAIN": "removed in 2, added again in 3",
         "BACK": "changed in 2, back in 3 as in 1",
         "GONE": "removed in 2",
+        "LATE": "changed in 3",
         "MENDED": "accepted in 2",
         "NEW": "added in 2, changed in 3",
         "REFUSED": "still refused in 2, still refused in 3",
@@ -69,6 +89,7 @@ def test_three_editions() -> None:
         ["AGAIN", "1", "-", "2"],
         ["BACK", "1", "2", "1"],
         ["GONE", "1", "-", "-"],
+        ["LATE", "1", "1", "2"],
         ["MENDED", "failed", "1", "1"],
         ["NEW", "-", "1", "2"],
         ["REFUSED", "refused", "refused", "refused"],
@@ -137,13 +158,16 @@ def changes_of(*states: dict[str, object]) -> list[Change]:
 
 
 def test_names_of_pages() -> None:
-    """Of two editions a page has the county's name, of several the change's too. A county without a map in both has none."""
+    """Of two editions a page has the county's name, of several the change's too. A county without a map in both has none. Editions
+    with one name in several folders have their paths."""
     assert [change.page for change in changes_of({"A": 1, "B": 1, "C": REFUSED}, {"A": 2, "B": 1, "C": 3})] == ["A.html"]
     three = changes_of({"A": 1, "B": 5}, {"A": 2, "B": REFUSED}, {"A": 1, "B": 6})
     assert [(change.page, change.editions, change.old, change.new) for change in three] == [
         ("A.1-2.html", ("1", "2"), Line(f"{1:064}", "1/A"), Line(f"{2:064}", "2/A")),
         ("A.2-3.html", ("2", "3"), Line(f"{2:064}", "2/A"), Line(f"{1:064}", "3/A")),
     ]
+    folders = [edition(f"{folder}/m", ("A", state)) for folder, state in (("x", 1), ("y", 1), ("z", 2))]
+    assert [change.page for change in changed(tigercanon.changes(*folders))] == ["A.y_m-z_m.html"]
 
 
 COUNTS = '{"chain": [1, 2, 3000], "landmark": [4, 5, 6], "polygon": [7, 8, 9], "feature name": [0, 0, 0]}'
@@ -159,6 +183,7 @@ def page(old: int, new: int, end: str = "</html>\n") -> bytes:
 def test_the_index_of_pages() -> None:
     """It links to pages that show these maps, with escaped names, and has the reason of each that isn't there. Other pages come last."""
     changes = changes_of({"A&B": 1, "C": 3, "D": 5, "E": 7}, {"A&B": 2, "C": 4, "D": 6, "E": 8})
+    changes[0] = changes[0]._replace(editions=("1&", "2"))
     put("A&B.html", page(1, 2))
     put("C.html", page(3, 5))
     put("E.html", page(7, 8, end=""))
@@ -167,7 +192,7 @@ def test_the_index_of_pages() -> None:
     text = "".join(index(Path("."), changes, {"D.html": "why & how"}))
     rows = [line for line in text.splitlines() if line.startswith("<tr><td>")]
     assert rows == [
-        '<tr><td><a href="A%26B.html">A&amp;B</a></td><td>1 to 2</td>'
+        '<tr><td><a href="A%26B.html">A&amp;B</a></td><td>1&amp; to 2</td>'
         "<td>1 / 2 / 3,000</td><td>4 / 5 / 6</td><td>7 / 8 / 9</td><td>0 / 0 / 0</td></tr>",
         '<tr><td>C</td><td>1 to 2</td><td class="why" colspan="4">no page</td></tr>',
         '<tr><td>D</td><td>1 to 2</td><td class="why" colspan="4">why &amp; how</td></tr>',
