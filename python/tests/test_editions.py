@@ -104,6 +104,7 @@ def test_renamed_counties() -> None:
     assert histories({"A": 1}, {"A": 1, "B": 1}) == {"A": ["same"], "B": ["added"]}
     assert histories({"A": 1, "B": 1, "C": 1}, {"D": 1}) == {"D": ["renamed"], "B": ["removed"], "C": ["removed"]}
     assert histories({"A": 1}, {"B": 1, "C": 1}) == {"B": ["renamed"], "C": ["added"]}
+    assert histories({"A": 1}, {"C": 2}, {"B": 1, "C": 2}) == {"A": ["removed", ""], "B": ["", "added"], "C": ["added", "same"]}
     assert histories({"A": REFUSED}, {"B": REFUSED}) == {"A": ["removed"], "B": ["added"]}
     assert histories({"A": 1}, {"B": 1}, {"A": 1}) == {"A": ["renamed", "renamed"]}
 

@@ -162,6 +162,20 @@ def test_a_lock_that_was_removed_meanwhile(room: Path, monkeypatch: pytest.Monke
     assert not os.path.exists("m.lock")
 
 
+def test_a_lock_is_held_until_its_name_is_gone(room: Path, monkeypatch: pytest.MonkeyPatch) -> None:
+    """Otherwise the name that is removed could be that of the next run's lock."""
+    real = os.unlink
+
+    def unlink(name: str) -> None:
+        with pytest.raises(Failure, match="another run writes to it"):
+            take_lock("m")
+        real(name)
+
+    with lock_held("m"):
+        monkeypatch.setattr(os, "unlink", unlink)
+    assert not os.path.exists("m.lock")
+
+
 @pytest.mark.parametrize("bad", ["first", "second"])
 def test_of_two_outputs_one_is_not_whole(room: Path, monkeypatch: pytest.MonkeyPatch, bad: str) -> None:
     """None of them takes its place, and nothing is left behind."""
