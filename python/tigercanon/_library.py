@@ -12,7 +12,7 @@ from array import array
 from contextlib import ExitStack, contextmanager
 from ctypes import c_bool, c_size_t, c_ssize_t, c_uint8, c_uint64, c_void_p
 from pathlib import Path
-from typing import TYPE_CHECKING, Any, BinaryIO, Iterable, Iterator, Union
+from typing import TYPE_CHECKING, Any, BinaryIO, Iterable, Iterator, Optional, Union
 
 from .errors import Unreadable
 
@@ -46,7 +46,7 @@ class Refusal(Exception):
     line    the line that the program prints, without its line ending: "refused 4 BadNumber 1 4 6"
     """
 
-    def __init__(self, number: int, name: str, places: tuple[Union[int, str], ...] = (), set: int | None = None) -> None:
+    def __init__(self, number: int, name: str, places: tuple[Union[int, str], ...] = (), set: Optional[int] = None) -> None:
         super().__init__(number, name, places, set)
         self.number, self.name, self.places, self.set = number, name, places, set
         line = " ".join(["refused", str(number), name, *map(str, places)])

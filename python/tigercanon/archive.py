@@ -9,7 +9,7 @@ from __future__ import annotations
 import os
 from contextlib import closing
 from dataclasses import dataclass
-from typing import Any, Generator, Iterable, Iterator, Sequence
+from typing import Any, Generator, Iterable, Iterator, Optional, Sequence
 
 from .diff.differing import found_between
 from .diff.geojson import properties
@@ -27,6 +27,7 @@ from .judge import LARGEST, SECONDS
 from .judging import Check, Judging, Means, Numbered, T, Verification
 from .judging import Checked as Checked
 from .judging import Verified as Verified
+from .layout import Name
 from .manifests import FLAGS
 from .program import find_program
 from .progress import Tally
@@ -84,16 +85,16 @@ def values_of(results: Numbered[T], judging: Judging) -> Iterator[T]:
         raise Failure(f"{judging.gone}: {judging.left:,} counties are left")
 
 
-def names_of(names: Iterable[str | os.PathLike[str]]) -> list[str]:
+def names_of(names: Iterable[Name]) -> list[str]:
     return [os.fspath(name) for name in names]
 
 
 def judging_by(
     resources: Resources,
-    program: str | os.PathLike[str] | None,
-    jobs: int | None,
-    scheduler: str | None,
-    memory: int | None,
+    program: Optional[Name],
+    jobs: Optional[int],
+    scheduler: Optional[str],
+    memory: Optional[int],
     largest: int,
     seconds: int,
     job: str = "fingerprint",
@@ -103,8 +104,8 @@ def judging_by(
 
 
 def manifest(
-    *sources: str | os.PathLike[str],
-    output: str | os.PathLike[str] | None = None,
+    *sources: Name,
+    output: Optional[Name] = None,
     update: bool = False,
     again: bool = False,
     prune: bool = False,
@@ -112,10 +113,10 @@ def manifest(
     no_reserved: bool = False,
     strict: bool = False,
     exclude: Sequence[str] = (),
-    program: str | os.PathLike[str] | None = None,
-    jobs: int | None = None,
-    scheduler: str | None = None,
-    memory: int | None = None,
+    program: Optional[Name] = None,
+    jobs: Optional[int] = None,
+    scheduler: Optional[str] = None,
+    memory: Optional[int] = None,
     largest: int = LARGEST,
     seconds: int = SECONDS,
 ) -> Results[Judged]:
@@ -143,17 +144,17 @@ def manifest(
 
 
 def verify(
-    manifest: str | os.PathLike[str],
-    *sources: str | os.PathLike[str],
-    root: str | os.PathLike[str] | None = None,
+    manifest: Name,
+    *sources: Name,
+    root: Optional[Name] = None,
     no_sources: bool = False,
     no_reserved: bool = False,
     quick: bool = False,
     exclude: Sequence[str] = (),
-    program: str | os.PathLike[str] | None = None,
-    jobs: int | None = None,
-    scheduler: str | None = None,
-    memory: int | None = None,
+    program: Optional[Name] = None,
+    jobs: Optional[int] = None,
+    scheduler: Optional[str] = None,
+    memory: Optional[int] = None,
     largest: int = LARGEST,
     seconds: int = SECONDS,
 ) -> Results[Verified]:
@@ -174,12 +175,12 @@ def verify(
 
 
 def checks(
-    *sources: str | os.PathLike[str],
+    *sources: Name,
     exclude: Sequence[str] = (),
-    program: str | os.PathLike[str] | None = None,
-    jobs: int | None = None,
-    scheduler: str | None = None,
-    memory: int | None = None,
+    program: Optional[Name] = None,
+    jobs: Optional[int] = None,
+    scheduler: Optional[str] = None,
+    memory: Optional[int] = None,
     largest: int = LARGEST,
     seconds: int = SECONDS,
 ) -> Results[Checked]:
@@ -198,12 +199,7 @@ def checks(
 
 
 def differences(
-    first: str | os.PathLike[str],
-    second: str | os.PathLike[str],
-    *,
-    no_sources: bool = False,
-    no_reserved: bool = False,
-    program: str | os.PathLike[str] | None = None,
+    first: Name, second: Name, *, no_sources: bool = False, no_reserved: bool = False, program: Optional[Name] = None
 ) -> Iterator[Difference]:
     """Yields where two counties differ: nothing if they are one map. It leaves out how things are joined. Raises Failure."""
     names = names_of([first, second])

@@ -3,10 +3,10 @@
 from __future__ import annotations
 
 import os
-from typing import Iterable, NamedTuple, Sequence
+from typing import Iterable, NamedTuple, Optional, Sequence
 
 from .errors import Failure
-from .layout import key_of
+from .layout import Name, key_of
 from .manifests import Line, loaded, named, without_mark
 
 KINDS = ("same", "changed", "added", "removed", "renamed", "refused", "failed", "accepted")
@@ -24,7 +24,7 @@ class History(NamedTuple):
     """A county through the editions: its line in each, or None if an edition doesn't have it. It may have another name in each."""
 
     editions: tuple[str, ...]
-    lines: tuple[Line | None, ...]
+    lines: tuple[Optional[Line], ...]
 
     @property
     def last(self) -> Line:
@@ -174,11 +174,11 @@ def groups_of(lines: Iterable[Line]) -> list[Group]:
     return [Group(fingerprint, tuple(stems)) for fingerprint, stems in groups.items() if len(stems) > 1]
 
 
-def duplicates(manifest: str | os.PathLike[str]) -> list[Group]:
+def duplicates(manifest: Name) -> list[Group]:
     """The counties of a manifest that are the same map as another one, in groups. Raises Failure."""
     return groups_of(loaded(os.fspath(manifest))[1])
 
 
-def changes(*manifests: str | os.PathLike[str], editions: Sequence[str] = ()) -> list[History]:
+def changes(*manifests: Name, editions: Sequence[str] = ()) -> list[History]:
     """The counties of several manifests, one for each edition, or of one with all editions, through these editions. Raises Failure."""
     return histories(editions_of([os.fspath(name) for name in manifests], editions))

@@ -7,13 +7,14 @@ import os
 import re
 from dataclasses import dataclass
 from pathlib import Path
+from typing import Optional, Union
 
 from .diff.sets import found, opened
 from .errors import Failure, printable
 from .faults import Fault, faults_of
 from .hints import hint
 from .judge import County
-from .layout import kind_of
+from .layout import Name, kind_of
 from .program import find_program
 from .progress import Console, print_lines
 from .resources import Resources
@@ -75,18 +76,15 @@ class Explanation:
 
 
 def explain(
-    refusal: str | int | Exception = "",
-    county: str | os.PathLike[str] | None = None,
-    *,
-    program: str | os.PathLike[str] | None = None,
-) -> Explanation | None:
+    refusal: Union[str, int, Exception] = "", county: Optional[Name] = None, *, program: Optional[Name] = None
+) -> Optional[Explanation]:
     """Explains a refusal: the program's line, the refusal's number or name, or the exception Refusal. If a county is named, its places
     there are looked up; without a refusal it is the county's, and None if it is accepted. Raises Failure."""
     with Resources() as resources:
         return explanation(str(refusal), None if county is None else os.fspath(county), program, resources)
 
 
-def explanation(refusal: str, name: str | None, program: str | os.PathLike[str] | None, resources: Resources) -> Explanation | None:
+def explanation(refusal: str, name: str | None, program: Optional[Name], resources: Resources) -> Explanation | None:
     """Explains a refusal, in the county of this name if there is a name."""
     if name is None:
         return Explanation(bare(refusal), (), tuple(explained(refusal, page())))

@@ -6,7 +6,7 @@ import os
 from contextlib import closing, suppress
 from dataclasses import dataclass, replace
 from functools import cached_property
-from typing import Callable, Generator, Iterable, Sequence, TypeVar
+from typing import Callable, Generator, Iterable, Optional, Sequence, TypeVar
 
 from .counties import Finder, doubles_among
 from .engines import DaskEngine, Engine, Gone
@@ -42,7 +42,7 @@ class Checked:
     """A county, and why it isn't accepted, if it isn't. faults are the places of that in its files."""
 
     county: str
-    reason: str | None
+    reason: Optional[str]
     notes: tuple[str, ...]
     faults: tuple[Fault, ...]
 

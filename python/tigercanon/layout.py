@@ -3,7 +3,9 @@
 import os
 import re
 from dataclasses import dataclass
+from typing import Union
 
+Name = Union[str, "os.PathLike[str]"]  # of a file or a county, in a call; with | Python 3.9 can't resolve the types of public calls
 TYPES = "1245678IP"  # the record types of the nine files, in the order of a set's parts
 COUNTY_FILE = re.compile(r"(?ais)(.+)\.(?:RT([0-9A-Z])|ZIP)")
 """The name of a file of records, in either case of its ending, or of a zip: the stem, and the record type."""

@@ -8,8 +8,10 @@ import subprocess
 import sys
 import sysconfig
 from pathlib import Path
+from typing import Optional
 
 from .errors import Failure, reason
+from .layout import Name
 
 VARIABLE = "TIGERCANON"
 PACKAGE = Path(__file__).resolve().parent
@@ -19,7 +21,7 @@ PAGE = "the page tigercanon.html checks counties in any browser"
 TUNABLES = "glibc.malloc.hugetlb=1:glibc.malloc.mmap_threshold=8589934592:glibc.malloc.trim_threshold=17179869184"
 
 
-def find_program(named: str | os.PathLike[str] | None = None) -> str:
+def find_program(named: Optional[Name] = None) -> str:
     """The program that the option or the variable names, else that of the clone or release, else the one beside this package or on the
     PATH. In a clone it is the one that ./tigercanon runs. The current folder isn't searched. Raises Failure if there is none."""
     given, root = os.fspath(named) if named else os.environ.get(VARIABLE), PACKAGE.parent.parent

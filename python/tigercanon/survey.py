@@ -6,7 +6,7 @@ import os
 from collections import defaultdict
 from contextlib import closing, contextmanager, nullcontext
 from dataclasses import dataclass
-from typing import Iterator, Sequence
+from typing import Iterator, Optional, Sequence
 
 from .counties import Finder, doubles_among
 from .errors import printable
@@ -24,8 +24,8 @@ class Judged:
     """
 
     county: str
-    fingerprint: str | None
-    reason: str | None
+    fingerprint: Optional[str]
+    reason: Optional[str]
     notes: tuple[str, ...]
     is_changed: bool = False
     is_double: bool = False

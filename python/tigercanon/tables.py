@@ -8,7 +8,7 @@ import io
 import json
 import os
 from dataclasses import dataclass
-from typing import Any, Iterator, NamedTuple
+from typing import Any, Iterator, NamedTuple, Optional
 
 from .diff.columns import CHAIN, NAME
 from .diff.fields import decimal, name_text
@@ -18,6 +18,7 @@ from .diff.reading import Chain, each_point, number_of, read_county
 from .diff.sets import found, opened, printed
 from .errors import printable
 from .judge import County
+from .layout import Name
 from .program import find_program
 from .progress import Console, print_bytes
 from .resources import STANDARD_OUTPUT, Kept, Resources, Writable, new_files
@@ -32,7 +33,7 @@ class ChainRow:
     points in degrees, longitude first, as the file spells them with six places. A node or a polygon that isn't there is empty."""
 
     tlid: int
-    canonical_tlid: int | None
+    canonical_tlid: Optional[int]
     fields: dict[str, str]
     further_names: tuple[str, ...]
     nodes: tuple[str, str]
@@ -76,7 +77,7 @@ def table_of(name: str, county: County, program: str, resources: Resources) -> T
     return Table(rows_of(own, canonical), notes)
 
 
-def chains(county: str | os.PathLike[str], *, program: str | os.PathLike[str] | None = None) -> Iterator[ChainRow]:
+def chains(county: Name, *, program: Optional[Name] = None) -> Iterator[ChainRow]:
     """Yields the chains of a county, in the order of its file: a zip, a file with all records, or the stem of the nine. Raises Failure."""
     name = os.fspath(county)
     with Resources() as resources:
