@@ -6,10 +6,11 @@ import { baseOf, shownName } from "./names.js";
 
 const STEPS = ["reading", "unpacking", "judging", "fingerprint", "map"];
 
-// Calls `done` with the panel when there is a result. The panel then has { result } or { trouble }.
+// Calls `done` with the panel when there is a result. The panel then has { result } or { trouble }. A county that isn't shown alone has no
+// map of its own.
 export class CountyPanel {
-  constructor(county, masks, done) {
-    Object.assign(this, { county, masks, done, ordinal: "" });
+  constructor(county, masks, done, isAlone = false) {
+    Object.assign(this, { county, masks, done, isAlone, ordinal: "" });
     this.head = h("div", { class: "head" });
     this.body = h("div", { class: "body" });
     this.name = shownName(county.stem);
@@ -17,14 +18,14 @@ export class CountyPanel {
   }
 
   async judge() {
-    const steps = this.county.zip ? STEPS : STEPS.filter((step) => step !== "unpacking");
+    const { county, masks, isAlone } = this;
+    const steps = STEPS.filter((step) => (county.zip || step !== "unpacking") && (isAlone || step !== "map"));
     const stages = new Stages(steps, () => this.assistant?.end());
     replace(this.head, this.title(badge("busy", "Working")));
     replace(this.body, stages.node);
     announce(`${this.name}: judging`);
-    const question = { county: this.county, masks: this.masks };
     try {
-      this.result = await job("judge", question, (stage) => stages.at(stage), (assistant) => {
+      this.result = await job("judge", { county, masks, isAlone }, (stage) => stages.at(stage), (assistant) => {
         this.assistant = assistant;
       });
     } catch (error) {

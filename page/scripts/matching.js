@@ -7,7 +7,7 @@
 import { CHAIN, LANDMARK, RANGE } from "./contents.js";
 import { landmarkRows, pairBy, polygonFields, rows, Teller } from "./fields.js";
 import { comesAfterItsReverse, isOwnReverse, NO_POINT, reversedPoints } from "./points.js";
-import { Chain, County, isBlank, numberOf } from "./records.js";
+import { County, isBlank, numberOf } from "./records.js";
 import { areasOf, areTied, tiesAmong, tiesOf } from "./ties.js";
 
 const OFFICE = 5; // columns of a polygon's key with the office that numbers it
@@ -151,18 +151,15 @@ function pairTheNearest(onesLeft, othersLeft, first, second, mayBeTurned, matche
 
 // Whether two chains have the same content without their points and numbers. `says` would make long strings of all chains.
 function sayTheSame(one, other, first, second) {
-  const isSame = one.body === other.body && one.topologyBody === other.topologyBody && [0, 1].every((at) => isBlank(one.nodes[at]) === isBlank(other.nodes[at]));
-  return isSame && [0, 1].every((at) => isSameSide(one.sides[at], other.sides[at], first, second)) && haveSameNames(one, other, first, second)
-    && one.ranges.length === other.ranges.length && one.ranges.every((range, place) => range === other.ranges[place]);
+  if (one.body !== other.body || one.topologyBody !== other.topologyBody) return false;
+  const [nodes, sides, ranges] = [other.nodes, other.sides, other.ranges];
+  return one.nodes.every((node, at) => isBlank(node) === isBlank(nodes[at])) && one.sides.every((side, at) => isSameSide(side, sides[at], first, second))
+    && haveSame(first.county.nameBodies(one), second.county.nameBodies(other)) && haveSame(one.ranges, ranges);
 }
+
+const haveSame = (ones, others) => ones.length === others.length && ones.every((one, at) => one === others[at]);
 
 const isSameSide = (one, other, first, second) => first.marks.get(one) === second.marks.get(other) && one.slice(0, OFFICE) === other.slice(0, OFFICE);
-
-function haveSameNames(one, other, first, second) {
-  if (one.feats.length !== other.feats.length) return false;
-  const [names, others] = [first.county, second.county].map((county, place) => county.nameBodies(place ? other : one));
-  return names.every((name, place) => name === others[place]);
-}
 
 // The content of a chain without its points and numbers, as one string.
 function says(chain, teller) {
@@ -174,15 +171,17 @@ function says(chain, teller) {
   return parts.join("\n");
 }
 
-export function turned(chain) {
-  return new Chain({
-    ...chain,
-    body: CHAIN.turned(chain.body),
-    points: reversedPoints(chain.points),
-    ranges: chain.ranges.map((range) => RANGE.turned(range)),
-    nodes: [...chain.nodes].reverse(),
-    sides: [...chain.sides].reverse(),
-  });
+export function turned({ key, body, points, feats, ranges, topologyBody, nodes, sides }) {
+  return {
+    key,
+    feats,
+    topologyBody,
+    body: CHAIN.turned(body),
+    points: reversedPoints(points),
+    ranges: ranges.map((range) => RANGE.turned(range)),
+    nodes: [...nodes].reverse(),
+    sides: [...sides].reverse(),
+  };
 }
 
 // Of the ways to see a chain that is its own reverse the one that says the lesser.
@@ -197,10 +196,10 @@ function matchPolygons(first, second, certain) {
   const sides = new Map();
   certain.forEach((pair, place) => {
     pair.forEach((chain, which) => {
-      const county = which ? second : first;
-      ["left", "right"].forEach((hand, at) => {
-        const polygon = county.polygons.get(chain.sides[at]);
-        if (polygon && !sides.has(polygon)) sides.set(polygon, `${place} ${hand}`);
+      const { polygons } = which ? second : first;
+      chain.sides.forEach((side, at) => {
+        const polygon = polygons.get(side);
+        if (polygon && !sides.has(polygon)) sides.set(polygon, `${place} ${at ? "right" : "left"}`);
       });
     });
   });

@@ -10,7 +10,7 @@ const CONTENTS_SHOWN = [["1", "chains"], ["5", "feature names"], ["6", "further 
 export class OneCounty {
   constructor(county, masks, actions) {
     this.actions = actions;
-    this.panel = new CountyPanel(county, masks, () => this.finish());
+    this.panel = new CountyPanel(county, masks, () => this.finish(), true);
     this.aside = h("div", { class: "facts" }, this.panel.node);
     this.place = h("div", { class: "rest-box" });
     this.node = h("div", { class: "one" }, this.aside, this.place);

@@ -5,8 +5,8 @@ import { h, replace } from "./dom.js";
 import { Assistant, engineModule } from "./jobs.js";
 
 export class OneMap {
-  constructor(panels, masks) {
-    this.map = new CountyMap(panels[0].result, "Map of both counties");
+  constructor(shapes, panels, masks) {
+    this.map = new CountyMap({ text: panels[0].result.text, shapes }, "Map of both counties");
     this.rows = h("dl", { class: "ways" }, h("p", { class: "quiet" }, "Reading the files again…"));
     this.node = h("div", { class: "compared" }, this.map.node, h("div", { class: "side" }, h("h3", {}, "How the files differ"), this.rows));
     this.read(panels, masks);

@@ -13,16 +13,39 @@ export class NotCanonical extends Error {}
 
 export const isBlank = (text) => text.trim() === "";
 
-export class Chain {
-  constructor({ key, body, points, feats, ranges, topologyBody, nodes, sides }) {
-    this.key = key;
-    this.body = body;
-    this.points = points;
-    this.feats = feats;
-    this.ranges = ranges;
-    this.topologyBody = topologyBody;
-    this.nodes = nodes;
-    this.sides = sides;
+// A chain by its records. Most of what it has is looked at once or twice, so only its points are kept beside them.
+class Chain {
+  constructor(line, topology, inner, names, ranges) {
+    Object.assign(this, { line, topology, names, lines: ranges });
+    this.points = line.slice(190, 209) + inner.map(usedPlaces).join("") + line.slice(209);
+  }
+
+  get key() {
+    return `1${this.line.slice(5, 15)}`;
+  }
+
+  get body() {
+    return CHAIN.of(this.line);
+  }
+
+  get feats() {
+    return this.names.flatMap(featsOf);
+  }
+
+  get ranges() {
+    return this.lines.map((line) => RANGE.of(line));
+  }
+
+  get topologyBody() {
+    return TOPOLOGY.of(this.topology);
+  }
+
+  get nodes() {
+    return [this.topology.slice(20, 30), this.topology.slice(30, 40)];
+  }
+
+  get sides() {
+    return [this.topology.slice(40, 55), this.topology.slice(55, 70)];
   }
 }
 
@@ -99,18 +122,8 @@ function readChains(records) {
   const topologies = new Map(records.I.map((line) => [line.slice(10, 20), line]));
   return records["1"].map((line) => {
     const tlid = line.slice(5, 15);
-    const topology = there(topologies, tlid);
-    const shape = (inner.get(tlid) ?? NONE_OF_THEM).map(usedPlaces);
-    return new Chain({
-      key: `1${tlid}`,
-      body: CHAIN.of(line),
-      points: line.slice(190, 209) + shape.join("") + line.slice(209),
-      feats: (names.get(tlid) ?? NONE_OF_THEM).flatMap(featsOf),
-      ranges: (ranges.get(tlid) ?? NONE_OF_THEM).map((each) => RANGE.of(each)),
-      topologyBody: TOPOLOGY.of(topology),
-      nodes: [topology.slice(20, 30), topology.slice(30, 40)],
-      sides: [topology.slice(40, 55), topology.slice(55, 70)],
-    });
+    const [shape, further, more] = [inner, names, ranges].map((records) => records.get(tlid) ?? NONE_OF_THEM);
+    return new Chain(line, there(topologies, tlid), shape, further, more);
   });
 }
 

@@ -39,17 +39,18 @@ function grouped(tied, isOneInFirst) {
 // Calls `add` with the numbers that both maps have at a chain's places: the nodes at its ends, the polygons on sides with the same
 // content in both maps, and the further names, if they are the same.
 export function eachTied(chain, twin, first, second, add) {
-  for (const [at, place] of ENDS.entries()) {
-    if (!isBlank(chain.nodes[at]) && !isBlank(twin.nodes[at])) add("node", chain.nodes[at], twin.nodes[at], place);
+  const [nodes, others] = [chain.nodes, twin.nodes];
+  for (let at = 0; at < ENDS.length; at += 1) {
+    if (!isBlank(nodes[at]) && !isBlank(others[at])) add("node", nodes[at], others[at], ENDS[at]);
   }
-  for (const [at, place] of HANDS.entries()) {
-    const [one, other] = [chain.sides[at], twin.sides[at]];
-    const mark = first.marks.get(one);
-    if (mark !== undefined && mark === second.marks.get(other)) add("polygon", one, other, place);
+  const [sides, otherSides] = [chain.sides, twin.sides];
+  for (let at = 0; at < HANDS.length; at += 1) {
+    const mark = first.marks.get(sides[at]);
+    if (mark !== undefined && mark === second.marks.get(otherSides[at])) add("polygon", sides[at], otherSides[at], HANDS[at]);
   }
-  if (!chain.feats.length) return;
-  if (first.county.nameBodies(chain).join("\n") !== second.county.nameBodies(twin).join("\n")) return;
-  chain.feats.forEach((feat, at) => add("feature name", feat, twin.feats[at], `further name ${at + 1}`));
+  const [feats, otherFeats] = [chain.feats, twin.feats];
+  if (!feats.length || first.county.nameBodies(chain).join("\n") !== second.county.nameBodies(twin).join("\n")) return;
+  feats.forEach((feat, at) => add("feature name", feat, otherFeats[at], `further name ${at + 1}`));
 }
 
 // What a chain and its twin tie together.

@@ -72,7 +72,7 @@ export class TwoCounties {
     replace(this.pair);
     replace(this.sets, this.setsTable(), this.panels.map((panel) => notesOf(panel.result.notes, shownName(panel.county.stem))));
     if (tooLarge) return;
-    this.shown = areOneMap ? new OneMap(this.panels, this.masks) : new Differing(this.found, this.assistant, this.panels, this.masks);
+    this.shown = areOneMap ? new OneMap(this.found.shapes, this.panels, this.masks) : new Differing(this.found, this.assistant, this.panels, this.masks);
     replace(this.rest, this.shown.node);
     document.body.classList.add("one-screen");
   }

@@ -26,8 +26,8 @@ const refusedAnswer = (fault, parts, names, notes) => {
   return { isAccepted: false, line: lineOf(fault), number: fault.number, notes, ...shown };
 };
 
-// Judges a county: its canonical text, the hash of that, and the map's shapes.
-async function judge({ module, county, masks }) {
+// Judges a county: its canonical text, the hash of that, and, if it is shown alone, the map's shapes.
+async function judge({ module, county, masks, isAlone }) {
   const { parts, names, notes } = await partsOf(county, report);
   report({ stage: "judging" });
   const { status, text, fault } = normalise(module, parts, masks);
@@ -35,8 +35,8 @@ async function judge({ module, county, masks }) {
   parts.length = 0;
   report({ stage: "fingerprint" });
   const digest = await digestOf(text);
-  report({ stage: "map" });
-  const shapes = shapesOf(text);
+  if (isAlone) report({ stage: "map" });
+  const shapes = isAlone ? shapesOf(text) : undefined;
   return { isAccepted: true, fingerprint: digest, text: new Blob([text]), size: text.length, shapes, notes };
 }
 
@@ -64,7 +64,7 @@ function areEqual(one, other) {
 async function compareTexts({ texts, most = MOST_LISTED }) {
   report({ stage: "comparing" });
   const [first, second] = await Promise.all(texts.map(async (text) => new Uint8Array(await text.arrayBuffer())));
-  if (areEqual(first, second)) return { areOneMap: true };
+  if (areEqual(first, second)) return { areOneMap: true, shapes: shapesOf(first) };
   const size = first.length + second.length;
   if (size > most) return { areOneMap: false, tooLarge: tooLarge(size, most) };
   const counties = [first, second].map((text) => readCounty(text));
