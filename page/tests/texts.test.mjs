@@ -5,8 +5,9 @@ import { test } from "node:test";
 import { engineBytes, example, take } from "./scripts.mjs";
 
 const { normalise } = await take("engine");
-const { compareCounties } = await take("matching");
-const { linesIn, NotCanonical, readCounty } = await take("records");
+const { compareCounties, turned } = await take("matching");
+const { eachPoint, position } = await take("points");
+const { County, linesIn, NotCanonical, readCounty } = await take("records");
 const { shapesOf } = await take("shapes");
 const { JOBS } = await take("worker");
 
@@ -34,12 +35,28 @@ test("a county is the same whatever the pieces are", () => {
   assert.ok(alike.isAlike);
 });
 
-test("each chain of a map has its name", () => {
-  const { titles, counts } = shapesOf(texts[0]);
+test("each chain of a map has its points and its name", () => {
+  const { titles, counts, chains } = shapesOf(texts[0]);
+  const points = readCounty(texts[0]).chains.map((chain) => eachPoint(chain.points).flatMap(position));
+  assert.deepEqual(points, points.map((_, chain) => [...chains.places.subarray(2 * chains.starts[chain], 2 * chains.starts[chain + 1])]));
   const names = lines.filter((line) => line[0] === "1").map((line) => line.slice(17, 55).trim().replace(/ +/g, " "));
   const found = [...titles.ofChains].map((title) => titles.all[title].replace(/ \(.*\)$/, ""));
   assert.equal(counts["1"], names.length);
   assert.deepEqual(found, names.map((name) => name || "unnamed"));
+});
+
+test("of chains with the same points the nearest are one that changed, and what is left is in one map alone", () => {
+  const { names, polygons, landmarks, chains } = readCounty(texts[0]);
+  const chain = turned(turned(chains.find(({ points, ranges }) => points.slice(0, 19) !== points.slice(-19) && !ranges.length)));
+  const other = (key, ranges) => ({ ...chain, key, ranges });
+  const [range] = chains.flatMap(({ ranges }) => ranges);
+  const both = [[chain, other("b", [range, range]), other("c", [range])], [other("d", [range, range, range])]].map((each) => new County(each, names, polygons, landmarks));
+  const found = ([one, two]) => {
+    const { first, second, changed, alike } = compareCounties(one, two).chains;
+    return [...[first, second].map((each) => each.map(({ key }) => key)), changed.map((pair) => pair.map(({ key }) => key)), alike.length];
+  };
+  assert.deepEqual(found(both), [[chain.key, "c"], [], [["b", "d"]], 0]);
+  assert.deepEqual(found(both.reverse()), [[], [chain.key, "c"], [["d", "b"]], 0]);
 });
 
 test("two texts that are too large for a list are compared, and the page says so", async () => {
