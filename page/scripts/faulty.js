@@ -1,4 +1,5 @@
 // What to show of a refused set: the faulty line with its field marked, or the records that a refusal of a county is about.
+import { groupedBy } from "./grouping.js";
 import { counted } from "./numbers.js";
 import { cenidText, placeOf } from "./refusals.js";
 import { HINTS, RECORD_TYPES, TYPES } from "./tables.js";
@@ -142,9 +143,7 @@ const labelOf = (fields) => fields.map((field) => `${field.name}, ${columnsOf(fi
 
 // The first of those that have one key in common.
 function repeated(found, key) {
-  const groups = new Map();
-  for (const each of found) groups.set(key(each), [...(groups.get(key(each)) ?? []), each]);
-  return ([...groups.values()].find((group) => group.length > 1) ?? found).slice(0, MOST_SHOWN);
+  return ([...groupedBy(found, key).values()].find((group) => group.length > 1) ?? found).slice(0, MOST_SHOWN);
 }
 
 // Chains that run between the same two points, of the pair of points that most chains have.

@@ -3,6 +3,7 @@
 // A field has a name, what it holds, and a kind: a text, a point, or a flag that something is there. Its text is what is read (plain),
 // the bytes (exact), and what is compared (mark).
 import { CHAIN, LANDMARK, NAME, POLYGON, RANGE, TOPOLOGY } from "./contents.js";
+import { groupedBy } from "./grouping.js";
 import { degrees, NO_POINT } from "./points.js";
 import { isBlank } from "./records.js";
 import { BLANK, NO, NONE, YES } from "./tables.js";
@@ -122,21 +123,13 @@ function aligned(first, second, mark) {
 
 // Pairs what has one key, as multisets, and returns the rest of both. Items without a key aren't paired.
 export function pairBy(first, second, key) {
-  const waiting = new Map();
-  second.forEach((item, place) => {
-    const its = key(item);
-    if (its === undefined) return;
-    if (!waiting.has(its)) waiting.set(its, []);
-    waiting.get(its).push(place);
-  });
-  for (const places of waiting.values()) places.reverse();
+  const waiting = groupedBy([...second.keys()].reverse(), (place) => key(second[place]));
+  waiting.delete(undefined);
   const taken = new Set();
   const pairs = [];
   const ones = first.filter((item) => {
-    const its = key(item);
-    const places = its === undefined ? undefined : waiting.get(its);
-    if (!places?.length) return true;
-    const place = places.pop();
+    const place = waiting.get(key(item))?.pop();
+    if (place === undefined) return true;
     taken.add(place);
     pairs.push([item, second[place]]);
     return false;

@@ -1,6 +1,7 @@
 // Reads the records that the engine prints: a county's chains, feature names, polygons and landmarks. The engine spells each number
 // and point in one way, so equal ones are equal strings.
 import { CHAIN, LANDMARK, NAME, POLYGON, RANGE, TOPOLOGY } from "./contents.js";
+import { groupedBy } from "./grouping.js";
 import { NO_POINT, POINT_WIDTH } from "./points.js";
 import { LENGTHS } from "./tables.js";
 
@@ -142,13 +143,7 @@ export function featsOf(line) {
 
 // The records of each chain, by its TLID, in the order of their RTSQs.
 function byChain(lines) {
-  const found = new Map();
-  for (const line of lines) {
-    const tlid = line.slice(5, 15);
-    const several = found.get(tlid);
-    if (several) several.push(line);
-    else found.set(tlid, [line]);
-  }
+  const found = groupedBy(lines, (line) => line.slice(5, 15));
   const sequence = (line) => Number(line.slice(15, 18));
   for (const several of found.values()) if (several.length > 1) several.sort((one, other) => sequence(one) - sequence(other));
   return found;

@@ -2,6 +2,7 @@
 // they number is the same in both.
 import { LANDMARK } from "./contents.js";
 import { chainTitle, landmarkTitle, pairBy } from "./fields.js";
+import { groupedBy } from "./grouping.js";
 import { degrees, eachPoint, NO_POINT } from "./points.js";
 import { isBlank } from "./records.js";
 import { phrase } from "./wording.js";
@@ -15,25 +16,14 @@ export function tiesAmong(tied) {
   const ties = [];
   for (const subject of SUBJECTS_OF_TIES) {
     const its = tied.filter((at) => at.subject === subject);
-    for (const isOneInFirst of [true, false]) {
-      for (const groups of grouped(its, isOneInFirst).values()) {
-        if (groups.size > 1) ties.push({ subject, isOneInFirst, groups: [...groups.values()] });
+    for (const [one, other] of [["first", "second"], ["second", "first"]]) {
+      for (const places of groupedBy(its, (at) => at[one]).values()) {
+        const groups = [...groupedBy(places, (at) => at[other]).values()];
+        if (groups.length > 1) ties.push({ subject, isOneInFirst: one === "first", groups });
       }
     }
   }
   return ties;
-}
-
-function grouped(tied, isOneInFirst) {
-  const found = new Map();
-  for (const at of tied) {
-    const [one, other] = isOneInFirst ? [at.first, at.second] : [at.second, at.first];
-    if (!found.has(one)) found.set(one, new Map());
-    const groups = found.get(one);
-    if (!groups.has(other)) groups.set(other, []);
-    groups.get(other).push(at);
-  }
-  return found;
 }
 
 // Calls `add` with the numbers that both maps have at a chain's places: the nodes at its ends, the polygons on sides with the same
