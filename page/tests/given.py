@@ -248,7 +248,9 @@ def try_one_after_another(page: Page) -> None:
     page.browser.drop([first])
     page.browser.wait_for(f"document.querySelector('.summary')?.innerText.includes(' of {MANY + 1:,} ')")
     page.equal("a county after many", ["first.txt"], [stem for stem in states(page) if "/" not in stem])
+    page.browser.drop([page.room / "many"])
     page.show([first])
+    page.equal("what was dropped before a new start", {}, states(page))
     page.browser.give([second])
     page.holds(
         "the differences of both", page.browser.wait_for("document.querySelector('.differences li')"), page.browser.text("main")
