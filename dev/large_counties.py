@@ -239,6 +239,16 @@ def with_ranges(*numbers: int) -> dict[str, Any]:
     return {"ranges": [{"FRADDL": f"{number:>11}", "FRIADDL": "1"} for number in numbers]}
 
 
+def with_parks(count: int, times: int) -> County:
+    """A street with a polygon and a landmark beside every tenth chain. One of these chains is there this many times."""
+    sides: list[dict[str, Any]] = [{"left": place // 10} if place % 10 == 0 else {} for place in range(count)]
+    places = [place for place in range(count) for _ in range(times if place == TIED_PLACE else 1)]
+    chains = [street_chain(place, place, place + 1, **sides[place], topology={"FILE": maps.FILE}) for place in places]
+    polygons = [maps.Polygon({"FILE": maps.FILE, "WATER": "0"}, (longitude(10 * it), int(LATITUDE))) for it in range(count // 10)]
+    parks = [maps.Landmark(landmark_fields("Park", it), polygons=[it]) for it in range(count // 10)]
+    return spelled(maps.County(chains, [], polygons, parks, outside=" " * 15))
+
+
 def hostile(count: int) -> dict[str, County]:
     """Counties made to be slow: seven chains of one shape, as above, with hundreds of names or ranges each, or with hundreds of landmarks
     beside them. Each of the 5,040 orders is compared by these."""

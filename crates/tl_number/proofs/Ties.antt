@@ -5,6 +5,7 @@ pub mod Places
 pub mod WantedMoves
 pub mod OrderedCounty
 pub mod KeyKinds
+pub mod StillKeys
 pub mod SearchSteps
 pub mod WantedNames
 pub mod ListsAlike

@@ -1,6 +1,6 @@
 -- The small county, which decides how choices compare: the chains at open places, the first fixed chain of each key that they have, and
--- all landmarks if some landmark has a polygon that first appears at an open place.
-use Rattle.std.specs.Prelude.{Bool, List, [], cond, filter, length, map, ℕ, ◌++◌, ◌||◌}
+-- all landmarks if open places can move polygons and some landmark has one that first appears at an open place.
+use Rattle.std.specs.Prelude.{Bool, List, [], cond, filter, length, map, ℕ, ◌&&◌, ◌++◌, ◌||◌}
 use Rattle.std.specs.List.{list_any, range_with_len}
 use Rattle.std.specs.Ordering.{nat_cmp}
 use Rattle.ordered_lists.specs.Orders.{contains}
@@ -15,6 +15,7 @@ use Rattle.record_groups.specs.Groups.{group_at, grouped}
 use Rattle.tl_number.specs.KeysAlong.{first_open, is_open, keys_along, open_among}
 use Rattle.tl_number.specs.CountyParts.{part_of}
 use Rattle.tl_number.specs.BroughtKeys.{brings}
+use Rattle.tl_number.specs.MovedKeys.{moves_keys}
 use Rattle.tl_number.specs.NamesAlong.{chain_feats}
 
 -- the keys of the chains at open places
@@ -26,9 +27,14 @@ keys_at_open keys county shapes =
 abbrev pub has_open_link : County → List PolygonKey → Bool
 has_open_link county opened = list_any (λ link. contains key_cmp (link_key link) opened) county.links
 
--- whether some landmark has a polygon that first appears at an open place
+-- whether open places can move polygons
+abbrev pub moves_polygons : County → OrderOfShapes → Bool
+moves_polygons county shapes = list_any (moves_keys key_cmp (keys_along chain_polygons county shapes.by_shape)) shapes.places
+
+-- whether they can, and some landmark has a polygon that first appears at one
 abbrev pub is_linked : County → OrderOfShapes → Bool
-is_linked county shapes = has_open_link county (first_open key_cmp shapes.places (keys_along chain_polygons county shapes.by_shape))
+is_linked county shapes = moves_polygons county shapes
+    && has_open_link county (first_open key_cmp shapes.places (keys_along chain_polygons county shapes.by_shape))
 
 -- The wanted keys, whose numbers can differ between choices: of chains at open places, and of landmarks if these are compared.
 abbrev pub wanted_nodes : County → OrderOfShapes → List ℕ

@@ -1,13 +1,14 @@
 //! The kept chains: comparing only them compares the choices of a county.
 //!
 //! Choices can differ at open places, and in the numbers of nodes, polygons and names that chains at open places have. These keys are
-//! wanted. The chains at open places are kept, and for each wanted key the first chain at a fixed place that has it. If some landmark has
-//! a polygon that first appears at an open place, the polygons of all landmarks are wanted too.
+//! wanted. The chains at open places are kept, and for each wanted key the first chain at a fixed place that has it. If open places can
+//! move polygons, and some landmark has one that first appears at an open place, the polygons of all landmarks are wanted too.
 
 ghost use Rattle.std.specs.List.{list_any};
 ghost use Rattle.std.specs.Prelude.{IfOk, OnOk, [], cond, length, ◌++◌, ◌+◌, ◌<◌, ◌||◌, ◌≡◌};
 ghost use Rattle.canonical_form.specs.DirectedChains.{HasChainsOf};
 ghost use Rattle.canonical_form.specs.Growth.{first_seen, first_seen_after};
+ghost use Rattle.canonical_form.specs.MovedChains.{AreWithin};
 ghost use Rattle.county_chart.specs.CountyRules.{chain_polygons};
 ghost use Rattle.county_chart.specs.PolygonKeys.{key_cmp};
 ghost use Rattle.ordered_lists.specs.Orders.{contains};
@@ -20,6 +21,7 @@ ghost use Rattle.tl_number.specs.SmallCounty.{is_kept, is_linked, kept_tlids};
 
 use crate::key_groups::{FeatKeys, NodeKeys, PolygonKeys};
 use crate::key_search::{KeySearch, search_place};
+use crate::moved_keys::any_moves_keys;
 use crate::open_keys::{has_key, is_open_at, keys_of, see_along};
 use arranged_county::{Interner, if_done};
 use county_chart::{Chart, DirectedChain, Listed, PolygonKey};
@@ -84,16 +86,22 @@ fn has_any(keys: &Interner<PolygonKey>, others: &[PolygonKey]) -> bool
     others.iter().any(|key| has_key(keys, *key))
 }
 
-/// Checks whether some landmark has a polygon that first appears at an open place.
+/// Checks whether open places can move polygons, and some landmark has one that first appears at an open place.
 fn has_open_links<C: Chart>(
     alloc: Global,
     chart: &C,
     shape_order: &ShapeOrder,
 ) -> Result<bool, AllocError>
+    requires { AreWithin (length shape_order.now.by_shape) shape_order.now.places }
     ensures { IfOk result (λ linked. linked ≡ is_linked (C.county chart.now) shape_order.now) }
 {
+    let places = shape_order.open_places();
     let polygons = PolygonKeys(chart, shape_order.by_shape());
-    let (_, opened) = see_along(alloc, shape_order.open_places(), &polygons)?;
+    let moves = any_moves_keys(alloc, places, &polygons)?;
+    if !moves {
+        return Ok(false);
+    }
+    let (_, opened) = see_along(alloc, places, &polygons)?;
     let links = linked_polygons(alloc, chart)?;
     Ok(has_any(&links, &opened))
 }

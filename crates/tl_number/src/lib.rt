@@ -18,6 +18,7 @@ mod key_groups;
 mod key_search;
 mod least_choice;
 mod masking;
+mod moved_keys;
 mod numbered_arrangement;
 mod open_keys;
 mod part_tables;

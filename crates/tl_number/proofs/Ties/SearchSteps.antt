@@ -1,5 +1,6 @@
 -- Finding the open keys and the kept chains, step by step.
-use Rattle.tl_number.proofs.Common.{Bool, Chain, County, Fields8, IsCounty, IsKeyOrder, IsPermutation, IsPermutation-map, IsPermutation-refl, IsSearchAt, List, OpenPlace, Option, OrderOfShapes, Ordering, PolygonKey, Some, [], among_any, among_known, any_among, ap, append-nil, append_assoc, ap₂, arith, at_places, brings, chain_polygons, cond, cons_option, contains, contains_alike, directed_chain, drop, drop_more, false, false≢true, filter, filter-append, first_open, first_seen, first_seen_after, fixed_keys, flat_map, from_first_seen, get_or, group_at, grouped, has_new, is_linked, is_open, key_cmp, key_keys, keys_along, keys_at_open, known_is_among, length, link_key, link_keys, links_at, list_any, lt-ltb, ltb-true, map, map-append, map-at_places, map-id, met_before, nat_lt, newly_seen, not, open_among, open_keys, option_to_list, permuted, range_with_len, refl, seen_append, slice_get, subst, sym, times, times-append, times-filter, times-permutation, to_first_seen, true, unwrap_or, unwrap_or-slice_get, ℕ, ◌&&◌, ◌++◌, ◌+◌, ◌<◌, ◌||◌, ◌∙◌, ◌∷◌, ◌≡◌}
+use Rattle.tl_number.specs.SmallCounty.{has_open_link}
+use Rattle.tl_number.proofs.Common.{Bool, Chain, County, Fields8, IsCounty, IsKeyOrder, IsPermutation, IsPermutation-map, IsPermutation-refl, IsSearchAt, List, OpenPlace, Option, OrderOfShapes, Ordering, PolygonKey, Some, [], among_any, among_known, any_among, ap, append-nil, append_assoc, ap₂, arith, at_places, brings, chain_polygons, cond, cons_option, contains, contains_alike, directed_chain, drop, drop_more, false, false≢true, filter, filter-append, first_open, first_seen, first_seen_after, fixed_keys, flat_map, from_first_seen, get_or, group_at, grouped, has_new, is_open, key_cmp, key_keys, keys_along, keys_at_open, known_is_among, length, link_key, link_keys, links_at, list_any, lt-ltb, ltb-true, map, map-append, map-at_places, map-id, met_before, nat_lt, newly_seen, not, open_among, open_keys, option_to_list, permuted, range_with_len, refl, seen_append, slice_get, subst, sym, times, times-append, times-filter, times-permutation, to_first_seen, true, unwrap_or, unwrap_or-slice_get, ℕ, ◌&&◌, ◌++◌, ◌+◌, ◌<◌, ◌||◌, ◌∙◌, ◌∷◌, ◌≡◌}
 use Rattle.tl_number.proofs.Ties.Keys.{fixed_more, groups_at, newly_append, seen_newly}
 use Rattle.tl_number.proofs.Ties.PartTables.{seen_known}
 use Rattle.std.proofs.lemmas.List.Elements.{filter_map-append}
@@ -196,10 +197,11 @@ any_mapped : {X Y : Type 0} (f : X → Y) (test : Y → Bool) (xs : List X) → 
 any_mapped f test [] = refl
 any_mapped f test (x ∷ xs) = ap (λ b. test (f x) || b) (any_mapped f test xs)
 
--- landmarks are compared if one of their polygons first appears at an open place
+-- whether one of the polygons of landmarks first appears at an open place
 pub linked_if_any : (county : County) (shapes : OrderOfShapes) (is : IsCounty county) (links opened : List PolygonKey)
     → links ≡ first_seen key_cmp (link_keys county) → opened ≡ first_open key_cmp shapes.places (keys_along chain_polygons county shapes.by_shape)
-    → list_any (λ k. contains key_cmp k links) opened ≡ is_linked county shapes
+    → list_any (λ k. contains key_cmp k links) opened
+    ≡ has_open_link county (first_open key_cmp shapes.places (keys_along chain_polygons county shapes.by_shape))
 linked_if_any county shapes is links opened seen first =
     let opens : List PolygonKey = first_open key_cmp shapes.places (keys_along chain_polygons county shapes.by_shape) in
     (λ i. list_any (λ k. contains key_cmp k (seen i)) (first i))

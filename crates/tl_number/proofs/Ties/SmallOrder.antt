@@ -1,9 +1,9 @@
 -- Two choices are in one order in a county and in its small county.
-use Rattle.tl_number.proofs.Common.{AllByRecursion, Among, Bool, County, DirectedChain, Eight, Equal, Fields8, Five, IsLeastBelow, IsPermutation-sym, IsShapeOrder, IsTotalOrder, Known, LeavesChoices, List, OrderOfShapes, PolygonKey, Two, [], all_weaker, along_shapes, among-map, among_any, among_known, ap, arranged, chain_polygons, choices, choices_cmp, cond, contains, counted_choices, directed_cmp, false, false_from_ne_true, false≢true, feats, first_open, groups_cmp, in_order, in_order-in_order, in_order-is_permutation, is_either_way, is_gt, is_kept, is_linked, is_open, kept_tlids, key_cmp, key_keys, keys_along, keys_at_open, known-left, known-right, link_key, lt-ltb, map, name_under, nat_cmp, nat_cmp_total, nat_keys, on_total, open_places, or_left, or_parts, or_right, ordering_then, packed, points_along, points_cmp, points_keys, polygon_under, polygons_along, refl, same_groups, slice_cmp, subst, sym, text_of, texts_in_order, then_total, times, true, type_2_by_chain, type_5_by_name, type_8_together, types_1_to_4_cmp, types_5_to_7_cmp, types_8_to_p_cmp, wanted_feats, wanted_nodes, wanted_polygons, ℕ, ◌+◌, ◌<◌, ◌∙◌, ◌≡◌}
+use Rattle.tl_number.proofs.Common.{AllByRecursion, Among, Bool, County, DirectedChain, Eight, Equal, Fields8, Five, IsLeastBelow, IsPermutation-sym, IsShapeOrder, IsTotalOrder, Known, LeavesChoices, List, OrderOfShapes, PolygonKey, Two, [], all_weaker, along_shapes, among-map, among_any, among_known, and_cases, ap, arranged, chain_polygons, choices, choices_cmp, cond, contains, counted_choices, directed_cmp, false, false_from_ne_true, false≢true, feats, first_open, groups_cmp, in_order, in_order-in_order, in_order-is_permutation, inl, inr, is_either_way, is_gt, is_kept, is_linked, is_open, kept_tlids, key_cmp, key_keys, keys_along, keys_at_open, known-left, known-right, link_key, lt-ltb, map, name_under, nat_cmp, nat_cmp_total, nat_keys, on_total, open_places, or_left, or_parts, or_right, ordering_then, packed, place_in, points_along, points_cmp, points_keys, polygon_under, polygons_along, refl, same_groups, slice_cmp, subst, sym, text_of, texts_in_order, then_total, times, true, type_2_by_chain, type_5_by_name, type_8_together, types_1_to_4_cmp, types_5_to_7_cmp, types_8_to_p_cmp, wanted_feats, wanted_nodes, wanted_polygons, ℕ, ◌+◌, ◌<◌, ◌∙◌, ◌≡◌, ◌⊎◌}
 use Rattle.record_groups.specs.TypeOneOrder.{ones_cmp}
 use Rattle.tl_number.specs.LeastOnes.{HaveLeast, HaveSameOnes}
 use Rattle.tl_number.proofs.Choices.LeastOnes.{by_ones}
-use Rattle.tl_number.proofs.Ties.KeyKinds.{AreSeenAlike, name_kind, node_kind, numbered_alike, opened_in, polygon_kind, polygon_number, seen_alike, unopened_stays}
+use Rattle.tl_number.proofs.Ties.KeyKinds.{AreSeenAlike, name_kind, node_kind, numbered_alike, opened_in, polygon_kind, polygon_number, seen_alike, seen_in, unopened_stays}
 use Rattle.tl_number.proofs.Ties.OrderedCounty.{IsKeptPart, OrderedCounty, arranges_in, choice, link_on_side, new_in, one_map, order_in, stated, whole_in}
 use Rattle.tl_number.proofs.Ties.SmallCounty.{small_chains, small_choices, small_is, small_leaves, small_within}
 use Rattle.tl_number.proofs.Ties.SmallKeys.{AreWanted, fours_small, topologies_small}
@@ -15,7 +15,8 @@ use Rattle.tl_number.proofs.Texts.SamePoints.{twos_of_numbers}
 use Rattle.tl_number.proofs.Ties.ListsAlike.{value_filtered}
 use Rattle.tl_number.proofs.Ties.Ranks.{reordered_all}
 use Rattle.tl_number.specs.CountyParts.{part_of}
-use Rattle.tl_number.specs.SmallCounty.{small_county}
+use Rattle.tl_number.proofs.Ties.StillKeys.{seen_still}
+use Rattle.tl_number.specs.SmallCounty.{has_open_link, moves_polygons, small_county}
 
 -- the chains in the directions of their shapes, put in order, their open places, and how many choices these leave
 abbrev pub own_order : County → OrderOfShapes
@@ -156,16 +157,23 @@ module _ (whole : OrderedCounty) (order : OrderOfShapes) (small_known : LeavesCh
       (subst (λ b. Known key_cmp (cond b (map link_key whole.county.links) []) (link_key link)) (sym linked)
       (among_known key_keys (link_key link) (map link_key whole.county.links) (among-map link_key link whole.county.links there))))
 
-  -- otherwise no link has a polygon that first appears at an open place, so that its number could differ
+  -- otherwise no link has a polygon whose number differs: open places move no polygons, or none that a link has first appears at one
   closed_links : is_linked whole.county whole.shapes ≡ false → (n k : ℕ) (link : Fields8) → Among link whole.county.links
       → polygon_number (new_in whole n) (link_key link) ≡ polygon_number (new_in whole k) (link_key link)
   closed_links unlinked n k link there =
-      let opened : List PolygonKey = first_open key_cmp whole.shapes.places (keys_along chain_polygons whole.county whole.shapes.by_shape) in
       let known = link_on_side whole.county whole.is whole.known.sides link there in
       polygon_kind.number_is whole n (link_key link) (polygon_kind.listed whole n (link_key link) known)
-      ∙ ap (λ p. 1 + p) (unopened_stays polygon_kind whole n k (link_key link) (false_from_ne_true (contains key_cmp (link_key link) opened)
-      (λ e. false≢true (sym unlinked ∙ among_any (λ (l : Fields8). contains key_cmp (link_key l) opened) link whole.county.links there e))))
+      ∙ ap (λ p. 1 + p) (stays (and_cases (moves_polygons whole.county whole.shapes) (has_open_link whole.county opened) unlinked))
       ∙ sym (polygon_kind.number_is whole k (link_key link) (polygon_kind.listed whole k (link_key link) known))
+    where
+      opened : List PolygonKey
+      opened = first_open key_cmp whole.shapes.places (keys_along chain_polygons whole.county whole.shapes.by_shape)
+
+      stays : (moves_polygons whole.county whole.shapes ≡ false) ⊎ (has_open_link whole.county opened ≡ false)
+          → place_in key_cmp (seen_in key_cmp chain_polygons whole n) (link_key link) ≡ place_in key_cmp (seen_in key_cmp chain_polygons whole k) (link_key link)
+      stays (inl still) = ap (λ keys. place_in key_cmp keys (link_key link)) (seen_still polygon_kind whole still n k)
+      stays (inr closed) = unopened_stays polygon_kind whole n k (link_key link) (false_from_ne_true (contains key_cmp (link_key link) opened)
+          (λ e. false≢true (sym closed ∙ among_any (λ (l : Fields8). contains key_cmp (link_key l) opened) link whole.county.links there e)))
 
   links_small : (n k : ℕ) → groups_cmp Eight (type_8_together (choice whole n)) (type_8_together (choice whole k))
       ≡ groups_cmp Eight (type_8_together (choice small n)) (type_8_together (choice small k))
