@@ -11,7 +11,7 @@ from pathlib import Path
 from typing import Callable, Iterable
 
 import pytest
-from dev.maps import Chain, County
+from dev.maps import Chain, County, turned
 from dev.random_counties import Maker, lines_of
 from dev.testing import LENGTHS, ROOT, Answer, await_that, run
 
@@ -83,12 +83,39 @@ def is_own_reverse(chain: Chain) -> bool:
     return chain.points == chain.points[::-1]
 
 
+def ties(county: County) -> list[list[Chain]]:
+    """The chains of each shape that several have, in one direction. Shapes that are their own reverse are left out."""
+    chains = [each if each.points < each.points[::-1] else turned(each) for each in county.chains if not is_own_reverse(each)]
+    shapes = [[each for each in chains if each.points == chain.points] for chain in chains]
+    return [shape for shape in shapes if len(shape) > 1]
+
+
+def contents(shape: Iterable[Chain]) -> int:
+    """How many contents the records of type 1 of chains have."""
+    return len({repr(sorted((name, value) for name, value in each.fields.items() if value)) for each in shape})
+
+
+def is_decided(shape: list[Chain]) -> bool:
+    """Whether records of type 1 decide the order of chains of one shape."""
+    return contents(shape) == len(shape)
+
+
+def has_one_side(shape: list[Chain], county: County) -> bool:
+    """Whether chains of one shape have one polygon on their left, with a landmark on it."""
+    sides = {each.left for each in shape}
+    return len(sides) == 1 and any(sides & {*each.polygons} for each in county.landmarks)
+
+
 HELD: dict[str, Callable[[County], object]] = {
     "two chains": lambda it: len(it.chains) == 2,
     "eighteen chains": lambda it: len(it.chains) == 18,
     "three equal chains": lambda it: repeats(it.chains) > 2,
     "three of one shape": lambda it: repeats(min(chain.points, chain.points[::-1]) for chain in it.chains) > 2,
     "equal chains that are their own reverse": lambda it: repeats(each for each in it.chains if is_own_reverse(each)) > 1,
+    "ties that type 1 decides at one shape and not at another": lambda it: {is_decided(each) for each in ties(it)} == {False, True},
+    "ties of which type 1 decides some": lambda it: any(1 < contents(each) < len(each) for each in ties(it)),
+    "ties between the same polygons, with a landmark": lambda it: any(has_one_side(each, it) for each in ties(it)),
+    "ties between other polygons": lambda it: any(len({(chain.left, chain.right) for chain in each}) > 1 for each in ties(it)),
     "a loop": lambda it: any(each.points[0] == each.points[-1] and not is_own_reverse(each) for each in it.chains),
     "one node at both ends": lambda it: any(each.start == each.end is not None for each in it.chains),
     "no node at an end": lambda it: any(each.start is None is not each.end for each in it.chains),
