@@ -101,9 +101,11 @@ def call(*words: object, env: Mapping[str, str] = {}, **options: Any) -> Ended:
     return end(begin(*words, program=start, env=env, **options))
 
 
-def shell(command: str, server: str = "") -> Ended:
-    """Runs a command of bash, which has `tigercanon-tools`, what else fakes/commands defines, and $REAL, the program."""
-    env = {"ROOT": str(ROOT), "PYTHON": sys.executable, "REAL": PROGRAM, "SERVER": server}
+def shell(command: str) -> Ended:
+    """Runs a command of bash, which has `tigercanon-tools`, what else fakes/commands defines, and $REAL, the program. Bash's pipes,
+    further streams and other modules need a start of Python."""
+    is_real = any(mark in command for mark in ("<(", "3<", "PYTHONPATH="))
+    env = {"ROOT": str(ROOT), "PYTHON": sys.executable, "REAL": PROGRAM, "SERVER": "" if is_real else server()}
     return end(begin("-c", f'. "$0"\n{command}', FAKES / "commands", program=["bash"], env=env))
 
 

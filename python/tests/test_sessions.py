@@ -5,7 +5,7 @@ from pathlib import Path
 
 import pytest
 from dev.sessions import Session, sessions_of
-from support import PACKAGE, built_program, left_behind, server, shell
+from support import PACKAGE, built_program, left_behind, shell
 
 SESSIONS = [session for file in sorted((PACKAGE / "tests/sessions").glob("*.txt")) for session in sessions_of(file)]
 
@@ -25,8 +25,7 @@ def test_session(room: Path, fake: Path, session: Session) -> None:
         built_program()
     for step in session.steps:
         before = files(room)
-        is_real = "<(" in step.command or "PYTHONPATH=" in step.command  # bash's pipes, and other modules, need a start of Python
-        ended = shell(step.command, "" if is_real else server())
+        ended = shell(step.command)
         fault = step.fault(ended.status, ended.out + ended.err, room)
         assert not fault, fault
         errors = [line for line in (ended.out + ended.err).splitlines() if line.startswith("tigercanon-tools")]
