@@ -127,6 +127,13 @@ def test_chains_of_one_shape() -> None:
     assert (comparison.chains.counts, comparison.ties) == ((0, 1, 0, 2), [])
 
 
+def test_places_of_a_landmark() -> None:
+    """Those of its polygons, if it has none of its own: the first, and how many more."""
+    county = two_sided(chain_between([(1, 1), (2, 5), (9, 9)]))
+    other = after(county, lambda county: county.landmarks.append(Landmark({"LANAME": "Park"}, None, [0, 1])))
+    assert f"  Park, at {EAST} and 1 more" in words_of(county, other).splitlines()
+
+
 def test_own_reverse() -> None:
     """A chain whose points are the same from both ends may be seen from either."""
     chain = chain_between([(1, 1), (2, 5), (1, 1)])
@@ -208,5 +215,9 @@ def test_ties(what: str, name: str, value: Any, told: str, place: str) -> None:
     other = after(one, lambda county: setattr(getattr(county, what)[1], name, value))
     for first, second, names in ((one, other, ("first", "second")), (other, one, ("second", "first"))):
         text, line = words_of(first, second), told.replace("the one", f"the {names[0]}").replace("the other", f"the {names[1]}")
-        assert compared(first, second).is_alike
+        comparison = compared(first, second)
+        assert comparison.is_alike
         assert [each for each in (TIED, line, place) if each not in text] == []
+        comparison.own = ({}, {})
+        (found,) = [found for _, found in features(comparison) if found["title"] == line.rstrip(":")]
+        assert (found["first_count"], found["second_count"]) == ((1, 2) if " in the first, 2" in line else (2, 1))
