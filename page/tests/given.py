@@ -239,10 +239,20 @@ def try_very_many(page: Page) -> None:
     page.holds("the page isn't frozen by a manifest", verified < SECONDS_FOR_MANY, f"{verified:.1f} s after {judged:.1f} s")
 
 
+SLOW_TO_BE_FOUND = """
+const { prototype } = FileSystemFileHandle, { getFile } = prototype;
+prototype.getFile = async function () {
+  if (this.name === "00000.txt") await new Promise((resume) => setTimeout(resume, 1000));
+  return getFile.call(this);
+};
+"""
+
+
 def try_one_after_another(page: Page) -> None:
     """A later county is shown later, however long the first one takes to be found."""
     first, second = EXAMPLES / "two-maps/first.txt", EXAMPLES / "two-maps/second.txt"
     prints = {path: page.printed("fingerprint", path) for path in (first, second)}
+    page.browser.driver.execute_script(SLOW_TO_BE_FOUND)
     page.browser.start_again()
     page.browser.drop([page.room / "many"])
     page.browser.drop([first])
