@@ -117,7 +117,9 @@ test("a file that can't be read is a county with a trouble", async () => {
 
 test("a record is known by its type and by what that type requires", async () => {
   assert.ok(isRecord(record) && isRecord(record.replace("+32464118", " 32464118")));
-  for (const line of ["", "1", `3${record.slice(1)}`, record.slice(0, 209), `${record.slice(0, 5)}          ${record.slice(15)}`, record.replace("-86477532", "x86477532")]) {
+  const numbered = (tlid) => `${record.slice(0, 5)}${tlid}${record.slice(15)}`;
+  assert.ok(isRecord(numbered("1         ")) && isRecord(numbered("         1")));
+  for (const line of [numbered("x        1"), numbered("1        x"), "", "1", `3${record.slice(1)}`, record.slice(0, 209), `${record.slice(0, 5)}          ${record.slice(15)}`, record.replace("-86477532", "x86477532")]) {
     assert.equal(isRecord(line), false, line);
   }
   const begins = async (file) => beginsWithRecord(file, await beginningOf(file));
