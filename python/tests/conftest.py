@@ -18,7 +18,7 @@ for number in (signal.SIGHUP, signal.SIGINT, signal.SIGQUIT):
 
 @pytest.fixture
 def room(tmp_path: Path, monkeypatch: pytest.MonkeyPatch) -> Path:
-    """A folder where the test runs. Temporary files go to its folders tmp and shm."""
+    """Makes a folder where the test runs. Temporary files go to its folders tmp and shm."""
     monkeypatch.chdir(tmp_path)
     monkeypatch.delenv("TIGERCANON", raising=False)
     monkeypatch.setenv("TIGERCANON_PAGE", str(FAKES / "page.html"))
@@ -30,14 +30,14 @@ def room(tmp_path: Path, monkeypatch: pytest.MonkeyPatch) -> Path:
 
 @pytest.fixture
 def program(room: Path, monkeypatch: pytest.MonkeyPatch) -> str:
-    """The program that ./tigercanon would run, or that TIGERCANON names."""
+    """Returns the program that ./tigercanon would run, or that TIGERCANON names."""
     monkeypatch.setenv("TIGERCANON", built_program())
     return built_program()
 
 
 @pytest.fixture
 def fake(room: Path, monkeypatch: pytest.MonkeyPatch) -> Path:
-    """A fake program, which notes its calls in the file `calls`."""
+    """Writes a fake program, which notes its calls in the file `calls`."""
     path = Path(shutil.copy(FAKES / "program", room))
     (room / "calls").touch()
     monkeypatch.setenv("TIGERCANON", str(path))
@@ -47,7 +47,7 @@ def fake(room: Path, monkeypatch: pytest.MonkeyPatch) -> Path:
 
 @pytest.fixture
 def four(room: Path, fake: Path) -> Four:
-    """Four counties for the fake program, with odd names, in the order of the manifest."""
+    """Writes four counties for the fake program, with odd names, in the order of the manifest."""
     counties = {f"in/{name}": f"county {name}\n".encode() for name in ("-d", "a a", "b", "c")}
     for stem, text in counties.items():
         complete(stem, text)

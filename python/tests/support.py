@@ -38,19 +38,19 @@ Four = dict[str, bytes]
 
 
 def built_program() -> str:
-    """The program that TIGERCANON names, or that ./tigercanon would run. The test is skipped if there is none."""
+    """Returns the program that TIGERCANON names, or that ./tigercanon would run. The test is skipped if there is none."""
     if not os.access(PROGRAM, os.X_OK):
         pytest.skip("there is no program of these sources: TIGERCANON can name another")
     return PROGRAM
 
 
 def digest(text: bytes, flags: str = "") -> str:
-    """The fingerprint that the fake program prints."""
+    """Returns the fingerprint that the fake program prints."""
     return hashlib.sha256((f"{flags} " if flags else "").encode() + text).hexdigest()
 
 
 def manifest(counties: Mapping[str, bytes], flags: str = "") -> str:
-    """The manifest of counties with these first files that the fake program leads to."""
+    """Returns the manifest of counties with these first files that the fake program leads to."""
     lines = [f"{digest(text, flags)}  {stem}\n" for stem, text in counties.items()]
     return "".join([f"{HEAD.strip()} {flags}".strip(), "\n", *lines])
 
@@ -80,7 +80,7 @@ def limit_files(size: int) -> Callable[[], None]:
 
 
 def environment(**more: str) -> dict[str, str]:
-    """Folders that PYTHONPATH names come before that of the package."""
+    """Lets folders that PYTHONPATH names come before the package's."""
     path = os.pathsep.join([*filter(None, [more.get("PYTHONPATH")]), str(PACKAGE)])
     return {**os.environ, "PYTHONDONTWRITEBYTECODE": "1", **more, "PYTHONPATH": path}
 
@@ -132,12 +132,12 @@ def kill_group(run: Process) -> None:
 
 
 def count_of_lines(name: str) -> int:
-    """The whole lines of a file, which may not be there yet."""
+    """Returns the whole lines of a file, which may not be there yet."""
     return Path(name).read_bytes().count(b"\n") if os.path.exists(name) else 0
 
 
 def listed(name: str) -> str:
-    """A manifest without the comments, which have the sizes and times of files. It may not be there yet."""
+    """Returns a manifest without the comments, which have the sizes and times of files. It may not be there yet."""
     lines = Path(name).read_text().splitlines(keepends=True) if os.path.exists(name) else []
     return "".join(line for number, line in enumerate(lines) if number == 0 or not line.startswith("# "))
 
@@ -151,7 +151,7 @@ def put(name: str | Path, text: bytes = b"") -> Path:
 
 
 def members(name: str, first: bytes) -> dict[str, bytes]:
-    """The nine files of a complete county. The fake program looks at the first alone."""
+    """Returns the nine files of a complete county. The fake program looks at the first alone."""
     return {f"{name}.RT{kind}": first if kind == "1" else b"x\n" for kind in TYPES}
 
 
@@ -161,7 +161,7 @@ def complete(stem: str, first: bytes) -> None:
 
 
 def packed(members: Mapping[str, bytes], method: int = zipfile.ZIP_DEFLATED) -> bytes:
-    """A zip with these files."""
+    """Returns a zip with these files."""
     file = io.BytesIO()
     with zipfile.ZipFile(file, "w", method) as archive:
         for name, text in members.items():
@@ -179,7 +179,7 @@ def zip_up(stem: str | Path, is_lower: bool = False) -> None:
 
 
 def processes() -> Iterator[tuple[int, int, bytes]]:
-    """The processes that haven't ended: the number of each, that of its parent, and its command line."""
+    """Yields the processes that haven't ended: the number of each, that of its parent, and its command line."""
     for status in Path("/proc").glob("[0-9]*/stat"):
         try:
             state, parent = status.read_text().rpartition(")")[2].split()[:2]
@@ -191,6 +191,6 @@ def processes() -> Iterator[tuple[int, int, bytes]]:
 
 
 def left_behind() -> list[str]:
-    """Temporary folders of runs, here and in memory."""
+    """Returns temporary folders of runs, here and in memory."""
     rooms = [Path(os.environ["TMPDIR"]), Path(os.environ["TIGERCANON_SHM"])]
     return [str(path) for room in rooms for path in room.glob("tigercanon-*")]

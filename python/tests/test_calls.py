@@ -80,19 +80,19 @@ def test_duplicates(room: Path) -> None:
 
 
 def at_work(program: Path) -> int:
-    """How many processes of the fake there are."""
+    """Returns how many processes of the fake there are."""
     return sum(bytes(program) in command and b"fingerprint" in command for _, _, command in processes())
 
 
 def closed_early(folder: str) -> None:
-    """The generator is closed before its end."""
+    """Closes the generator before its end."""
     call = tigercanon.manifest(folder, jobs=2)
     assert next(call).county == f"{folder}/quick"
     call.close()
 
 
 def ended_by_an_error(folder: str) -> None:
-    """An error ends the loop over it."""
+    """Ends the loop over it by an error."""
     with pytest.raises(RuntimeError):
         for _ in tigercanon.manifest(folder, output=f"{folder}.manifest", jobs=2):
             raise RuntimeError

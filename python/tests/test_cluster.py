@@ -32,8 +32,8 @@ BY_DASK = (*FINGERPRINT, *SCHEDULER)
 
 
 def made_counties() -> Iterator[tuple[str, dict[str, bytes]]]:
-    """Stems, and files by their types: each map in two spellings, and some in one. Each tenth county is refused, some are in a folder of
-    a folder, and some lack files."""
+    """Yields stems, and files by their types: each map in two spellings, and some in one. Each tenth county is refused, some
+    are in a folder of a folder, and some lack files."""
     refused = [*sorted((ROOT / "examples/refused").iterdir()), ROOT / "examples/broken.txt"]
     for number in range(COUNTIES):
         made = written(made_county(12, number // 2), number)
@@ -54,7 +54,8 @@ class Archive(NamedTuple):
 
 @pytest.fixture(scope="module")
 def expected(tmp_path_factory: pytest.TempPathFactory) -> Archive:
-    """What the program prints for each county alone, as single files. Each third one then becomes a zip, in which other types lie too."""
+    """Returns what the program prints for each county alone, as single files. Each third one then becomes a zip, in which other
+    types lie too."""
     made = Archive(tmp_path_factory.mktemp("archive"), ["# tigercanon form 1"], {})
     for stem, parts in sorted(made_counties()):
         files, number = made.folder / stem, int(stem[-5:])
@@ -83,7 +84,7 @@ def archive(room: Path, program: str, expected: Archive) -> Archive:
 
 @pytest.fixture
 def slow(room: Path, program: str, monkeypatch: pytest.MonkeyPatch) -> None:
-    """The program, which waits a moment before it answers. For some files it ends its parent, which is the worker. Workers that start
+    """Makes a program that waits a moment before it answers. For some files it ends its parent, which is the worker. Workers that start
     afterwards have it too."""
     monkeypatch.setenv("PROGRAM", program)
     monkeypatch.setenv("TIGERCANON", shutil.copy(FAKES / "slow", room))
@@ -95,7 +96,7 @@ def plain(reports: dict[str, str]) -> dict[str, str]:
 
 
 def assert_all_done(archive: Archive, killed: int = 0) -> None:
-    """The manifest is whole, and nothing is left behind; a killed worker's folder is removed by a later run."""
+    """Checks that the manifest is whole, and nothing is left behind; a killed worker's folder is removed by a later run."""
     assert listed("m").splitlines() == archive.lines
     if killed:
         assert len(left_behind()) <= killed
@@ -197,7 +198,7 @@ class Engine:
             return subprocess.Popen([sys.executable, *words], stdin=subprocess.DEVNULL, stdout=log, stderr=log, env=kept, **how)
 
     def worker_processes(self) -> list[int]:
-        """The processes that run tasks: the children of the workers' nannies."""
+        """Returns the processes that run tasks: the children of the workers' nannies."""
         nannies = [worker.pid for worker in self.workers]
         return [number for number, parent, command in processes() if parent in nannies and b"spawn_main" in command]
 
@@ -217,7 +218,7 @@ class TestDask:
 
     @pytest.fixture
     def run(self, archive: Archive, slow: None, engine: Engine) -> Process:
-        """A run that has done twenty counties."""
+        """Starts a run, and returns it when it has done twenty counties."""
         run = begin(*BY_DASK)
         assert await_that(lambda: count_of_lines("m") > 20)
         return run

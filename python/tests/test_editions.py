@@ -18,7 +18,7 @@ FAILED = "failed: the zip is cut off"
 
 
 def edition(name: str, *counties: tuple[str, object], flags: str = "") -> str:
-    """A manifest: of each county the number of its map, or why it has none."""
+    """Returns a manifest: of each county the number of its map, or why it has none."""
     lines = [f"# tigercanon form 1 {flags}".strip()]
     for stem, state in counties:
         lines.append(f"{state:064}  {stem}" if isinstance(state, int) else f"# 1 2006-01-01T00:00:00Z  {state}  {stem}")
@@ -26,7 +26,7 @@ def edition(name: str, *counties: tuple[str, object], flags: str = "") -> str:
 
 
 def histories(*states: dict[str, object]) -> dict[str, list[str]]:
-    """The steps of each county through editions 1, 2 and so on."""
+    """Returns the steps of each county through editions 1, 2 and so on."""
     names = [
         edition(str(place), *((f"{place}/{name}", state) for name, state in each.items())) for place, each in enumerate(states, 1)
     ]
@@ -175,7 +175,7 @@ COUNTS = '{"chain": [1, 2, 3000], "landmark": [4, 5, 6], "polygon": [7, 8, 9], "
 
 
 def page(old: int, new: int, end: str = "</html>\n") -> bytes:
-    """A page that shows two maps, as far as the index looks at it."""
+    """Returns a page that shows two maps, as far as the index looks at it."""
     fingerprints = f'"fingerprints": ["{old:064}", "{new:064}"], "counts": {COUNTS}'
     script = f'<script type="application/json" id="counties">{{{fingerprints}}}</script>'
     return f'<!DOCTYPE html><meta name="generator" content="tigercanon">{script}{end}'.encode()

@@ -19,7 +19,7 @@ SHOWN = [file_name("the county", kind) for kind in TYPES]
 
 @pytest.fixture(autouse=True)
 def county(room: Path) -> Path:
-    """Nine files, whose lines end with CR and LF."""
+    """Returns nine files, whose lines end with CR and LF."""
     for kind, file in zip(TYPES, FILES):
         put(file, b"".join(line + b"\r\n" for line in COUNTY.splitlines() if line[:1] == kind.encode()))
     return room

@@ -62,7 +62,7 @@ LINKS = ("its name", "another path", "a symbolic link", "a link to a link", "a h
 
 @pytest.fixture(autouse=True)
 def archive(room: Path, fake: Path, monkeypatch: pytest.MonkeyPatch) -> Path:
-    """The counties, which are empty files and zips, since an empty file could be taken for a manifest or a lock."""
+    """Returns the counties, which are empty files and zips, since an empty file could be taken for a manifest or a lock."""
     county = (ROOT / "examples/autauga/canonical.txt").read_bytes()
     for name in ("all.txt", *NINE, *MIXED):
         put(name)
@@ -76,12 +76,12 @@ def archive(room: Path, fake: Path, monkeypatch: pytest.MonkeyPatch) -> Path:
 
 
 def files(room: Path) -> dict[str, object]:
-    """All files and folders, without the notes of the fake program."""
+    """Returns all files and folders, without the notes of the fake program."""
     return {str(path): path.is_file() and path.read_bytes() for path in room.rglob("*") if path.name != "calls"}
 
 
 def output_by(link: str, file: str) -> str:
-    """A name of this kind that leads to a file."""
+    """Returns a name of this kind that leads to a file."""
     if link == "its name":
         return file
     if link == "another path":

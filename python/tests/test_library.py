@@ -30,7 +30,7 @@ pytestmark = pytest.mark.library
 
 @pytest.fixture(scope="module", autouse=True, name="library")
 def loaded() -> Iterator[Path]:
-    """The library that the variable names, or the last one built."""
+    """Yields the library that the variable names, or the last one built."""
     made = Path(os.environ.get(_library.VARIABLE, ROOT / "out/library/lib" / _library.NAME)).resolve()
     if not made.exists():
         pytest.skip(f"no {made}: scripts/build-library builds it")
@@ -40,7 +40,7 @@ def loaded() -> Iterator[Path]:
 
 
 def answer(words: list[str], files: dict[str, bytes]) -> Answer:
-    """What the program would answer to these words, by the module and with files in memory."""
+    """Returns what the program would answer to these words, by the module and with files in memory."""
     command, names, left_out = REFERENCE.plan(words)
     sets = [files[stem[0]] if len(stem) == 1 else [files.get(name, b"") for name in stem] for stem in names]
     masks = {mask[2:].replace("-", "_"): True for mask, fields in REFERENCE.MASKS.items() if fields[0] in left_out}

@@ -53,7 +53,7 @@ echoed: Callable[[Any], bytes] = tigercanon.respell
 
 
 def kinds(folder: Path) -> dict[str, Callable[[], Any]]:
-    """One part with the text, in each form that a part may have."""
+    """Returns one part with the text, in each form that a part may have."""
     path = put(folder / "part", TEXT)
     put(folder / "part.gz", gzip.compress(TEXT))
     put(folder / "members.zip", packed({"part": TEXT}))
@@ -293,13 +293,13 @@ def test_other_threads_run() -> None:
 
 @pytest.fixture
 def package(tmp_path: Path) -> Path:
-    """The package elsewhere, without a library."""
+    """Copies the package elsewhere, without a library."""
     shutil.copytree(ROOT / "python/tigercanon", tmp_path / "python/tigercanon")
     return tmp_path / "python"
 
 
 def respelled(package: Path, **more: object) -> Answer:
-    """What Python prints that loads the package from this folder."""
+    """Returns what Python prints that loads the package from this folder."""
     plain = {key: value for key, value in os.environ.items() if key not in ("LD_LIBRARY_PATH", _library.VARIABLE)}
     env = {**plain, "PYTHONPATH": package, "PYTHONDONTWRITEBYTECODE": "1", **more}
     words = "import tigercanon; print(tigercanon.FORM, flush=True); print(tigercanon.respell(b'x'))"

@@ -75,7 +75,7 @@ def test_a_stop_leaves_no_worker(number: signal.Signals, room: Path) -> None:
 
 
 def repeats(things: Iterable[object]) -> int:
-    """How many of the things are equal to one of them."""
+    """Returns how many of the things are equal to one of them."""
     return max(Counter(map(repr, things)).values(), default=0)
 
 

@@ -11,7 +11,7 @@ SESSIONS = [session for file in sorted((PACKAGE / "tests/sessions").glob("*.txt"
 
 
 def files(room: Path) -> dict[Path, object]:
-    """The files and folders of the test, without the notes of the fake program."""
+    """Returns the files and folders of the test, without the notes of the fake program."""
     return {path: path.is_file() and path.read_bytes() for path in room.rglob("*") if path != room / "calls"}
 
 

@@ -24,7 +24,7 @@ WANTED = manifest(COUNTIES)
 
 @pytest.fixture
 def archive(room: Path, fake: Path) -> Path:
-    """Ten counties: a zip for which the fake program waits as long as there is a file `waits`, and nine others."""
+    """Writes ten counties: a zip for which the fake program waits as long as there is a file `waits`, and nine others."""
     for stem, text in COUNTIES.items():
         complete(stem, text)
     zip_up("in/TGR0")
@@ -45,7 +45,7 @@ def assert_the_rest_is_done() -> None:
 
 
 def waiting(*words: str) -> Process:
-    """A run that waits for the zip, when all others are done."""
+    """Returns a run that waits for the zip, when all others are done."""
     put("waits")
     run = begin("fingerprint", *words, "-o", "m", "in")
     assert await_that(lambda: listed("m").count("\n") == 10)
@@ -159,7 +159,7 @@ def test_a_command_that_can_not_go_on(archive: Path) -> None:
 
 
 def rows_of(shown: bytes) -> list[str]:
-    """The rows of a terminal that was sent this: what comes after a CR stands over what was in the row."""
+    """Returns the rows of a terminal that was sent this: what comes after a CR stands over what was in the row."""
     rows = []
     for line in shown.decode().split("\n"):
         row = ""

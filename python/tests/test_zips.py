@@ -37,7 +37,7 @@ def with_large_end(text: bytes, count: int) -> bytes:
 
 
 def broken_zips() -> dict[str, tuple[bytes, str]]:
-    """Zips by their faults, and the expected reports."""
+    """Returns zips by their faults, and the expected reports."""
     good, (name, *_, last), size = packed(COUNTY), COUNTY, len(TEXT)
     # Where the header before a file starts, and its line in the directory.
     before, line = zipfile.ZipFile(io.BytesIO(good)).getinfo(name).header_offset, good.rindex(name.encode()) - 46

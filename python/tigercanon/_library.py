@@ -117,8 +117,9 @@ ADDRESS_OF_EMPTY = ctypes.addressof(EMPTY)  # the address of a part without byte
 
 
 def place_of_library() -> tuple[str, str]:
-    """The file that the variable names, else the one beside this package, else the library of the release or clone around it, else a name
-    that the system searches for. If a clone has no library that was made from its sources, there is no file, and the reason."""
+    """Returns the file that the variable names, else the one beside this package, else the library of the release or clone
+    around it, else a name that the system searches for. If a clone has no library that was made from its sources, there is no
+    file, and the reason."""
     package = Path(__file__).resolve().parent
     root = package.parent.parent
     places = [package, root / "lib"]
@@ -136,7 +137,7 @@ def place_of_library() -> tuple[str, str]:
 
 @functools.lru_cache(maxsize=None)
 def library() -> ctypes.CDLL:
-    """The library, which is loaded at the first call. Raises ImportError if it can't be loaded."""
+    """Returns the library, which is loaded at the first call. Raises ImportError if it can't be loaded."""
     place, why = place_of_library()
     if not place:
         raise ImportError(f"{why}: {ADVICE}")
@@ -201,7 +202,7 @@ def lent(parts: Set) -> Iterator[tuple[Any, int]]:
 
 
 def parts_of(parts: Set) -> Iterable[Any]:
-    """The parts of a set. A path leads to a file or a zip, or is the stem of a county's nine files. An absent file is empty."""
+    """Returns the parts of a set. A path leads to a file or a zip, or is the stem of a county's nine files. An absent file is empty."""
     if not isinstance(parts, (str, os.PathLike)):
         if lends_bytes(parts) or hasattr(parts, "read"):
             return [parts]
@@ -222,7 +223,7 @@ def parts_of(parts: Set) -> Iterable[Any]:
 
 
 def view_of(part: Any) -> memoryview:
-    """All bytes of a part. A file is read from its current position to its end. Raises BufferError if they aren't in one piece."""
+    """Returns all bytes of a part. A file is read from its current position to its end. Raises BufferError if they aren't in one piece."""
     if isinstance(part, (str, os.PathLike)):
         part = Path(part).read_bytes()
     elif hasattr(part, "read") and not lends_bytes(part):

@@ -44,7 +44,7 @@ def contents_of_file(path: str) -> list[bytes | bytearray]:
 
 
 def joined(pieces: Iterable[bytes]) -> bytearray:
-    """All of the pieces in one. Raises Unreadable if they are more than a county may have."""
+    """Returns all of the pieces in one. Raises Unreadable if they are more than a county may have."""
     text = bytearray()
     for piece in pieces:
         text += piece

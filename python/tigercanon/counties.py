@@ -33,11 +33,11 @@ class Finder:
         self.walked: set[str] = set()  # the folders of sources that have counties
 
     def all(self, sources: Iterable[str]) -> list[County]:
-        """The counties of all sources. One may be there several times."""
+        """Returns the counties of all sources. One may be there several times."""
         return [county for source in sources for county in self.of_source(source)]
 
     def once(self, counties: Iterable[County], is_known: Callable[[County], bool] = lambda _: False) -> tuple[list[County], int]:
-        """Of these counties those that aren't known, each once; and how many are known."""
+        """Returns the counties that aren't known, each once; and how many are known."""
         counted: dict[str, County] = {}
         places: dict[str, str] = {}
         known: set[str] = set()
@@ -54,11 +54,11 @@ class Finder:
         return list(counted.values()), len(known)
 
     def counties(self, sources: Iterable[str], is_known: Callable[[County], bool] = lambda _: False) -> tuple[list[County], int]:
-        """The counties of all sources that aren't known, each once; and how many are known."""
+        """Returns the counties of all sources that aren't known, each once; and how many are known."""
         return self.once(self.all(sources), is_known)
 
     def of_source(self, source: str) -> Iterator[County]:
-        """The counties of a source: a folder, the name of a county or of one of its files, or a glob. If a county's name
+        """Yields the counties of a source: a folder, the name of a county or of one of its files, or a glob. If a county's name
         looks like a glob, the name finds it too."""
         path = tidy(source) or ("/" if source.startswith("/") else "")
         try:
@@ -77,7 +77,7 @@ class Finder:
             yield County(source, trouble=f"can't be read: {reason(error)}")
 
     def below(self, folder: str, seen: set[str], walked: set[str]) -> Iterator[County]:
-        """The counties in a folder and in all folders below it. Notes the folders that it has listed."""
+        """Yields the counties in a folder and in all folders below it. Notes the folders that it has listed."""
         if real(folder or ".") in seen:
             return
         seen.add(real(folder or "."))
@@ -97,15 +97,15 @@ class Finder:
                 yield from self.below(joined(folder, entry.name), seen, walked)
 
     def entries_in(self, folder: str) -> list[Entry]:
-        """The entries of a folder without those that are left out."""
+        """Returns the entries of a folder without those that are left out."""
         return [entry for entry in self.entries(folder) if not (is_left_out(entry) or self.is_excluded(joined(folder, entry.name)))]
 
     def is_excluded(self, path: str) -> bool:
-        """Whether a glob excludes a path, or the name at its end."""
+        """Returns whether a glob excludes a path, or the name at its end."""
         return any(fnmatchcase(path, glob) or fnmatchcase(parted(path)[1], glob) for glob in self.excluded)
 
     def whole(self, folder: str, entry: Entry) -> Iterator[County]:
-        """The county of a file that is none of a county's nine, or nothing: then the file is noted as skipped, once."""
+        """Yields the county of a file that is none of a county's nine, or nothing: then the file is noted as skipped, once."""
         path = joined(folder, entry.name)
         if real(path) in self.own_files:
             return
@@ -116,7 +116,7 @@ class Finder:
             self.skipped.setdefault(real(path), path)
 
     def of_glob(self, pattern: str) -> Iterator[County]:
-        """The counties that a glob matches: folders with all that is in them, zips and files."""
+        """Yields the counties that a glob matches: folders with all that is in them, zips and files."""
         root, words = pattern, list[str]()
         while MAGIC.search(root):
             root, word = parted(root)
@@ -135,7 +135,7 @@ class Finder:
             yield County(pattern, trouble="no county matches this pattern", is_absent=True)
 
     def matches(self, folder: str, words: list[str]) -> Iterator[tuple[str, Entry]]:
-        """What a glob matches below a folder: the folder and the name in it. Two stars match any folders, and none."""
+        """Yields what a glob matches below a folder: the folder and the name in it. Two stars match any folders, and none."""
         word, rest = words[0], words[1:]
         if word == "**" and rest:
             yield from self.matches(folder, rest)
@@ -150,14 +150,15 @@ class Finder:
                     yield from self.matches(joined(folder, entry.name), rest)
 
     def has_walked(self, stem: str) -> bool:
-        """Whether a county of this name would have been found: its folder was listed, or isn't there any more below one that was."""
+        """Returns whether a county of this name would have been found: its folder was listed, or isn't there any more below one
+        that was."""
         folder = parted(stem)[0]
         while folder not in self.walked and folder and not (is_url(folder) or os.path.lexists(folder)):
             folder = parted(folder)[0]
         return folder in self.walked and not self.is_excluded(stem)
 
     def is_named(self, path: str) -> bool:
-        """Whether a path with the letters of a glob is the name of something that is there."""
+        """Returns whether a path with the letters of a glob is the name of something that is there."""
         folder, name = parted(path)
         try:
             return os.path.lexists(path) or folded(stem_of(name)) in names_among(self.by_key(folder).get(folded(stem_of(name)), []))
@@ -165,8 +166,9 @@ class Finder:
             return False
 
     def of_name(self, path: str, is_exact: bool = False) -> County:
-        """The county of this name, or the county that a file of this name belongs to. A county that isn't there may have been packed into
-        a zip, or written as one file with all records. An exact name of a zip isn't one of the single files beside it."""
+        """Returns the county of this name, or the county that a file of this name belongs to. A county that isn't there may
+        have been packed into a zip, or written as one file with all records. An exact name of a zip isn't one of the single
+        files beside it."""
         folder, name = parted(path)
         try:
             listed = self.listed_for(path, folder)
@@ -197,7 +199,7 @@ class Finder:
         return County(path, trouble=absent, is_absent=True)
 
     def listed_for(self, path: str, folder: str) -> list[Entry]:
-        """The entries among which a county of this name is: those of its folder, or, of a plain server of files, which can't list a
+        """Returns the entries among which a county of this name is: those of its folder, or, of a plain server of files, which can't list a
         folder, those of its names that are there. Raises what stands in the way, unless the folder isn't there."""
         try:
             listed = self.entries(folder)
@@ -209,7 +211,7 @@ class Finder:
 
 
 def keyed(listed: Iterable[Entry]) -> dict[str, list[Entry]]:
-    """The entries of a folder by their names without case and ending."""
+    """Returns the entries of a folder by their names without case and ending."""
     groups: dict[str, list[Entry]] = {}
     for entry in listed:
         groups.setdefault(key_of(entry.name), []).append(entry)
@@ -217,7 +219,7 @@ def keyed(listed: Iterable[Entry]) -> dict[str, list[Entry]]:
 
 
 def names_among(listed: Iterable[Entry]) -> dict[str, Names]:
-    """The counties in a folder with these entries, by their stems without case."""
+    """Returns the counties in a folder with these entries, by their stems without case."""
     grouped: dict[str, Names] = {}
     for entry in listed:
         if kind_of(entry.name) in KINDS and not entry.is_folder:
@@ -226,13 +228,13 @@ def names_among(listed: Iterable[Entry]) -> dict[str, Names]:
 
 
 def is_left_out(entry: Entry) -> bool:
-    """Whether an entry of a folder is a leftover of a Mac, or a hidden folder."""
+    """Returns whether an entry of a folder is a leftover of a Mac, or a hidden folder."""
     hidden = (".", "__MACOSX") if entry.is_folder else ("._", ".DS_Store")
     return entry.name.startswith(hidden)
 
 
 def ending_of(name: str) -> str:
-    """The ending that a skipped file is counted by."""
+    """Returns the ending that a skipped file is counted by."""
     return ".tar.gz" if name.lower().endswith(".tar.gz") else os.path.splitext(name)[1] or "without an ending"
 
 
@@ -260,7 +262,7 @@ def county_in(folder: str, entry: Entry, is_listed: bool = False) -> County | No
 
 
 def wholes_among(folder: str, listed: Iterable[Entry]) -> list[County]:
-    """The counties with all records in one file each. If some begin with a record, those."""
+    """Returns the counties with all records in one file each. If some begin with a record, those."""
     counties = [county for county in (county_in(folder, entry) for entry in listed if not entry.is_folder) if county]
     sure = (
         [county for county in counties if county.whole and is_record(first_line(county.whole.place))] if len(counties) > 1 else []
@@ -274,7 +276,7 @@ def placed(folder: str, entry: Entry) -> File:
 
 
 def whole_county(folder: str, entry: Entry) -> County:
-    """The county of one file with all records."""
+    """Returns the county of one file with all records."""
     path = joined(folder, entry.name)
     trouble = entry.trouble or ("its name has a line break in it" if "\n" in path else "")
     # The program would take /dev/stdin for another file.
@@ -282,7 +284,7 @@ def whole_county(folder: str, entry: Entry) -> County:
 
 
 def county_of(folder: str, names: Names) -> County:
-    """The county of files whose names differ only in their endings: the single files if there are any, else the zip."""
+    """Returns the county of files whose names differ only in their endings: the single files if there are any, else the zip."""
     kinds = [kind for kind in TYPES if kind in names]
     base = stem_of(names[kinds[0] if kinds else "ZIP"][0].name)
     stem = joined(folder, base)
@@ -305,14 +307,15 @@ def county_of(folder: str, names: Names) -> County:
 
 
 def doubles_among(counties: Sequence[County]) -> dict[str, str]:
-    """The names of files with all records, each with the zip or the single files of the same name in the same folder."""
+    """Returns the names of files with all records, each with the zip or the single files of the same name in the same folder."""
     places = {(parted(county.stem)[0], key_of(county.stem)): county.stem for county in counties if county.zip or county.files}
     pairs = [(county.stem, places.get((parted(county.stem)[0], key_of(county.stem)))) for county in counties if county.whole]
     return {stem: first for stem, first in pairs if first}
 
 
 def probed(path: str) -> list[Entry]:
-    """The files of a county at a URL that are there, each asked for by its name. Raises the first error of a server that doesn't answer."""
+    """Returns the files of a county at a URL that are there, each asked for by its name. Raises the first error of a server
+    that doesn't answer."""
     stem, there, troubles = stem_of(path), list[Entry](), list[Exception]()
     for name in dict.fromkeys((path, *(stem + ending for ending in (".ZIP", ".zip", *(f".RT{kind}" for kind in TYPES))))):
         try:

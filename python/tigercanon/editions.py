@@ -44,7 +44,7 @@ class History(NamedTuple):
         ]
 
     def step(self, place: int) -> str:
-        """How it changed between an edition and the one before: one of KINDS, or nothing if neither edition has it."""
+        """Returns how it changed between an edition and the one before: one of KINDS, or nothing if neither edition has it."""
         old, new = self.lines[place - 1 : place + 1]
         if old is None or new is None:
             return "added" if new else "removed" if old else ""
@@ -69,7 +69,7 @@ class History(NamedTuple):
         return ", ".join(filter(None, [self.words_for(place) for place in range(1, len(self.editions))]))
 
     def words_for(self, place: int) -> str:
-        """How it changed in an edition, in words; nothing if it is the same there, or still isn't there."""
+        """Returns how it changed in an edition, in words; nothing if it is the same there, or still isn't there."""
         edition, step, old = self.editions[place], self.step(place), self.lines[place - 1]
         number, before = self.maps[place], self.maps[:place]
         if number is not None and number in before and number != before[-1]:
@@ -101,8 +101,8 @@ class Group(NamedTuple):
 
 
 def editions_of(names: Sequence[str], folders: Sequence[str] = ()) -> list[Edition]:
-    """The editions in these manifests: one in each, or all of them in one, below a folder each. Raises Failure if there is only one, or
-    if their fingerprints can't be compared."""
+    """Returns the editions in these manifests: one in each, or all of them in one, below a folder each. Raises Failure if there
+    is only one, or if their fingerprints can't be compared."""
     manifests = [(name, *loaded(name)) for name in names]
     for name, flags, _ in manifests[1:]:
         if without_mark(flags) != without_mark(manifests[0][1]):
@@ -116,7 +116,7 @@ def editions_of(names: Sequence[str], folders: Sequence[str] = ()) -> list[Editi
 
 
 def parted(name: str, lines: list[Line], folders: Sequence[str]) -> list[Edition]:
-    """The editions of one manifest: the counties below each of the folders, or else below the folders where their names begin to
+    """Returns the editions of one manifest: the counties below each of the folders, or else below the folders where their names begin to
     differ."""
     roots = [folder.rstrip("/") for folder in folders]
     if not roots:
@@ -145,8 +145,8 @@ def by_key(name: str, lines: Iterable[Line]) -> Lines:
 
 
 def histories(editions: Sequence[Edition]) -> list[History]:
-    """The counties of all editions through these, in the order of their last names. A county that is gone and one that is new in the
-    same edition are one, renamed, if they have the same map."""
+    """Returns the counties of all editions through these, in the order of their last names. A county that is gone and one that
+    is new in the same edition are one, renamed, if they have the same map."""
     tracks: list[list[Line | None]] = []
     for place, edition in enumerate(editions):
         here = dict(edition.counties)
@@ -166,7 +166,7 @@ def histories(editions: Sequence[Edition]) -> list[History]:
 
 
 def groups_of(lines: Iterable[Line]) -> list[Group]:
-    """The counties that are the same map as another one, in groups."""
+    """Returns the counties that are the same map as another one, in groups."""
     groups: dict[str, list[str]] = {}
     for line in lines:
         if line.fingerprint:
@@ -175,10 +175,11 @@ def groups_of(lines: Iterable[Line]) -> list[Group]:
 
 
 def duplicates(manifest: Name) -> list[Group]:
-    """The counties of a manifest that are the same map as another one, in groups. Raises Failure."""
+    """Returns the counties of a manifest that are the same map as another one, in groups. Raises Failure."""
     return groups_of(loaded(os.fspath(manifest))[1])
 
 
 def changes(*manifests: Name, editions: Sequence[str] = ()) -> list[History]:
-    """The counties of several manifests, one for each edition, or of one with all editions, through these editions. Raises Failure."""
+    """Returns the counties of several manifests, one for each edition, or of one with all editions, through these editions.
+    Raises Failure."""
     return histories(editions_of([os.fspath(name) for name in manifests], editions))

@@ -39,7 +39,7 @@ class Engine:
         self.pool = ThreadPoolExecutor(jobs or len(os.sched_getaffinity(0)))
 
     def answers(self, counties: Sequence[County], order: Order) -> Iterator[Result]:
-        """The answers as they come. Counties that may not have fitted into memory are judged again, each alone. Raises Gone."""
+        """Yields the answers as they come. Counties that may not have fitted into memory are judged again, each alone. Raises Gone."""
         again: list[int] = []
         for result in self.first_answers(dict(enumerate(counties)), order):
             if result and result[1].kind is Kind.MEMORY:
@@ -90,7 +90,7 @@ class DaskEngine(Engine):
         return self.client.map(judge_on_a_worker, *arguments, key="tigercanon", pure=False)
 
     def answer(self, future: Any) -> Answer:
-        """The result of a task. A county isn't blamed for a worker that ended unless this also happens to the county alone."""
+        """Returns the result of a task. A county isn't blamed for a worker that ended unless this also happens to the county alone."""
         self.served_at = time.monotonic()
         try:
             kind, text, notes, faults = future.result()
@@ -122,8 +122,8 @@ class DaskEngine(Engine):
 
 
 def client_of(address: str, is_quiet: bool = False) -> Any:
-    """A client of a scheduler: at an address, which has a port, or at the one in a file that the scheduler has written. With is_quiet
-    Dask's log and all warnings of this process are turned off."""
+    """Returns a client of a scheduler: at an address, which has a port, or at the one in a file that the scheduler has written.
+    With is_quiet Dask's log and all warnings of this process are turned off."""
     try:
         import cloudpickle
         import distributed

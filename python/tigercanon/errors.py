@@ -13,12 +13,12 @@ class Unreadable(Exception):
 
 
 def printable(text: str) -> str:
-    """The text on one line: characters that can't be printed are escaped."""
+    """Returns the text on one line: characters that can't be printed are escaped."""
     return "".join(letter if letter.isprintable() else repr(letter)[1:-1] for letter in text)
 
 
 def reason(error: BaseException) -> str:
-    """What an error reports, on one line."""
+    """Returns what an error reports, on one line."""
     if isinstance(error, OSError) and error.strerror:
         return error.strerror
     return printable(" ".join(str(error).split())) or type(error).__name__

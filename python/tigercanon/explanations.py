@@ -36,12 +36,12 @@ def page() -> str:
 
 
 def sections(text: str) -> dict[int, str]:
-    """The sections of the refusals by their numbers, each with its heading."""
+    """Returns the sections of the refusals by their numbers, each with its heading."""
     return {int(section[1]): section[0] for section in re.finditer(r"(?ms)^### `refused (\d+) .*?(?=^#|\Z)", text)}
 
 
 def explained(line: str, text: str) -> list[str]:
-    """What the page has about a refusal, which may come after names and before notes. Raises Failure if the line has none."""
+    """Returns what the page has about a refusal, which may come after names and before notes. Raises Failure if the line has none."""
     known = sections(text)
     words = REFUSAL.fullmatch(bare(line))
     numbers = {name: int(number) for number, name, _ in SECTION.findall(text)}
@@ -56,7 +56,8 @@ def explained(line: str, text: str) -> list[str]:
 
 
 def places(meanings: list[str], given: list[str]) -> list[str]:
-    """The places of a refusal with their meanings: `part 1, line 201`, or `CENID 06001, POLYID 1`, with the CENID as in the file."""
+    """Returns the places of a refusal with their meanings: `part 1, line 201`, or `CENID 06001, POLYID 1`, with the CENID as in
+    the file."""
     shown = []
     for meaning, place in zip(meanings, given) if len(given) == len(meanings) else []:
         if meaning == "CENID" and re.fullmatch("[0-9A-Fa-f]{10}", place):
@@ -129,5 +130,5 @@ def found_there(name: str) -> County | None:
 
 
 def bare(line: str) -> str:
-    """A refusal without names before it and notes after it."""
+    """Returns a refusal without names before it and notes after it."""
     return re.sub(r"(?s).*\b(?=refused \d)|;.*", "", line).strip()

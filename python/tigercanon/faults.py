@@ -35,7 +35,7 @@ class Fault:
     example: str = ""
 
     def shown(self) -> list[str]:
-        """The place in words, the line with a mark below the field, and the fault."""
+        """Returns the place in words, the line with a mark below the field, and the fault."""
         if not self.line:
             return [f"{self.file}: {self.wrong}"]
         columns = f"columns {self.first} to {self.last}" if self.last > self.first else f"column {self.first}"
@@ -54,7 +54,7 @@ class Fault:
 
 
 def faults_of(refusal: str, files: Sequence[str], names: Sequence[str]) -> list[Fault]:
-    """The places of a refusal in the files of a set, which are shown under these names."""
+    """Returns the places of a refusal in the files of a set, which are shown under these names."""
     words = REFUSAL.fullmatch(refusal)
     if not words:
         return []
@@ -76,7 +76,7 @@ def faults_of(refusal: str, files: Sequence[str], names: Sequence[str]) -> list[
 
 
 def unreadable(file: str, is_first: bool) -> str:
-    """Why a file can't be read, if it can't. Only the first file of a set must exist."""
+    """Returns why a file can't be read, if it can't. Only the first file of a set must exist."""
     try:
         with open(file, "rb") as opened:
             while opened.read(1 << 20):
@@ -89,7 +89,7 @@ def unreadable(file: str, is_first: bool) -> str:
 
 
 def in_line(number: int, file: str, name: str, line: int, column: int = 1) -> Fault:
-    """The fault in a line: of its type, its length, a byte or a field."""
+    """Returns the fault in a line: of its type, its length, a byte or a field."""
     text, length = line_at(file, line)
     kind = text[:1].decode("latin-1")
     field = next((each for each in NUMBERS.get(kind, ()) if each.first == column), None) if number > 3 else None
@@ -113,7 +113,7 @@ def fault(name: str, line: int, text: bytes, first: int, last: int, kind: str, f
 
 
 def named(kind: str, column: int) -> str:
-    """The field of a column, if it has one."""
+    """Returns the field of a column, if it has one."""
     fields = [(field.first, field.last, f"{field.name} ({field.holds})") for field in NUMBERS.get(kind, ())]
     fields += [(field.first, field.last, f"{field.name} ({field.holds})") for field in TEXTS.get(kind, ())]
     return next((shown for first, last, shown in fields if first <= column <= last), "")
@@ -143,7 +143,7 @@ def wrong_in(field: Field, value: bytes) -> tuple[str, str]:
 
 
 def in_county(number: int, places: list[str], files: Sequence[str], names: Sequence[str]) -> Iterator[Fault]:
-    """The lines with the numbers that a refusal of a county names."""
+    """Yields the lines with the numbers that a refusal of a county names."""
     kind = RECORDS.get(number) or places[0]
     polygon = number in (18, 20, 23)
     name = "POLYID" if polygon else "LAND" if number == 19 else "FEAT" if number == 16 else "TLID"
@@ -160,7 +160,7 @@ def in_county(number: int, places: list[str], files: Sequence[str], names: Seque
 
 
 def lines_of(file: str, kind: str) -> Iterator[tuple[int, bytes]]:
-    """The lines of a record type with their numbers. A file that isn't there has none."""
+    """Yields the lines of a record type with their numbers. A file that isn't there has none."""
     try:
         with open(file, "rb") as opened:
             for number, text in enumerate(opened, 1):

@@ -63,7 +63,7 @@ def refuse_other_files(names: Iterable[str]) -> None:
 
 
 def what_begins(name: str) -> str:
-    """What a file is by its beginning: a county, a manifest, or a page that no command wrote. Nothing for any other file."""
+    """Returns what a file is by its beginning: a county, a manifest, or a page that no command wrote. Nothing for any other file."""
     with suppress(OSError, Unreadable):
         line = first_line(name)
         if is_record(line):
@@ -91,7 +91,7 @@ def path_of(name: str) -> str:
 
 
 def identity(file: Union[str, int]) -> Optional[Identity]:
-    """The device of a regular file and its number there. Nothing for anything else, or if the system doesn't say."""
+    """Returns the device of a regular file and its number there. Nothing for anything else, or if the system doesn't say."""
     with suppress(OSError, ValueError):
         status = os.stat(file)
         if stat.S_ISREG(status.st_mode):

@@ -140,7 +140,7 @@ class Source:
         return resources.run([program, job, *["--stem"] * self.is_stem, *flags, "--", self.place], memory, seconds)
 
     def complaint(self, ended: subprocess.CompletedProcess[bytes]) -> list[str]:
-        """The program's line, or how it ended; and a hint, if there is one."""
+        """Returns the program's line, or how it ended; and a hint, if there is one."""
         lines = ended.stderr.decode(errors="replace").strip().splitlines()
         if ended.returncode < 0:
             line = f"the program was ended by signal {-ended.returncode}"
@@ -192,8 +192,8 @@ def answer_of(source: Source, ended: subprocess.CompletedProcess[bytes], order: 
 
 
 def prepared(county: County, order: Order, notes: list[str], resources: Resources) -> Source:
-    """The set as the program reads it: the county's own files, links to them, copies, or what was in its zip. Notes which of the nine
-    files are missing, or which record types."""
+    """Returns the set as the program reads it: the county's own files, links to them, copies, or what was in its zip. Notes
+    which of the nine files are missing, or which record types."""
     if county.whole:
         return prepared_whole(county.stem, local(county.whole, resources), order, notes, resources)
     pieces: dict[str, Iterator[bytes]] = {}
@@ -224,7 +224,7 @@ def prepared(county: County, order: Order, notes: list[str], resources: Resource
 
 
 def prepared_whole(name: str, path: str, order: Order, notes: list[str], resources: Resources) -> Source:
-    """A file with all records as the program reads it: itself, a link, or a copy if gzip packed it."""
+    """Returns a file with all records as the program reads it: itself, a link, or a copy if gzip packed it."""
     if is_packed(path):
         path = copied(unpacked(path), os.path.getsize(path), resources, order)
     note_records(path, order, notes)
@@ -236,8 +236,8 @@ def prepared_whole(name: str, path: str, order: Order, notes: list[str], resourc
 
 
 def copied(pieces: Iterator[bytes], size: int, resources: Resources, order: Order) -> str:
-    """A temporary file with these bytes, which may be more than the size at which they are announced. Raises Unreadable if they are more
-    than the order allows."""
+    """Returns a temporary file with these bytes, which may be more than the size at which they are announced. Raises Unreadable
+    if they are more than the order allows."""
     place, left = resources.place(size), order.largest
     with open(place, "wb") as target:
         for piece in pieces:
@@ -248,7 +248,7 @@ def copied(pieces: Iterator[bytes], size: int, resources: Resources, order: Orde
 
 
 def is_plain(path: str) -> bool:
-    """Whether the program takes this name: it is UTF-8."""
+    """Returns whether the program takes this name: it is UTF-8."""
     try:
         return bool(path.encode())
     except UnicodeEncodeError:
@@ -256,7 +256,7 @@ def is_plain(path: str) -> bool:
 
 
 def local(file: File, resources: Resources) -> str:
-    """A file on this machine: itself, or a copy from a URL."""
+    """Returns a file on this machine: itself, or a copy from a URL."""
     if not is_url(file.place):
         return file.place
     place = resources.place(file.size or 0)
@@ -292,7 +292,7 @@ def note_records(path: str, order: Order, notes: list[str]) -> None:
 
 
 def types_missing(path: str) -> list[str]:
-    """The record types that a file has no line of."""
+    """Returns the record types that a file has no line of."""
     if os.path.getsize(path) == 0:
         return [*TYPES]
     with open(path, "rb") as file, mmap.mmap(file.fileno(), 0, access=mmap.ACCESS_READ) as text:

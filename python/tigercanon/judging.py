@@ -76,7 +76,7 @@ class Means:
         return ()
 
     def order(self, flags: tuple[str, ...], is_strict: bool, job: str) -> Order:
-        """How counties are judged. On a cluster the program need not be on this machine."""
+        """Returns how counties are judged. On a cluster the program need not be on this machine."""
         try:
             program = self.program if self.scheduler and self.program else self.found_program
         except Failure:
@@ -97,12 +97,12 @@ class Judging:
         self.gone, self.left = "", 0
 
     def inputs(self, counties: Iterable[County], *others: str) -> Inputs:
-        """The inputs: the files of these counties, those that are named beside them, and others."""
+        """Returns the inputs: the files of these counties, those that are named beside them, and others."""
         return self.resources.inputs([*(file.place for county in counties for file in county.places), *self.means.files, *others])
 
     def answers(self, counties: Sequence[County], flags: tuple[str, ...] = (), is_strict: bool = False) -> Numbered[Answer]:
-        """The number of each county and the answer for it, first for those that can't be judged. Raises Failure at once if there is no
-        program."""
+        """Returns the number of each county and the answer for it, first for those that can't be judged. Raises Failure at once
+        if there is no program."""
         is_any = any(not county.trouble for county in counties)
         return self.each_answer(counties, self.means.order(flags, is_strict, self.job) if is_any else None)
 
@@ -170,21 +170,21 @@ class Verification:
         self.unchanged = {number for number in range(len(self.lines)) if quick and self.is_unchanged(number)}
 
     def line_of(self, stem: str) -> Line | None:
-        """The line of a county, if the manifest has one."""
+        """Returns the line of a county, if the manifest has one."""
         return next((line for line, county in zip(self.lines, self.counties) if county.stem == stem), None)
 
     def is_noted(self, county: County) -> bool:
-        """Whether the manifest has a file with the line of the county beside it, whose map it has."""
+        """Returns whether the manifest has a file with the line of the county beside it, whose map it has."""
         first = self.firsts.get(county.stem)
         return first is not None and first.sources.endswith(f", {county.sources}")
 
     def is_unchanged(self, number: int) -> bool:
-        """Whether a county's files have the sizes and times that the manifest has, and so the same answer."""
+        """Returns whether a county's files have the sizes and times that the manifest has, and so the same answer."""
         line, county = self.lines[number], self.counties[number]
         return not county.trouble and line.is_lasting and bool(TELLING.fullmatch(line.sources)) and line.sources == county.sources
 
     def results(self) -> Numbered[Verified]:
-        """The counties with their numbers. Raises Failure at once if a source can't be read, or if there is no program."""
+        """Returns the counties with their numbers. Raises Failure at once if a source can't be read, or if there is no program."""
         if self.absent:
             raise Failure("; ".join(f"{county.stem}: {county.trouble}" for county in self.absent))
         self.judging.inputs([*self.counties, *self.new], self.manifest)
@@ -232,7 +232,7 @@ class Check:
         self.counties = sorted(self.finder.once(every)[0], key=lambda county: os.fsencode(county.stem))
 
     def results(self) -> Numbered[Checked]:
-        """The counties with their numbers. Raises Failure at once if there is no program."""
+        """Returns the counties with their numbers. Raises Failure at once if there is no program."""
         return each_as(self.checked, self.judging.answers(self.counties))
 
     def checked(self, number: int, answer: Answer) -> Checked:
@@ -241,7 +241,7 @@ class Check:
 
 
 def each_as(value: Callable[[int, Answer], T], answers: Numbered[Answer]) -> Numbered[T]:
-    """The value of each answer, with its number."""
+    """Yields the value of each answer, with its number."""
     with closing(answers):
         for number, answer in answers:
             yield number, value(number, answer)

@@ -12,30 +12,30 @@ COUNTY_FILE = re.compile(r"(?ais)(.+)\.(?:RT([0-9A-Z])|ZIP)")
 
 
 def file_name(stem: str, kind: str) -> str:
-    """The name of a stem's file of a record type, as the program reads it."""
+    """Returns the name of a stem's file of a record type, as the program reads it."""
     return f"{stem}.RT{kind}"
 
 
 def stem_of(path: str) -> str:
-    """The stem of a path: the name of a county's file or zip without its ending."""
+    """Returns the stem of a path: the name of a county's file or zip without its ending."""
     ending = COUNTY_FILE.fullmatch(path)
     return ending[1] if ending else path
 
 
 def kind_of(path: str) -> str:
-    """The record type of a file of records, ZIP for a zip, and nothing for another name."""
+    """Returns the record type of a file of records, ZIP for a zip, and nothing for another name."""
     ending = COUNTY_FILE.fullmatch(path)
     return (ending[2] or "ZIP").upper() if ending else ""
 
 
 def folded(path: str) -> str:
-    """A path that is the same for names that differ only in case."""
+    """Returns a path that is the same for names that differ only in case."""
     folder, slash, name = path.rpartition("/")
     return folder + slash + name.upper()
 
 
 def key_of(path: str) -> str:
-    """The name of a county without folder, case and ending, as another edition has it too."""
+    """Returns the name of a county without folder, case and ending, as another edition has it too."""
     name = path.rpartition("/")[2].upper()
     name = name[:-3] if name.endswith(".GZ") else name
     return stem_of(name) if kind_of(name) else os.path.splitext(name)[0]
@@ -54,7 +54,7 @@ class Field:
 
 
 def points(names: str, first: int, holds: str, is_required: bool = False) -> tuple[Field, Field]:
-    """A longitude of 10 columns and the latitude of 9 after it."""
+    """Returns a longitude of 10 columns and the latitude of 9 after it."""
     longitude, latitude = names.split()
     middle = first + 10
     return (
@@ -97,6 +97,6 @@ FILLED = {False: re.compile(rb" *[0-9]+ *"), True: re.compile(rb" *[+-]?[0-9]+ *
 
 
 def is_record(line: bytes) -> bool:
-    """Whether a line has the form of a record: a record type, and what that type requires in its numbers and coordinates."""
+    """Returns whether a line has the form of a record: a record type, and what that type requires in its numbers and coordinates."""
     required = [field for field in NUMBERS.get(line[:1].decode("latin-1"), ()) if field.is_required]
     return bool(required) and all(FILLED[field.is_point].fullmatch(line[field.first - 1 : field.last]) for field in required)

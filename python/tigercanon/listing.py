@@ -95,7 +95,7 @@ def table_of_counts(counts: Sequence[Counts]) -> Iterator[str]:
 
 
 def of_two(histories: Sequence[History]) -> Iterator[str]:
-    """A line for each county of two editions: how it changed, and its name in the later one."""
+    """Yields a line for each county of two editions: how it changed, and its name in the later one."""
     for each in histories:
         (step,), old = each.steps, each.lines[0]
         before = f"  was {old.stem}" if step == "renamed" and old else ""
@@ -103,7 +103,7 @@ def of_two(histories: Sequence[History]) -> Iterator[str]:
 
 
 def table(histories: Sequence[History]) -> Iterator[str]:
-    """A line for each county: the number of its map in each edition, and how it changed."""
+    """Yields a line for each county: the number of its map in each edition, and how it changed."""
     if not histories:
         return
     rows = [("county", histories[0].editions, "")]
@@ -119,7 +119,7 @@ def table(histories: Sequence[History]) -> Iterator[str]:
 
 
 def row_of(each: History) -> dict[str, Any]:
-    """A county in JSON."""
+    """Returns a county in JSON."""
     present = [(edition, line, number) for edition, line, number in zip(each.editions, each.lines, each.maps) if line]
     return {
         "county": each.county,
@@ -138,7 +138,7 @@ def row_of(each: History) -> dict[str, Any]:
 
 
 def report_counts(histories: Sequence[History], console: Console) -> None:
-    """How many counties there are of each kind, in each edition after the first."""
+    """Reports how many counties there are of each kind, in each edition after the first."""
     editions = histories[0].editions if histories else ()
     for place, edition in enumerate(editions[1:], 1):
         counts = Counter(each.step(place) for each in histories)

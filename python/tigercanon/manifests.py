@@ -43,7 +43,7 @@ PATIENCE_FOR_LOCK = 0.2
 
 
 def flags_of(options: argparse.Namespace) -> Flags:
-    """The flags of a command line that leave fields out, in one order."""
+    """Returns the flags of a command line that leave fields out, in one order."""
     return tuple(flag for flag in FLAGS if getattr(options, flag[2:].replace("-", "_")))
 
 
@@ -52,7 +52,7 @@ def heading(flags: Sequence[str]) -> str:
 
 
 def without_mark(flags: Flags | None) -> Flags:
-    """The flags that leave fields out, without the mark of an unproved program."""
+    """Returns the flags that leave fields out, without the mark of an unproved program."""
     return tuple(flag for flag in flags or () if flag != UNPROVED)
 
 
@@ -92,7 +92,8 @@ class Line(NamedTuple):
 
 
 def text_of(name: str, is_written: bool = False) -> bytes:
-    """The text of a manifest: a file, a pipe, or what is behind - on standard input. One that is written to is a file. Raises Failure."""
+    """Returns the text of a manifest: a file, a pipe, or what is behind - on standard input. One that is written to is a file.
+    Raises Failure."""
     if name == "-" and not is_written:
         return sys.stdin.buffer.read()
     try:
@@ -105,8 +106,9 @@ def text_of(name: str, is_written: bool = False) -> bytes:
 
 
 def parsed(name: str, is_written: bool = False) -> tuple[Flags | None, list[Line], bytes]:
-    """The flags of a manifest, or None if it has no whole line, its counties, and the part of a line that an interrupted run has left
-    at its end. Of several lines for a county the last one counts. Raises Failure if it is another file."""
+    """Returns the flags of a manifest, or None if it has no whole line, its counties, and the part of a line that an
+    interrupted run has left at its end. Of several lines for a county the last one counts. Raises Failure if it is another
+    file."""
     *whole, rest = text_of(name, is_written).split(b"\n")
     if whole and all(line.endswith(b"\r") for line in whole):
         whole = [line[:-1] for line in whole]
@@ -138,7 +140,7 @@ def parsed(name: str, is_written: bool = False) -> tuple[Flags | None, list[Line
 
 
 def parsed_line(text: bytes) -> Line | None:
-    """A line of a manifest: a county, or a comment with the sources of one. Nothing for any other line."""
+    """Returns a line of a manifest: a county, or a comment with the sources of one. Nothing for any other line."""
     line, comment = LINE.fullmatch(text), COMMENT.fullmatch(text)
     if line:
         return Line(line[1].decode().lower(), os.fsdecode(line[2]))
@@ -146,14 +148,14 @@ def parsed_line(text: bytes) -> Line | None:
 
 
 def names_in(name: str) -> set[str]:
-    """The names of the counties that a manifest lists, folded; none if it can't be read as one."""
+    """Returns the names of the counties that a manifest lists, folded; none if it can't be read as one."""
     with suppress(Failure):
         return {folded(tidy(line.stem)) for line in parsed(name, is_written=True)[1]} if os.path.isfile(name) else set()
     return set()
 
 
 def is_other_file(stem: str) -> bool:
-    """Whether a name belongs to a file whose hash isn't a fingerprint: one of a county's nine, a zip, or one without records."""
+    """Returns whether a name belongs to a file whose hash isn't a fingerprint: one of a county's nine, a zip, or one without records."""
     if kind_of(stem):
         return True
     folder, base = parted(stem)
@@ -161,7 +163,8 @@ def is_other_file(stem: str) -> bool:
 
 
 def loaded(name: str) -> tuple[Flags | None, list[Line]]:
-    """The flags and the counties of a whole manifest, with at least one county. Those that were refused are among them. Raises Failure."""
+    """Returns the flags and the counties of a whole manifest, with at least one county. Those that were refused are among them.
+    Raises Failure."""
     flags, lines, rest = parsed(name)
     if rest:
         why = "let the run that writes it finish first, or add the line ending if the line is whole"
@@ -227,7 +230,7 @@ class Manifest:
 
 @contextmanager
 def written(name: str, flags: Flags, inputs: Inputs, resources: Resources) -> Iterator[Manifest]:
-    """A manifest to write to. No other run writes to it meanwhile. Raises Failure if it or its lock is an input."""
+    """Opens a manifest to write to. No other run writes to it meanwhile. Raises Failure if it or its lock is an input."""
     inputs.spare_all([name, f"{name}.lock"])
     inputs.spare(f"{name}.lock", lock_of(name))
     resources.inputs([name])  # it is read too, so nothing is printed to it

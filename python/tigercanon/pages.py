@@ -192,7 +192,7 @@ class Pages:
 
 
 def index(folder: Path, changes: Sequence[Change], reasons: dict[str, str]) -> Iterator[str]:
-    """The page with a line for each change: the counts, and a link to the page."""
+    """Yields the page with a line for each change: the counts, and a link to the page."""
     yield HEAD
     yield ABOUT % f"{len(changes):,} change{'' if len(changes) == 1 else 's'}"
     heads = "".join(f"<th>{subject}s</th>" for subject in SUBJECTS)
@@ -216,6 +216,6 @@ def index(folder: Path, changes: Sequence[Change], reasons: dict[str, str]) -> I
 
 
 def other_pages(folder: Path, changes: Sequence[Change]) -> list[str]:
-    """The names of pages in a folder that an earlier run has written for other changes."""
+    """Returns the names of pages in a folder that an earlier run has written for other changes."""
     names = {page.name for page in folder.glob("*.html") if page.is_file() and is_own_page(str(page))}
     return sorted(names - {"index.html", *(change.page for change in changes)})

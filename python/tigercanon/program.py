@@ -22,8 +22,9 @@ TUNABLES = "glibc.malloc.hugetlb=1:glibc.malloc.mmap_threshold=8589934592:glibc.
 
 
 def find_program(named: Optional[Name] = None) -> str:
-    """The program that the option or the variable names, else that of the clone or release, else the one beside this package or on the
-    PATH. In a clone it is the one that ./tigercanon runs. The current folder isn't searched. Raises Failure if there is none."""
+    """Returns the program that the option or the variable names, else that of the clone or release, else the one beside this
+    package or on the PATH. In a clone it is the one that ./tigercanon runs. The current folder isn't searched. Raises Failure
+    if there is none."""
     given, root = os.fspath(named) if named else os.environ.get(VARIABLE), PACKAGE.parent.parent
     if given:
         return checked(given)
@@ -52,13 +53,13 @@ def program_of_clone(root: Path) -> str:
 
 
 def on_path(name: str) -> str | None:
-    """A program in the folders of the PATH, or at a path. The current folder and those below it are left out of the PATH."""
+    """Returns a program in the folders of the PATH, or at a path. The current folder and those below it are left out of the PATH."""
     folders = os.pathsep.join(filter(os.path.isabs, os.environ.get("PATH", os.defpath).split(os.pathsep)))
     return shutil.which(name, path=folders) if "/" in name or folders else None
 
 
 def checked(name: str) -> str:
-    """The program's path, if it runs."""
+    """Returns the program's path, if it runs."""
     path = on_path(name)
     if path is None:
         why = "it isn't executable" if os.path.exists(name) else "no such file"
@@ -79,7 +80,7 @@ def run_once(path: str) -> None:
 
 
 def is_unproved(path: str) -> bool:
-    """Whether the program was compiled without a proof: its version ends with that word."""
+    """Returns whether the program was compiled without a proof: its version ends with that word."""
     try:
         ended = subprocess.run([path, "--version"], stdin=subprocess.DEVNULL, stdout=subprocess.DEVNULL, stderr=subprocess.PIPE)
     except OSError:

@@ -36,12 +36,12 @@ def print_bytes(text: bytes) -> None:
 
 
 def as_json(row: Any) -> str:
-    """A value as JSON, on one line."""
+    """Returns a value as JSON, on one line."""
     return json.dumps(row, ensure_ascii=True)
 
 
 def amount(count: int) -> str:
-    """A number of bytes in the largest unit that it fills."""
+    """Returns a number of bytes in the largest unit that it fills."""
     for unit, size in (("GB", 10**9), ("MB", 10**6), ("kB", 10**3)):
         if count >= size:
             return f"{count / size:,.1f} {unit}"
@@ -49,7 +49,7 @@ def amount(count: int) -> str:
 
 
 def duration(seconds: float) -> str:
-    """A time in hours, minutes and seconds, without seconds if it has hours."""
+    """Returns a time in hours, minutes and seconds, without seconds if it has hours."""
     whole = int(seconds + 0.5)
     if whole >= 3600:
         return f"{whole // 3600} h {whole // 60 % 60} min"
@@ -82,19 +82,19 @@ class Tally:
         return self.ended - sum(self.refused.values()) - self.failed - self.doubles
 
     def start(self, counties: int, bytes_in_all: int) -> None:
-        """All counties are found."""
+        """Notes that all counties are found."""
         self.counties, self.bytes_in_all = counties, bytes_in_all
 
     def end(self, size: int) -> None:
-        """A county is done."""
+        """Notes that a county is done."""
         self.ended += 1
         self.bytes += size
 
     def look(self) -> None:
-        """A moment has passed."""
+        """Notes that a moment has passed."""
 
     def close(self) -> None:
-        """All counties are done."""
+        """Notes that all counties are done."""
 
 
 class Console:
@@ -158,7 +158,7 @@ class Progress(Tally):
             self.console.report(self.line(self.reported_at - self.started))
 
     def line(self, took: float) -> str:
-        """How far the run has come, at what rate, and how long the rest will take at this rate."""
+        """Returns how far the run has come, at what rate, and how long the rest will take at this rate."""
         words = [self.how_far]
         if not self.bytes_in_all:
             rest = took * (self.counties - self.ended) / self.ended if self.ended else 0

@@ -49,7 +49,7 @@ class Resources:
         self.parts: list[Resources] = []
 
     def part(self) -> Resources:
-        """The resources of a part of the work, which ends earlier."""
+        """Returns the resources of a part of the work, which ends earlier."""
         return Resources(self.prints, self)
 
     def __enter__(self) -> Resources:
@@ -102,7 +102,7 @@ class Resources:
         return subprocess.CompletedProcess(words, child.returncode, out, err)
 
     def place(self, size: int) -> str:
-        """A name in a temporary folder, which is in memory if this many bytes fit there, else where TMPDIR says."""
+        """Returns a name in a temporary folder, which is in memory if this many bytes fit there, else where TMPDIR says."""
         room, fits = os.environ.get(VARIABLE, IN_MEMORY), False
         with suppress(OSError):
             fits = bool(room) and shutil.disk_usage(room).free >= size + SPARE
@@ -110,13 +110,13 @@ class Resources:
         return f"{self.keep(temporary_folder(self.room))}/{COUNTY}"
 
     def inputs(self, names: Iterable[str]) -> Inputs:
-        """Files that are read. Raises Failure if a command prints to one of them."""
+        """Notes files that are read. Raises Failure if a command prints to one of them."""
         return Inputs(names, STREAMS if self.prints else {})
 
 
 @contextmanager
 def started(words: Sequence[str]) -> Iterator[subprocess.Popen[bytes]]:
-    """A process, which is ended if it still runs."""
+    """Starts a process, which is ended if it still runs."""
     pipe, nothing, environment = subprocess.PIPE, subprocess.DEVNULL, {"GLIBC_TUNABLES": TUNABLES, **os.environ}
     child = subprocess.Popen(words, stdin=nothing, stdout=pipe, stderr=pipe, env=environment, start_new_session=True)
     try:
@@ -127,7 +127,7 @@ def started(words: Sequence[str]) -> Iterator[subprocess.Popen[bytes]]:
 
 @contextmanager
 def temporary_folder(room: str) -> Iterator[str]:
-    """A folder that this run holds, and removes."""
+    """Makes a folder that this run holds, and removes it at the end."""
     folder = tempfile.mkdtemp(SUFFIX, PREFIX, room)
     try:
         with locked(folder, fcntl.LOCK_EX):
@@ -145,7 +145,7 @@ def kill(child: subprocess.Popen[bytes]) -> None:
 
 @contextmanager
 def locked(folder: str, how: int) -> Iterator[None]:
-    """While a folder is locked, no other run removes it."""
+    """Locks a folder: meanwhile no other run removes it."""
     handle = os.open(folder, os.O_RDONLY | os.O_DIRECTORY | os.O_NOFOLLOW)
     try:
         fcntl.flock(handle, how)
@@ -230,7 +230,7 @@ class NewFile:
             self.file.write(text)
 
     def finish(self) -> None:
-        """All of the text is on the disk from now on."""
+        """Puts all of the text on the disk."""
         with reported(self.name):
             self.file.flush()
             if self.mode is not None:
@@ -239,7 +239,7 @@ class NewFile:
             self.file.close()
 
     def take_place(self) -> None:
-        """The place may lead to another file than in the beginning."""
+        """Takes the place, which may lead to another file than in the beginning."""
         self.inputs.spare(self.name, self.place)
         with reported(self.name):
             os.replace(self.path, self.place)
@@ -247,7 +247,7 @@ class NewFile:
 
 @contextmanager
 def new_files(names: Iterable[str], inputs: Inputs, resources: Resources, is_forced: bool = False) -> Iterator[dict[str, NewFile]]:
-    """Files to be written, by their names, which they get when all are whole, and have the modes of the files
+    """Makes files to be written, by their names, which they get when all are whole, and have the modes of the files
     before them. If anything goes wrong, a signal for example, there are none of them, and what had these names is as it was. Raises
     Failure if one of them is an input, or, unless it is forced, another file than these commands write."""
     with resources.part() as part:

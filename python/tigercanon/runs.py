@@ -126,7 +126,7 @@ def verify(options: argparse.Namespace, console: Console, resources: Resources) 
 
 
 def verdict_of(each: Verified) -> str:
-    """The line of a county, with the reason if the verdict alone doesn't tell it."""
+    """Returns the line of a county, with the reason if the verdict alone doesn't tell it."""
     is_clear = each.verdict in ("OK", "MISSING", "NEW", "ACCEPTED")
     return f"{each.county}: {each.verdict}{'' if is_clear or not each.remarks else f' ({each.remarks})'}"
 
@@ -152,19 +152,19 @@ def check(options: argparse.Namespace, console: Console, resources: Resources) -
 
 
 def shown(each: Checked) -> list[str]:
-    """What is wrong with a county, and where."""
+    """Returns what is wrong with a county, and where."""
     places = [f"    {line}" for fault in each.faults for line in fault.shown()]
     return [f"{each.county}: {each.reason or 'accepted'}", *places]
 
 
 def row_of(each: Checked) -> dict[str, Any]:
-    """A county in JSON."""
+    """Returns a county in JSON."""
     faults = [asdict(fault) for fault in each.faults]
     return {"county": each.county, "accepted": not each.reason, "reason": each.reason, "notes": list(each.notes), "faults": faults}
 
 
 def table_of(progress: Progress) -> list[str]:
-    """How many counties were accepted, and how many of each refusal there are."""
+    """Returns how many counties were accepted, and how many of each refusal there are."""
     refused = {f"refused {rule}": count for rule, count in progress.refused.most_common()}
     counts = {"accepted": progress.accepted, **refused, "failed": progress.failed}
     table = [(f"{count:,}", what) for what, count in counts.items() if count]

@@ -46,18 +46,18 @@ def is_url(path: str) -> bool:
 
 
 def joined(folder: str, name: str) -> str:
-    """The path of a name in a folder. The empty folder is the current one."""
+    """Returns the path of a name in a folder. The empty folder is the current one."""
     return f"{folder}{'' if not folder or folder.endswith('/') else '/'}{name}"
 
 
 def parted(path: str) -> tuple[str, str]:
-    """The folder of a path and the name in it: the inverse of `joined`."""
+    """Returns the folder of a path and the name in it: the inverse of `joined`."""
     folder, slash, name = path.rpartition("/")
     return (folder + slash if not folder or folder.endswith((":/", "://")) else folder), name
 
 
 def tidy(path: str) -> str:
-    """The path without `.`, empty parts and a slash at the end, so that one file has one name in a manifest."""
+    """Returns the path without `.`, empty parts and a slash at the end, so that one file has one name in a manifest."""
     if is_url(path):
         return path.rstrip("/")
     parts = [part for part in path.split("/") if part not in ("", ".")]
@@ -65,7 +65,7 @@ def tidy(path: str) -> str:
 
 
 def entries(folder: str) -> list[Entry]:
-    """The entries of a folder in the order of their names. Raises OSError, or what fsspec raises."""
+    """Returns the entries of a folder in the order of their names. Raises OSError, or what fsspec raises."""
     if is_url(folder):
         system, path = system_of(folder)
         named = [(item["name"].rstrip("/"), item) for item in system.ls(path, detail=True)]
@@ -77,7 +77,7 @@ def entries(folder: str) -> list[Entry]:
 
 
 def entry_of(url: str) -> Entry:
-    """The file at a URL. Raises what fsspec raises, or OSError if it isn't a file."""
+    """Returns the file at a URL. Raises what fsspec raises, or OSError if it isn't a file."""
     system, path = system_of(url)
     facts = system.info(path)
     if facts.get("type") == "directory":
@@ -86,7 +86,8 @@ def entry_of(url: str) -> Entry:
 
 
 def stamp(path: str) -> str:
-    """The size of a file and the time of its last change, with nanoseconds. A question mark or a hyphen stands for what isn't known."""
+    """Returns the size of a file and the time of its last change, with nanoseconds. A question mark or a hyphen stands for what
+    isn't known."""
     size, time_of_change = "?", "-"
     with suppress(Exception):
         if is_url(path):
@@ -103,8 +104,8 @@ def stamp(path: str) -> str:
 
 
 def first_line(path: str) -> bytes:
-    """The first line of a file, which may be packed by gzip: at most 240 bytes of it. Raises OSError, what fsspec raises, and Unreadable
-    if the file can't be unpacked."""
+    """Returns the first line of a file, which may be packed by gzip: at most 240 bytes of it. Raises OSError, what fsspec
+    raises, and Unreadable if the file can't be unpacked."""
     if is_url(path):
         system, inner = system_of(path)
         head = bytes(system.cat_file(inner, 0, PIECE >> 4))
@@ -129,8 +130,8 @@ def beginning_of(pieces: Iterator[bytes]) -> bytes:
 
 
 def line_at(path: str, number: int) -> tuple[bytes, int]:
-    """The beginning of a line of a file without its line ending, at most some hundred bytes of it, and how many bytes it has. Nothing is
-    kept of the lines before, which may be very long."""
+    """Returns the beginning of a line of a file without its line ending, at most some hundred bytes of it, and how many bytes
+    it has. Nothing is kept of the lines before, which may be very long."""
     with open(path, "rb") as file:
         while number > 1 and (piece := file.readline(PIECE)):
             number -= piece.endswith(b"\n")
@@ -141,7 +142,7 @@ def line_at(path: str, number: int) -> tuple[bytes, int]:
 
 
 def length_of_line(file: BinaryIO) -> int:
-    """How many bytes a line has from here, without its line ending."""
+    """Returns how many bytes a line has from here, without its line ending."""
     count, last = 0, b""
     while piece := file.readline(PIECE):
         count, last = count + len(piece), last[-1:] + piece[-2:]
@@ -159,7 +160,7 @@ def local_entry(item: os.DirEntry[str]) -> Entry:
 
 
 def system_of(url: str) -> Any:
-    """The file system of a URL, and the path in it."""
+    """Returns the file system of a URL, and the path in it."""
     try:
         import fsspec
     except ImportError:
@@ -175,7 +176,7 @@ def is_folder(path: str) -> bool:
 
 
 def real(path: str) -> str:
-    """A name that a folder or file has once, whichever links lead to it."""
+    """Returns a name that a folder or file has once, whichever links lead to it."""
     return path if is_url(path) else os.path.realpath(path)
 
 
@@ -231,8 +232,8 @@ def counted_at_end(path: str) -> int:
 
 
 def members_of(archive: zipfile.ZipFile) -> dict[str, zipfile.ZipInfo]:
-    """The files of the one county in a zip by their types, in either case of their names; or the one file with all records, by no type.
-    Raises Unreadable."""
+    """Returns the files of the one county in a zip by their types, in either case of their names; or the one file with all
+    records, by no type. Raises Unreadable."""
     counties: dict[str, dict[str, list[zipfile.ZipInfo]]] = {}
     members = [member for member in archive.infolist() if not LEFT_BY_A_MAC.match(member.filename)]
     for member in members:
@@ -252,7 +253,7 @@ def members_of(archive: zipfile.ZipFile) -> dict[str, zipfile.ZipInfo]:
 
 
 def whole_members(archive: zipfile.ZipFile, members: list[zipfile.ZipInfo]) -> list[zipfile.ZipInfo]:
-    """The files in a zip that begin with a record. Raises Unreadable if there is none, with the reason if one can't be read."""
+    """Returns the files in a zip that begin with a record. Raises Unreadable if there is none, with the reason if one can't be read."""
     wholes, troubles = [], [Unreadable("the zip has no county in it")]
     for member in members:
         if not (member.is_dir() or kind_of(member.filename)):
@@ -267,7 +268,7 @@ def whole_members(archive: zipfile.ZipFile, members: list[zipfile.ZipInfo]) -> l
 
 
 def pieces_of(archive: zipfile.ZipFile, member: zipfile.ZipInfo) -> Iterator[bytes]:
-    """The bytes of a file in a zip, and never more than the directory announces."""
+    """Yields the bytes of a file in a zip, and never more than the directory announces."""
     if member.flag_bits & 1:
         raise Unreadable("the zip is locked with a password")
     name = ascii(member.filename)[1:-1]
@@ -289,7 +290,7 @@ def pieces_of(archive: zipfile.ZipFile, member: zipfile.ZipInfo) -> Iterator[byt
 
 
 def unpacked(source: str | io.BytesIO, most: int = PIECE) -> Iterator[bytes]:
-    """The bytes of a file that gzip packed, in pieces of at most this many. Raises Unreadable if they can't be unpacked."""
+    """Yields the bytes of a file that gzip packed, in pieces of at most this many. Raises Unreadable if they can't be unpacked."""
     try:
         with gzip.open(source) as packed:
             while piece := packed.read1(most):
@@ -306,8 +307,8 @@ def is_packed(path: str) -> bool:
 
 
 def is_absent(error: Exception) -> bool:
-    """Whether an error says that a file or folder isn't there. fsspec says so too if a server doesn't answer: then the error has another
-    cause."""
+    """Returns whether an error says that a file or folder isn't there. fsspec says so too if a server doesn't answer: then the
+    error has another cause."""
     cause = error.__cause__
     is_answer = cause is None or isinstance(cause, FileNotFoundError) or getattr(cause, "status", None) in (404, 410)
     return isinstance(error, FileNotFoundError) and is_answer

@@ -93,7 +93,8 @@ class Survey:
             self.take_out()
 
     def is_known(self, county: County) -> bool:
-        """Whether the manifest has a county. With update it also has to have it as it is on disk. One with a trouble is always reported."""
+        """Returns whether the manifest has a county. With update it also has to have it as it is on disk. One with a trouble is
+        always reported."""
         if county.trouble:
             return False
         line, first = self.listed.get(folded(county.stem)), self.listed.get(folded(self.doubles.get(county.stem, "")))
@@ -115,17 +116,18 @@ class Survey:
         return True
 
     def is_as_listed(self, county: County, line: Line) -> bool:
-        """Whether a county's files have the sizes and times in a line, and those of another file with the same map, if it is there too."""
+        """Returns whether a county's files have the sizes and times in a line, and those of another file with the same map, if
+        it is there too."""
         sources = self.sources[county.stem]
         doubles = [self.sources[stem] for stem, first in self.doubles.items() if first == county.stem]
         return line.sources in (sources, *(f"{sources}, {double}" for double in doubles))
 
     def results(self) -> Numbered[Judged]:
-        """The counties with their numbers, each once the manifest has it. Raises Failure at once if there is no program."""
+        """Returns the counties with their numbers, each once the manifest has it. Raises Failure at once if there is no program."""
         return self.each_result(self.judging.answers(self.counties, self.flags, self.is_strict))
 
     def each_result(self, answers: Numbered[Answer]) -> Numbered[Judged]:
-        """A file that may be another county's double waits for that county."""
+        """Lets a file that may be another county's double wait for that county."""
         waiting: dict[str, list[tuple[int, Answer]]] = defaultdict(list)
         pending = {county.stem for county in self.counties}
         with closing(answers):
@@ -143,7 +145,7 @@ class Survey:
             yield number, self.taken(number, answer)
 
     def taken(self, number: int, answer: Answer) -> Judged:
-        """What the manifest gets of a county."""
+        """Returns what the manifest gets of a county."""
         county, is_accepted = self.counties[number], answer.kind is Kind.ACCEPTED
         sources, before = self.sources.get(county.stem, ""), self.listed.get(folded(county.stem))
         first = self.listed.get(folded(self.doubles.get(county.stem, "")))
@@ -162,7 +164,7 @@ class Survey:
         return Judged(county.stem, *((answer.text, None) if is_accepted else (None, answer.text)), answer.notes, is_changed)
 
     def doubled(self, county: County, first: Line, answer: Answer) -> Judged:
-        """The same map as in the zip or the single files beside it: one county. The manifest notes this file with that county."""
+        """Returns the same map as in the zip or the single files beside it: one county. The manifest notes this file with that county."""
         self.judging.tally.doubles += 1
         if self.manifest:
             self.manifest.drop(county.stem)
@@ -173,8 +175,8 @@ class Survey:
         return Judged(county.stem, answer.text, None, (note, *answer.notes), is_double=True)
 
     def lines_gone(self, every: Sequence[County]) -> list[Line]:
-        """The lines below the sources whose counties aren't there any more, or are there under another name. Below a folder that can't be
-        read, and in a source without a county, none is."""
+        """Returns the lines below the sources whose counties aren't there any more, or are there under another name. Below a
+        folder that can't be read, and in a source without a county, none is."""
         there = {folded(county.stem) for county in every if not county.is_absent}
         named = {folded(stem_of(county.stem)) for county in every if county.is_absent}
         lines = [line for key, line in self.listed.items() if key not in there]
@@ -200,5 +202,5 @@ class Survey:
 
 
 def refusal_in(text: str) -> str:
-    """Why a county has no fingerprint, as a manifest has it."""
+    """Returns why a county has no fingerprint, as a manifest has it."""
     return text if text.startswith("refused ") else f"failed: {printable(' '.join(text.split()))}"

@@ -70,7 +70,7 @@ class Table(NamedTuple):
 
 
 def table_of(name: str, county: County, program: str, resources: Resources) -> Table:
-    """The chains of a county, in the order of its file."""
+    """Returns the chains of a county, in the order of its file."""
     with resources.part() as part:
         source, notes = opened(name, county, part)
         (own,), (canonical,) = (printed(program, job, (), [source], part) for job in ("respell", "normalise"))
@@ -85,7 +85,7 @@ def chains(county: Name, *, program: Optional[Name] = None) -> Iterator[ChainRow
 
 
 def rows_of(own: bytes, canonical: bytes) -> Iterator[ChainRow]:
-    """The chains of respelled records, with their numbers in the canonical text."""
+    """Yields the chains of respelled records, with their numbers in the canonical text."""
     county, other = read_county(own), read_county(canonical)
     chains = {chain.key for chain in other.chains}
     numbers = {number: number_of(key) for key, number in own_numbers(county, other).items() if key in chains}
@@ -103,7 +103,7 @@ def degrees_of(chain: Chain) -> tuple[tuple[str, str], ...]:
 
 
 def write_csv(target: Writable, rows: Iterator[ChainRow]) -> None:
-    """A line for each chain, with its points as WKT in the last column."""
+    """Writes a line for each chain, with its points as WKT in the last column."""
     writer = csv.writer(Text(target), lineterminator="\n")
     writer.writerow([*HEADS, "WKT"])
     for row in rows:
@@ -111,7 +111,7 @@ def write_csv(target: Writable, rows: Iterator[ChainRow]) -> None:
 
 
 def write_geojson(target: Writable, rows: Iterator[ChainRow]) -> None:
-    """A feature for each chain."""
+    """Writes a feature for each chain."""
     target.write(b'{"type":"FeatureCollection","features":[')
     for number, row in enumerate(rows):
         line = ",".join(f"[{east},{north}]" for east, north in row.points)
@@ -122,7 +122,7 @@ def write_geojson(target: Writable, rows: Iterator[ChainRow]) -> None:
 
 
 def run(options: argparse.Namespace, console: Console, resources: Resources) -> int:
-    """The command table."""
+    """Runs the command table."""
     write = write_geojson if options.geojson else write_csv
     outputs = [options.output] if options.output and options.output not in STANDARD_OUTPUT else []
     county, program = found(options.county, False), find_program(options.program)

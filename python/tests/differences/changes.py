@@ -32,7 +32,7 @@ class Difference(NamedTuple):
 
 
 def made_county(chains: int, seed: int) -> County:
-    """A county with this many chains, and with a church for each fifty of them, or eight, to the south of its streets."""
+    """Returns a county with this many chains, and with a church for each fifty of them, or eight, to the south of its streets."""
     made, step = MAKER.County(chains, str(seed)), MAKER.SPACING
     rows = [divmod(number, 20) for number in range(max(8, chains // 50))]
     places = [(MAKER.WEST + step * column, MAKER.SOUTH - step * (row + 4)) for row, column in rows]
@@ -52,7 +52,7 @@ class Changing:
         self.touched: set[int] = set()
 
     def files(self, folder: Path) -> tuple[Path, Path]:
-        """Both maps in files, each by another hand."""
+        """Returns both maps in files, each by another hand."""
         return put(folder / "first", written(self.before, 1)), put(folder / "second", written(self.county, 2))
 
     def tell(self, kind: str, thing: Chain | Landmark | Polygon, *fields: str) -> None:
@@ -61,7 +61,7 @@ class Changing:
         self.differences.add(Difference(what, kind, tuple(min(points, points[::-1])), frozenset(fields)))
 
     def counts(self) -> dict[tuple[str, str], int]:
-        """How many chains, landmarks and polygons there are of each kind."""
+        """Returns how many chains, landmarks and polygons there are of each kind."""
         told = Counter((difference.what, difference.kind) for difference in self.differences)
         for what in SUBJECTS:
             things: Sequence[object] = getattr(self.before, f"{what}s")
@@ -69,7 +69,7 @@ class Changing:
         return told
 
     def some(self, things: list[T], count: int) -> list[T]:
-        """Of these things some that no change has touched."""
+        """Returns some of the things that no change has touched."""
         chosen = self.chance.sample([thing for thing in things if id(thing) not in self.touched], count)
         self.touched.update(map(id, chosen))
         return chosen
@@ -89,21 +89,21 @@ class Changing:
         return self.some([landmark for landmark in self.county.landmarks if landmark.point], count)
 
     def change_field(self, count: int, name: str, value: str) -> None:
-        """A field of one side may be in its partner's columns in the canonical text."""
+        """Sets a field of one side, which may be in its partner's columns in the canonical text."""
         partner = next(column.partner or name for column in CHAIN.columns if column.name == name)
         for chain in self.chains(count):
             chain.fields[name] = value
             self.tell("changed", chain, partner if is_turned(chain) else name)
 
     def add_name(self, name: str) -> int:
-        """A name that only the second map has."""
+        """Returns a name that only the second map has."""
         self.county.names.append({"FILE": FILE, "FENAME": name})
         self.names.append(("only in the second", name))
         return len(self.county.names) - 1
 
 
 def is_turned(chain: Chain) -> bool:
-    """Whether a chain runs the other way in the canonical text."""
+    """Returns whether a chain runs the other way in the canonical text."""
     return chain.points > chain.points[::-1]
 
 
@@ -113,7 +113,8 @@ def place_of(thing: Landmark | Polygon) -> Point:
 
 
 def split_maps(folder: Path, chains: int, seed: int) -> tuple[Point, Path, Path]:
-    """A county where the start of a chain gets another node, so that nothing differs but a tie: its place, and both maps in files."""
+    """Returns a county where the start of a chain gets another node, so that nothing differs but a tie: its place, and both
+    maps in files."""
     changing = Changing(made_county(chains, seed), seed)
     nodes = Counter(node for chain in changing.county.chains for node in (chain.start, chain.end))
     (chain,) = changing.chains(1)
@@ -123,7 +124,7 @@ def split_maps(folder: Path, chains: int, seed: int) -> tuple[Point, Path, Path]
 
 
 def much_changed(county: County, seed: int) -> Changing:
-    """The county changed in every way, at some hundred places."""
+    """Returns the county changed in every way, at some hundred places."""
     changing = Changing(county, seed)
     change_chains(changing)
     add_courts(changing)
@@ -134,7 +135,7 @@ def much_changed(county: County, seed: int) -> Changing:
 
 
 def change_chains(changing: Changing) -> None:
-    """Chains between other polygons, chains that are gone or end elsewhere, and other fields, names and ranges."""
+    """Makes chains between other polygons, chains that are gone or end elsewhere, and other fields, names and ranges."""
     for chain in changing.chains(5):
         others = {*range(len(changing.county.polygons))} - {chain.left, chain.right}
         chain.left = changing.chance.choice(sorted(others))

@@ -26,14 +26,14 @@ def diff(*words: object, **options: Any) -> Ended:
 
 
 def differing(*words: object, **options: Any) -> str:
-    """What diff prints of maps that differ."""
+    """Returns what diff prints of maps that differ."""
     ended = diff(*words, **options)
     assert (ended.status, ended.err) == (1, "")
     return ended.out
 
 
 def example_differences() -> set[Difference]:
-    """The differences that the second map of the example was made with, without a feature name's."""
+    """Returns the differences that the second map of the example was made with, without a feature name's."""
     rows = json.loads(Path(__file__).with_name("example.json").read_text())
     return {
         Difference(what, kind, tuple((east, north) for east, north in place), frozenset(fields))
@@ -42,7 +42,7 @@ def example_differences() -> set[Difference]:
 
 
 def told_in_words(text: str) -> set[Difference]:
-    """The differences in a printed report. It has only the ends of a chain."""
+    """Returns the differences in a printed report. It has only the ends of a chain."""
     found = set()
     _, *sections = re.split(WORDS_HEADING, text)
     for what, kind, listed in zip(sections[::4], sections[1::4], sections[3::4]):
@@ -56,7 +56,7 @@ def told_in_words(text: str) -> set[Difference]:
 
 
 def in_words(difference: Difference) -> Difference:
-    """A difference as a printed report has it."""
+    """Returns a difference as a printed report has it."""
     place = difference.place
     return difference._replace(place=(place[0], place[-1])) if difference.what == "chain" else difference
 
@@ -67,7 +67,7 @@ def features_in(path: Path) -> list[Feature]:
 
 
 def told_in_geojson(path: Path) -> set[Difference]:
-    """The differences in a GeoJSON file, without feature names and ties."""
+    """Returns the differences in a GeoJSON file, without feature names and ties."""
     found = set()
     for feature in features_in(path):
         properties, geometry = feature["properties"], feature["geometry"] or {"type": "none", "coordinates": []}
@@ -80,5 +80,5 @@ def told_in_geojson(path: Path) -> set[Difference]:
 
 
 def micro(position: list[float]) -> Point:
-    """A position as GeoJSON has it, in millionths of a degree."""
+    """Returns a position as GeoJSON has it, in millionths of a degree."""
     return round(position[0] * 1e6), round(position[1] * 1e6)

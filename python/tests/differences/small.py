@@ -40,7 +40,7 @@ class Maker:
         return {name: self.value(name) for name in names if self.is_so(share)}
 
     def points(self) -> list[Point]:
-        """Some of few points. Every third list is the same from both ends."""
+        """Returns some of few points. Every third list is the same from both ends."""
         points = [self.some(PLACES) for _ in range(self.some([2, 2, 3, 4, 7]))]
         return [*points, *points[-2::-1]] if self.is_so(0.33) else points
 
@@ -69,7 +69,7 @@ class Maker:
         return landmark
 
     def county(self) -> County:
-        """A county whose polygons with a record are all on sides, as in accepted ones."""
+        """Returns a county whose polygons with a record are all on sides, as in accepted ones."""
         county = County([], [self.values(NAME, 0.4) for _ in range(self.some([0, 2, 3]))], [], [])
         county.polygons = [self.polygon() for _ in range(self.some([1, 2, 3, 4]))]
         county.chains = [self.chain(county) for _ in range(self.some([2, 3, 4, 5]))]
@@ -79,7 +79,7 @@ class Maker:
         return county
 
     def changed(self, county: County) -> County:
-        """A copy with one change, or two. It may say the same."""
+        """Returns a copy with one change, or two. It may say the same."""
         other: County = pickle.loads(pickle.dumps(county))
         for _ in range(self.some([1, 1, 1, 2])):
             self.some(CHANGES)(self, other)
@@ -114,7 +114,7 @@ def turn_points(maker: Maker, county: County) -> None:
 
 
 def turn_chain(maker: Maker, county: County) -> None:
-    """Seen from the other end it says the same."""
+    """Turns a chain: seen from the other end it says the same."""
     place = maker.chance.randrange(len(county.chains))
     county.chains[place] = turned(county.chains[place])
 
@@ -194,7 +194,7 @@ def change_landmark(maker: Maker, county: County) -> None:
 
 
 def change_records(maker: Maker, county: County) -> None:
-    """More records of a landmark, or fewer, or another order, which says the same."""
+    """Gives a landmark more records, or fewer, or another order, which says the same."""
     if county.landmarks:
         landmark = maker.some(county.landmarks)
         records = [landmark.fields, *landmark.more]
@@ -212,7 +212,7 @@ def move_landmark(maker: Maker, county: County) -> None:
 
 
 def change_areas(maker: Maker, county: County) -> None:
-    """The polygons of a landmark, and the FILEs of its links to them."""
+    """Changes the polygons of a landmark, and the FILEs of its links to them."""
     if county.landmarks:
         landmark, made = maker.some(county.landmarks), maker.landmark(county)
         if landmark.files and maker.is_so(0.5):

@@ -42,7 +42,7 @@ def files(changing: Changing, tmp_path_factory: pytest.TempPathFactory) -> Files
 
 @pytest.fixture(scope="module")
 def all_features(files: Files, tmp_path_factory: pytest.TempPathFactory) -> Path:
-    """A GeoJSON file with a feature for each chain, landmark and polygon of both maps."""
+    """Returns a GeoJSON file with a feature for each chain, landmark and polygon of both maps."""
     path = tmp_path_factory.mktemp("all") / "geojson"
     differing("--geojson", path, "--all", *files)
     return path
@@ -85,19 +85,19 @@ def test_masks(room: Path, flags: tuple[str, ...], status: int) -> None:
 
 
 def point_at(line: str, column: int) -> Point:
-    """The point that begins in this column, counted from 1."""
+    """Returns the point that begins in this column, counted from 1."""
     return int(line[column - 1 : column + 9]), int(line[column + 9 : column + 18])
 
 
 def records(path: Path) -> dict[tuple[str, int], str]:
-    """The records of types 1, 7 and P in a file, by their type and their TLID, LAND or POLYID."""
+    """Returns the records of types 1, 7 and P in a file, by their type and their TLID, LAND or POLYID."""
     columns = {"1": slice(5, 15), "7": slice(10, 20), "P": slice(15, 25)}
     lines = path.read_text("latin-1").splitlines()
     return {(line[0], int(line[columns[line[0]]])): line for line in lines if line[0] in columns}
 
 
 def is_of(line: str, feature: Feature, side: str) -> bool:
-    """Whether a record belongs to a feature, by its place and its name."""
+    """Returns whether a record belongs to a feature, by its place and its name."""
     properties, coordinates = feature["properties"], (feature["geometry"] or {"coordinates": []})["coordinates"]
     if line[0] == "1":
         ends = {point_at(line, 191), point_at(line, 210)}
@@ -110,7 +110,7 @@ def is_of(line: str, feature: Feature, side: str) -> bool:
 
 
 def seen(path: Path, files: Files) -> set[tuple[str, str, int]]:
-    """The records that the features in a file have the numbers of. Each feature has the number of its record in each map."""
+    """Returns the records that the features in a file have the numbers of. Each feature has the number of its record in each map."""
     numbered = {"chain": ("1", "TLID"), "landmark": ("7", "LAND"), "polygon": ("P", "POLYID")}
     found, lines = set(), dict(zip(SIDES, map(records, files)))
     for feature, side in product(features_in(path), SIDES):
@@ -169,7 +169,7 @@ def test_ogrinfo(changing: Changing, files: Files, room: Path) -> None:
     """GeoJSON as another reader sees it, GDAL."""
 
     def found(where: str) -> tuple[int, str]:
-        """How many features there are for which this holds, and all that is reported."""
+        """Returns how many features there are for which this holds, and all that is reported."""
         ended = run(["ogrinfo", "-ro", "-so", "-al", "-where", where, "geojson"])
         assert (ended.status, ended.err) == (0, b"")
         (count,) = re.findall(r"Feature Count: (\d+)", ended.out.decode())

@@ -48,7 +48,7 @@ def compared(first: County, second: County) -> Comparison:
 
 
 def after(first: County, change: Callable[[County], object]) -> County:
-    """A copy of a county, with a change."""
+    """Returns a copy of a county, with a change."""
     second = copy.deepcopy(first)
     change(second)
     return second
@@ -63,12 +63,12 @@ def words_of(first: County, second: County) -> str:
 
 
 def chain_between(points: list[tuple[int, int]], **values: Any) -> Chain:
-    """A chain through these points, between the polygons 0 and 1."""
+    """Returns a chain through these points, between the polygons 0 and 1."""
     return Chain({"FENAME": "Main", "CFCC": "A41"}, points, 1, 2, 0, 1, **values)
 
 
 def two_sided(*chains: Chain) -> County:
-    """A county with these chains and two polygons."""
+    """Returns a county with these chains and two polygons."""
     polygons = [Polygon({"FILE": "01001"}, (-86_000_000 + place, 32_000_000)) for place in range(2)]
     return County(list(chains), [{"FENAME": "Old Rd"}, {"FENAME": "Old Rd"}], polygons, [])
 

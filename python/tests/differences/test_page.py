@@ -28,7 +28,7 @@ EDGES = TEMPLATE.read_text().split("></script>")
 
 
 def carried(path: Path) -> dict[str, Any]:
-    """What a page carries. Before and after it the page is as without counties, and nothing in it ends the element."""
+    """Returns what a page carries. Before and after it the page is as without counties, and nothing in it ends the element."""
     before, after = (edge.encode() for edge in (f"{EDGES[0]}>", f"</script>{EDGES[1]}"))
     text = path.read_bytes()
     assert text.startswith(before) and text.endswith(after)
@@ -43,7 +43,7 @@ def files_of(county: dict[str, Any]) -> dict[tuple[str, str], bytes]:
 
 
 def nine(folder: Path, name: str = "autauga") -> dict[str, bytes]:
-    """The nine files of an example, put into a folder."""
+    """Returns the nine files of an example, put into a folder."""
     texts = {kind: (ROOT / f"examples/{name}/TGR01001.RT{kind}").read_bytes() for kind in TYPES}
     folder.mkdir()
     for kind, text in texts.items():

@@ -30,7 +30,7 @@ def library() -> None:
 
 
 def pairs(block: int) -> Iterator[tuple[int, County, County]]:
-    """Counties that are accepted, each with a changed copy that is accepted, by the numbers with which they are made."""
+    """Yields counties that are accepted, each with a changed copy that is accepted, by the numbers with which they are made."""
     found, seed = 0, 10**6 * block
     while found < PAIRS:
         seed += 1
@@ -51,7 +51,7 @@ def compared(first: bytes, second: bytes) -> Comparison:
 
 
 def differing(found: Comparison) -> Iterator[bool]:
-    """Of each thing that changed, whether a field differs."""
+    """Yields, for each thing that changed, whether a field differs."""
     tables = [rows(found.first.chain(one), found.second.chain(other)) for one, other in found.chains.changed]
     tables += [landmark_rows(found.first, found.second, *pair) for pair in found.landmarks.changed]
     tables += [rows(polygon_fields(one), polygon_fields(other)) for one, other in found.polygons.changed]

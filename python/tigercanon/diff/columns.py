@@ -57,19 +57,19 @@ class Layout:
         return "".join(" " * len(value) if field == name else value for field, value in zip(self.places, self.values(content)))
 
     def turned(self, content: str) -> str:
-        """The content, read from the chain's other end."""
+        """Returns the content, read from the chain's other end."""
         return "".join(self.value(content, column.partner or column.name) for column in self.columns)
 
 
 def on_both_sides(name: str, first: int, width: int, holds: str) -> tuple[Column, Column]:
-    """A field for the left side, and the same field for the right side, which follows it."""
+    """Returns a field for the left side, and the same field for the right side, which follows it."""
     middle = first + width
     left = Column(f"{name}L", first, middle - 1, f"{holds} on the left", f"{name}R")
     return left, Column(f"{name}R", middle, middle + width - 1, f"{holds} on the right", f"{name}L")
 
 
 def moved(columns: tuple[Column, ...], by: int) -> tuple[Column, ...]:
-    """The same fields, `by` columns further to the right."""
+    """Returns the same fields, `by` columns further to the right."""
     return tuple(replace(column, first=column.first + by, last=column.last + by) for column in columns)
 
 

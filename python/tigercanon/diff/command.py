@@ -76,7 +76,7 @@ def run(options: argparse.Namespace, console: Console, resources: Resources) -> 
 
 
 def outputs_of(options: argparse.Namespace) -> list[str]:
-    """The names of the files to be written. Rejects options that don't go together."""
+    """Returns the names of the files to be written. Rejects options that don't go together."""
     outputs = [name for name in (options.page, options.geojson) if name is not None]
     if options.all and options.geojson is None:
         raise Failure("--all needs --geojson")

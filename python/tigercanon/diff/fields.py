@@ -80,12 +80,12 @@ class Teller(NamedTuple):
         return fields
 
     def polygon_text(self, key: PolygonKey) -> Text:
-        """A polygon, as something else names it."""
+        """Returns a polygon, as something else names it."""
         polygon = self.county.polygons[key]
         return Text(polygon_words(polygon.body), polygon.content, self.marks[key])
 
     def place_texts(self, landmark: Landmark | None) -> list[Text]:
-        """Polygons, as a landmark's records of type 8 name them."""
+        """Returns polygons, as a landmark's records of type 8 name them."""
         named = [(file, key[:5].strip(), self.polygon_text(key)) for file, key in (landmark.places if landmark else ())]
         return [Text(f"{text.plain} ({cenid})", file + text.exact, f"{file}|{text.mark}") for file, cenid, text in named]
 
@@ -101,7 +101,7 @@ def text_of(value: str, kind: str = "text") -> Text:
 
 @lru_cache(maxsize=None)
 def field_names(layout: Layout, suffix: str) -> list[FieldName]:
-    """The names of a record's fields. A field with two names is a point: a longitude of 10 columns and a latitude of 9."""
+    """Returns the names of a record's fields. A field with two names is a point: a longitude of 10 columns and a latitude of 9."""
     return [FieldName(each.name + suffix, each.holds, "point" if ", " in each.name else "text") for each in layout.columns]
 
 
@@ -112,7 +112,7 @@ def polygon_fields(polygon: Polygon) -> Fields:
 
 
 def landmark_fields(bodies: Sequence[str], places: Sequence[Text]) -> Fields:
-    """The fields of a landmark with these records of type 7, in these polygons."""
+    """Returns the fields of a landmark with these records of type 7, in these polygons."""
     fields: Fields = {}
     for number, body in enumerate(bodies, 1):
         if number > 1:
@@ -124,14 +124,14 @@ def landmark_fields(bodies: Sequence[str], places: Sequence[Text]) -> Fields:
 
 
 def landmark_rows(first: Teller, second: Teller, one: Landmark | None, other: Landmark | None) -> list[Row]:
-    """The fields of a landmark of both maps, or of one of them. In repeated fields, what both have comes first."""
+    """Returns the fields of a landmark of both maps, or of one of them. In repeated fields, what both have comes first."""
     bodies = aligned(one.bodies if one else [], other.bodies if other else [], lambda body: body)
     places = aligned(first.place_texts(one), second.place_texts(other), lambda text: text.mark)
     return rows(landmark_fields(bodies[0], places[0]) if one else None, landmark_fields(bodies[1], places[1]) if other else None)
 
 
 def aligned(first: Sequence[T], second: Sequence[T], mark: Callable[[T], str]) -> Pair[list[T]]:
-    """Both lists with their common items at the beginning, in one order."""
+    """Returns both lists with their common items at the beginning, in one order."""
     pairs, ones, others = pair_by(first, second, mark)
     pairs.sort(key=lambda pair: mark(pair[0]))
     return [one for one, _ in pairs] + ones, [other for _, other in pairs] + others
@@ -154,7 +154,7 @@ def pair_by(first: Iterable[T], second: Iterable[T], key: Callable[[T], Hashable
 
 
 def rows(first: Fields | None, second: Fields | None) -> list[Row]:
-    """The fields of what both maps have or one of them alone, in the order of the first, without those that are blank in both."""
+    """Returns the fields of what both maps have or one of them alone, in the order of the first, without those that are blank in both."""
     table, ones, others = [], first or {}, second or {}
     for name in {**ones, **others}:
         one, other = ones.get(name, NOTHING), others.get(name, NOTHING)
@@ -170,7 +170,7 @@ def rows(first: Fields | None, second: Fields | None) -> list[Row]:
 
 
 def shown(name: FieldName, text: Text, other: Text) -> str:
-    """A field in words. If it differs from the other map's and would read the same, it is shown byte for byte."""
+    """Returns a field in words. If it differs from the other map's and would read the same, it is shown byte for byte."""
     if name.kind == "flag":
         return YES if text.plain else NO
     if not text.exact:
@@ -179,7 +179,7 @@ def shown(name: FieldName, text: Text, other: Text) -> str:
 
 
 def polygon_words(body: str) -> str:
-    """A polygon by its record of type P: where it lies."""
+    """Returns a polygon by its record of type P: where it lies."""
     if not body:
         return PHRASES["without a record"]
     point = POLYGON.value(body, "POLYLONG, POLYLAT")
@@ -187,7 +187,7 @@ def polygon_words(body: str) -> str:
 
 
 def name_text(layout: Layout, content: str) -> str:
-    """The feature name in a record of type 1 or 5: the direction before it, the name, its type and the direction after it."""
+    """Returns the feature name in a record of type 1 or 5: the direction before it, the name, its type and the direction after it."""
     parts = (layout.value(content, part).strip() for part in ("FEDIRP", "FENAME", "FETYPE", "FEDIRS"))
     return " ".join(filter(None, parts))
 
@@ -206,19 +206,19 @@ def titled(name: str, cfcc: str) -> str:
 
 
 def landmark_points(landmark: Landmark, county: County) -> list[str]:
-    """Where a landmark lies: its own points, or else the internal points of its polygons."""
+    """Returns where a landmark lies: its own points, or else the internal points of its polygons."""
     own = {LANDMARK.value(body, "LALONG, LALAT") for body in landmark.bodies}
     of_polygons = {county.polygons[key].point for _, key in landmark.places}
     return sorted(own - {NO_POINT}) or sorted(of_polygons - {NO_POINT})
 
 
 def degrees(point: str) -> str:
-    """A point as maps print it."""
+    """Returns a point as maps print it."""
     longitude, latitude = decimal(point[:10]), decimal(point[10:POINT_WIDTH])
     north, east = "S" if latitude[0] == "-" else "N", "W" if longitude[0] == "-" else "E"
     return f"{latitude.lstrip('-')}° {north}, {longitude.lstrip('-')}° {east}"
 
 
 def decimal(coordinate: str) -> str:
-    """A coordinate in millionths of a degree as a number of degrees with six places, as GeoJSON has it."""
+    """Returns a coordinate in millionths of a degree as a number of degrees with six places, as GeoJSON has it."""
     return f"{'-' if coordinate[0] == '-' else ''}{int(coordinate[1:-6])}.{coordinate[-6:]}"

@@ -28,7 +28,7 @@ def write_geojson(file: Writable, comparison: Comparison, sets: Sets, with_alike
 
 
 def head(comparison: Comparison, sets: Sets) -> Properties:
-    """The part about both maps: the two sets, and the verdict."""
+    """Returns the part about both maps: the two sets, and the verdict."""
     told: Properties = {"about": ABOUT, "verdict": "same" if sets.are_one_map else "different"}
     for side, one in zip(SIDES, (sets.first, sets.second)):
         told[side] = {"name": one.name, "fingerprint": one.fingerprint}
@@ -40,7 +40,7 @@ def head(comparison: Comparison, sets: Sets) -> Properties:
 
 
 def features(comparison: Comparison, with_alike: bool = False) -> Iterator[tuple[str, Properties]]:
-    """A geometry in JSON and properties for each thing that isn't alike, or for each one, and for each tie."""
+    """Yields a geometry in JSON and properties for each thing that isn't alike, or for each one, and for each tie."""
     own = comparison.own
     for thing in things(comparison, with_alike):
         yield geometry(thing.points, is_line=thing.what == "chain"), properties(thing, own)
@@ -49,7 +49,7 @@ def features(comparison: Comparison, with_alike: bool = False) -> Iterator[tuple
 
 
 def properties(thing: Thing, own: BothOwn) -> Properties:
-    """The properties of a thing: its numbers in the user's files and in the canonical texts, and its fields in both maps."""
+    """Returns the properties of a thing: its numbers in the user's files and in the canonical texts, and its fields in both maps."""
     table, number = thing.rows(), thing.number_field
     told: Properties = {"what": thing.what, "kind": thing.kind, "title": thing.name}
     told["differs"] = "; ".join(row.name.label for row in table if row.differs) or None
@@ -67,7 +67,7 @@ def properties(thing: Thing, own: BothOwn) -> Properties:
 
 
 def tie_properties(tie: Tie, own: OwnNumbers) -> Properties:
-    """What is one in one map and several in the other, at the places where chains or landmarks have it. These have the first set's
+    """Returns what is one in one map and several in the other, at the places where chains or landmarks have it. These have the first set's
     numbers."""
     counts = (1, len(tie.groups)) if tie.is_one_in_first else (len(tie.groups), 1)
     told: Properties = {"what": "tie", "kind": KINDS[2], "title": tie_line(tie).rstrip(":"), "differs": tie.subject}
@@ -81,7 +81,7 @@ def tie_properties(tie: Tie, own: OwnNumbers) -> Properties:
 
 
 def values(side: str, name: FieldName, shown: str | None, exact: str) -> Properties:
-    """A field of one map: a text, true or false, or the two coordinates of a point in degrees, under the names of their columns.
+    """Returns a field of one map: a text, true or false, or the two coordinates of a point in degrees, under the names of their columns.
     There is none if the map doesn't have the thing."""
     if shown is None:
         return {}
@@ -95,7 +95,7 @@ def values(side: str, name: FieldName, shown: str | None, exact: str) -> Propert
 
 @lru_cache(maxsize=None)
 def property_name(side: str, label: str) -> str:
-    """A field's name, for readers that allow only letters, digits and underscores."""
+    """Returns a field's name, for readers that allow only letters, digits and underscores."""
     return f"{side}_" + re.sub(r"\W+", "_", label)
 
 

@@ -166,7 +166,7 @@ def turned(chain: Chain) -> Chain:
 
 
 def lesser_turn(chain: Chain, teller: Teller) -> Chain:
-    """The end to read a chain from, if it is its own reverse: the one with the lesser content."""
+    """Returns the end to read a chain from, if it is its own reverse: the one with the lesser content."""
     return min(chain, turned(chain), key=lambda seen: says(seen, teller))
 
 
@@ -192,7 +192,7 @@ def match_landmarks(first: Teller, second: Teller) -> Matched[Landmark]:
     places = {landmark: tuple(sorted((file, its.marks[key]) for file, key in landmark.places)) or None for landmark, its in both}
 
     def column(name: str, landmark: Landmark) -> Hashable | None:
-        """A column of the landmark's records, or nothing if it is blank in all."""
+        """Returns a column of the landmark's records, or nothing if it is blank in all."""
         values = tuple(sorted(LANDMARK.value(body, name) for body in landmark.bodies))
         return values if any(not value.isspace() for value in values) else None
 
@@ -231,7 +231,7 @@ def ties_among(tied: Iterable[Tied]) -> list[Tie]:
 
 
 def ties_of(chain: Chain, twin: Chain, first: Teller, second: Teller) -> Iterator[Tied]:
-    """The nodes at both ends of a chain, the polygons on sides with the same content in both maps, and the further names, if they
+    """Yields the nodes at both ends of a chain, the polygons on sides with the same content in both maps, and the further names, if they
     are the same."""
     for place, one, other in zip(("start", "end"), chain.nodes, twin.nodes):
         if not (one.isspace() or other.isspace()):
@@ -245,7 +245,7 @@ def ties_of(chain: Chain, twin: Chain, first: Teller, second: Teller) -> Iterato
 
 
 def areas_of(landmark: Landmark, twin: Landmark, first: Teller, second: Teller) -> Iterator[Tied]:
-    """The polygons of a landmark, in both maps."""
+    """Yields the polygons of a landmark, in both maps."""
     ones = [((file, first.marks[key]), key) for file, key in landmark.places]
     others = [((file, second.marks[key]), key) for file, key in twin.places]
     pairs, _, _ = pair_by(ones, others, lambda area: area[0])
@@ -257,7 +257,7 @@ OwnNumbers = dict[str, int]  # the number in the user's files of each chain, lan
 
 
 def own_numbers(records: County, canonical: County, masks: Sequence[str] = ()) -> OwnNumbers:
-    """The numbers in these records of the things in their canonical text, which was printed with these masks. They are compared
+    """Returns the numbers in these records of the things in their canonical text, which was printed with these masks. They are compared
     with chains turned and landmarks masked as there. Chains are matched by their points, so that they need no mask."""
     chains = [turned(each) if comes_after_its_reverse(each.points) else each for each in records.chains]
     landmarks = records.landmarks

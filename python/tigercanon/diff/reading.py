@@ -87,12 +87,12 @@ class County:
     landmarks: list[Landmark]
 
     def name_bodies(self, chain: Chain) -> tuple[str, ...]:
-        """The chain's further names, spelled out."""
+        """Returns the chain's further names, spelled out."""
         return tuple([self.names[feat].body for feat in chain.feats])
 
 
 def read_county(text: bytes) -> County:
-    """The county of a canonical text, or of respelled records."""
+    """Returns the county of a canonical text, or of respelled records."""
     lines = text.decode("latin-1").split("\n")
     if lines.pop():
         raise NotCanonical("the last line has no line ending")
@@ -116,7 +116,7 @@ def read_county(text: bytes) -> County:
 
 
 def read_chains(records: Records) -> list[Chain]:
-    """The chains, in the order of their records of type 1."""
+    """Returns the chains, in the order of their records of type 1."""
     inner, names, ranges = (by_chain(records[record_type]) for record_type in "246")
     topologies, chains = {line[10:20]: line for line in records["I"]}, []
     for line in records["1"]:
@@ -138,7 +138,7 @@ def read_chains(records: Records) -> list[Chain]:
 
 
 def by_chain(lines: list[str]) -> dict[str, list[str]]:
-    """The records of each chain, by its TLID, in the order of their RTSQs."""
+    """Returns the records of each chain, by its TLID, in the order of their RTSQs."""
     found: dict[str, list[str]] = defaultdict(list)
     for line in sorted(lines, key=lambda line: line[5:18]):
         found[line[5:15]].append(line)
@@ -146,7 +146,7 @@ def by_chain(lines: list[str]) -> dict[str, list[str]]:
 
 
 def read_landmarks(records: Records) -> list[Landmark]:
-    """The landmarks, in the order of their first records."""
+    """Returns the landmarks, in the order of their first records."""
     landmarks: dict[str, Landmark] = {}
     for line in records["7"]:
         landmarks.setdefault(line[10:20], Landmark(line[10:20])).bodies.append(LANDMARK.content(line))
@@ -172,6 +172,6 @@ def reversed_points(points: str) -> str:
 
 
 def comes_after_its_reverse(points: str) -> bool:
-    """Whether a canonical text has these points from the other end: there they come before their reverse."""
+    """Returns whether a canonical text has these points from the other end: there they come before their reverse."""
     listed = list(map(position, each_point(points)))
     return listed > listed[::-1]

@@ -40,7 +40,7 @@ class Sets(NamedTuple):
 
 
 def found(name: str, is_stem: bool) -> County:
-    """The set of this name: one file, a zip with a county, or the stem or a file of a county's nine files in either case of their
+    """Returns the set of this name: one file, a zip with a county, or the stem or a file of a county's nine files in either case of their
     endings. One that can be read only once, such as a pipe, has no place."""
     shown, mode = printable(name), 0
     if os.path.lexists(name) and not is_stem:
@@ -58,8 +58,8 @@ def found(name: str, is_stem: bool) -> County:
 
 
 def opened(name: str, county: County, resources: Resources) -> tuple[Source, list[str]]:
-    """The county of this name as the program reads it, and notes about its files. What the program can't read as it is gets a copy or a
-    link, which is among the resources."""
+    """Returns the county of this name as the program reads it, and notes about its files. What the program can't read as it is
+    gets a copy or a link, which is among the resources."""
     notes = list(county.notes)
     if kind_of(name) in [*TYPES] and len(county.files) > 1:
         notes.append(f"one of the nine files of {county.stem}, which is read")
@@ -76,7 +76,7 @@ def opened(name: str, county: County, resources: Resources) -> tuple[Source, lis
 
 
 def printed(program: str, job: str, flags: Sequence[str], sources: Sequence[Source], resources: Resources) -> list[bytes]:
-    """What the program prints for each set, all at once. The first set that is rejected is reported."""
+    """Returns what the program prints for each set, all at once. The first set that is rejected is reported."""
 
     def printed_for(source: Source) -> bytes:
         ended = source.run(program, job, flags, resources)

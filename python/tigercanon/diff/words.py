@@ -39,7 +39,7 @@ class Thing(NamedTuple):
 
 
 def own_words(found: Comparison, field: str, one: Any, other: Any) -> str:
-    """The numbers of a thing in the files of both sets, if they are known: `TLID 7 and 9`."""
+    """Returns the numbers of a thing in the files of both sets, if they are known: `TLID 7 and 9`."""
     numbers = [str(own[each.key]) for own, each in zip(found.own, (one, other)) if each is not None and each.key in own]
     return f"{field} {' and '.join(dict.fromkeys(numbers))}" if numbers else ""
 
@@ -84,7 +84,7 @@ SUBJECTS = {"chain": chain, "landmark": landmark, "polygon": polygon, "feature n
 
 
 def things(comparison: Comparison, with_alike: bool = False) -> Iterator[Thing]:
-    """Everything that isn't alike, or everything: the things of each subject, in the order of their kinds."""
+    """Yields everything that isn't alike, or everything: the things of each subject, in the order of their kinds."""
     for make, matched in zip(SUBJECTS.values(), comparison.parts):
         ones, others = ((one, None) for one in matched.first), ((None, other) for other in matched.second)
         for kind, pairs in zip(KINDS, (ones, others, matched.changed, matched.alike if with_alike else [])):
@@ -92,14 +92,14 @@ def things(comparison: Comparison, with_alike: bool = False) -> Iterator[Thing]:
 
 
 def verdict(comparison: Comparison, sets: Sets) -> str:
-    """The first sentence of a report if nothing differs, or only how things are joined."""
+    """Returns the first sentence of a report if nothing differs, or only how things are joined."""
     if sets.are_one_map:
         return ONE_MAP
     return TIED if comparison.is_alike else ""
 
 
 def told(comparison: Comparison, sets: Sets, is_summary: bool = False) -> Iterator[str]:
-    """The lines of the report. A summary ends with the table of counts."""
+    """Yields the lines of the report. A summary ends with the table of counts."""
     first, second = sets.first, sets.second
     width = max(len(first.name), len(second.name))
     yield f"first   {first.name:{width}}  {first.fingerprint}"
@@ -134,7 +134,7 @@ def told_counts(comparison: Comparison) -> Iterator[str]:
 
 
 def told_things(comparison: Comparison) -> Iterator[str]:
-    """Everything that only one map has, and everything that both have with fields that differ."""
+    """Yields everything that only one map has, and everything that both have with fields that differ."""
     for (what, kind), found in groupby(things(comparison), lambda thing: (thing.what, thing.kind)):
         listed = list(found)
         yield from ["", f"{what}s {kind}: {len(listed):,}"]
