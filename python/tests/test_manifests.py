@@ -12,7 +12,7 @@ from typing import Iterator
 
 import pytest
 from dev.testing import await_that
-from support import Four, complete, digest, left_behind, listed, manifest, put, zip_up
+from support import Four, complete, left_behind, listed, manifest, put, zip_up
 
 import tigercanon
 from tigercanon import judge, manifests, resources

@@ -12,7 +12,7 @@ from pathlib import Path
 from typing import Callable
 
 import pytest
-from support import PACKAGE, TOOLS, call, packed, put
+from support import PACKAGE, TOOLS, call, put
 from dev.testing import ROOT
 
 import tigercanon
