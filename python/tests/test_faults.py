@@ -109,6 +109,9 @@ def test_what_is_wrong_with_a_field(column: int, value: bytes, wrong: str) -> No
 
 
 def test_types_and_lengths() -> None:
+    put("x", b"  1 2006\n")
+    (fault,) = faults_of("refused 1 UnknownType 1 1", ["x"], ["x"])
+    assert (fault.text, fault.first, fault.wrong) == ("  1 2006", 1, "no record type is ' '")
     put("x", b"A 1\n\n" + COUNTY.splitlines()[0] + b"!\n")
     assert places("refused 1 UnknownType 1 1", ["x"])[0][4] == "no record type is 'A'"
     assert places("refused 1 UnknownType 1 2", ["x"])[0][4] == "the line is empty"

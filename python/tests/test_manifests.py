@@ -52,7 +52,7 @@ def test_a_wrong_line_has_its_number(room: Path, head: str) -> None:
 @pytest.mark.parametrize("reason", ["it isn't a zip", "rejected by --strict: no .RT2 .RT4", "x" * 500])
 def test_lines_are_read_as_they_are_written(room: Path, reason: str) -> None:
     for line in (
-        Line(f"{1:064}", "a  b", "1 t, ? -"),
+        Line(f"{1:064}", "a  b", "1 t, 10 t, ? -"),
         Line("", "in/a b", "1 t", f"failed: {reason}"),
         Line("", "a", "? -", "refused 8 Device"),
     ):
