@@ -130,8 +130,13 @@ def test_chains_of_one_shape() -> None:
 def test_places_of_a_landmark() -> None:
     """Those of its polygons, if it has none of its own: the first, and how many more."""
     county = two_sided(chain_between([(1, 1), (2, 5), (9, 9)]))
-    other = after(county, lambda county: county.landmarks.append(Landmark({"LANAME": "Park"}, None, [0, 1])))
+    parks = [Landmark({"LANAME": "Park"}, None, [0, 1]), Landmark({"LANAME": "Inn"}, (-86_000_000, 32_000_000))]
+    other = after(county, lambda county: county.landmarks.extend(parks))
     assert f"  Park, at {EAST} and 1 more" in words_of(county, other).splitlines()
+    assert {found["title"]: shape for shape, found in features(compared(county, other))} == {
+        "Park": '{"type":"MultiPoint","coordinates":[[-85.999999,32.000000],[-86.000000,32.000000]]}',
+        "Inn": '{"type":"Point","coordinates":[-86.000000,32.000000]}',
+    }
 
 
 def test_own_reverse() -> None:
