@@ -7,7 +7,7 @@ import { example, take } from "./scripts.mjs";
 
 const { countyIn, doublesAmong, endingsOf, packedSize, sortedOut } = await take("counties");
 const { chosenFiles, droppedFiles, TooManyFiles } = await take("dropping");
-const { beginningOf, beginsWithRecord, isRecord } = await take("first_line");
+const { beginningOf, beginsWithRecord, firstLine, isRecord } = await take("first_line");
 const { partsOf } = await take("sets");
 const { byBytes, canonicalName, endingOf, keyOf, plainName } = await take("names");
 const { Unreadable } = await take("unreadable");
@@ -126,6 +126,17 @@ test("a record is known by its type and by what that type requires", async () =>
   assert.ok(await begins(new File([`${record}\r\nmore`], "a")));
   assert.equal(await begins(new File([`${record}x`], "a")), true);
   assert.equal(await begins(new File([`\n${record}`], "a")), false);
+});
+
+test("of a stream no more is read than its first line, or than the length of a record", async () => {
+  const stream = (...pieces) => new ReadableStream({
+    pull(controller) {
+      if (pieces.length) controller.enqueue(Buffer.from(pieces.shift()));
+      else controller.error(new Error("more was read"));
+    },
+  });
+  assert.equal(await firstLine(stream("ab", "c\r\nd")), "abc");
+  assert.equal(await firstLine(stream("1".repeat(200), "2".repeat(200))), "1".repeat(200) + "2".repeat(40));
 });
 
 test("names for files to save, keys and endings", () => {
