@@ -2,9 +2,9 @@
 # shellcheck disable=SC2034,SC2154
 # Sourced by the scripts that make a file from the sources, or look for one that was made from them. $root is the repository's folder.
 #
-# Such a file lies in a folder with a file built-from, which has the hash of the sources and that of each file. It counts as made from
-# the sources as they are while both hashes are right. The program is proved and built in out/, and the library in out/library/lib;
-# prebuilt/ has both, and the page.
+# Such a file lies in a folder with a file built-from, which has the hash of the sources, the kit, and the hash of each file. It counts as
+# made from the sources as they are while both hashes are right. The program is proved and built in out/, and the library in
+# out/library/lib; prebuilt/ has both, and the page.
 
 # The most memory that one proof of this repository takes, in kB.
 a_proof=5000000
@@ -34,6 +34,9 @@ line_of() (CDPATH="" cd -- "$1" && sha256sum "$2")
 is_made() {
     [ -f "$1/$2" ] && grep -qxF "sources: $sources" "$1/built-from" && grep -qxF "$(line_of "$1" "$2")" "$1/built-from"
 } 2>/dev/null
+
+# Whether that is so, and the kit on the PATH made it.
+is_made_by_kit() { is_made "$1" "$2" && grep -qxF "kit: $(rt version)" "$1/built-from"; } 2>/dev/null
 
 # Sets $found to the file $1, made from the sources as they are: the one that was built here, or else the prebuilt one. If there is none,
 # $why has the reason.
@@ -65,8 +68,8 @@ starts() {
 
 # Puts the files of the folder $1 into the folder $2 of the same file system, with a built-from that has the hash $3 of the sources.
 keep() {
-    (CDPATH="" cd -- "$1" && { printf 'sources: %s\n' "$3" && sha256sum -- *; } >../built-from.$$ && mv ../built-from.$$ built-from) &&
-        mkdir -p -- "$2" && mv -f -- "$1"/* "$2/"
+    (CDPATH="" cd -- "$1" && { printf 'sources: %s\nkit: %s\n' "$3" "$(rt version)" && sha256sum -- *; } >../built-from.$$ &&
+        mv ../built-from.$$ built-from) && mkdir -p -- "$2" && mv -f -- "$1"/* "$2/"
 }
 
 # Makes a folder in out/ for files that are being made, and sets $stage to it. It goes when this shell ends.
@@ -112,11 +115,14 @@ jobs_that_fit() {
     if [ "$jobs" -gt 0 ]; then echo "$jobs"; fi
 }
 
-# To be attended: proves all crates by the kit, and builds the program and its object into out/, unless the program is there. Standard error
-# shows what the kit prints.
+# To be attended: proves all crates by the kit, and builds the program and its object into out/, unless this kit did it already, or there is
+# none that could do it again. Standard error shows what the kit prints.
 prove_program() {
     sources="$(hash_of_sources)" || stop "the sources can't be read"
-    if is_made "$root/out" tigercanon; then return; fi
+    if is_made "$root/out" tigercanon; then
+        if ! has_kit || is_made_by_kit "$root/out" tigercanon; then return; fi
+        say "out/tigercanon was built by another kit, so this one proves and builds it again"
+    fi
     has_kit || stop "the program has to be proved and built, and $lacking"
     make_stage || stop "$root/out can't be written"
     jobs="$(jobs_that_fit)"
@@ -141,15 +147,15 @@ compile_program() {
     keep "$stage" "$root/out/unproved" "$sources" || stop "$root/out can't be written"
 }
 
-# To be attended: proves and compiles the library for C into crates/tigercanon_c/out, unless this kit did it already: libtigercanon_c.a, the
-# module that the page is made of, and the name of the kit.
+# To be attended: proves and compiles the library for C into crates/tigercanon_c/out, unless this kit did it already: libtigercanon_c.a, and the
+# module that the page is made of.
 prove_library() {
     sources="$(hash_of_sources)" || stop "the sources can't be read"
     out="$root/crates/tigercanon_c/out"
-    if is_made "$out" libtigercanon_c.a && is_made "$out" module.bc && is_made "$out" kit && rt version | cmp -s - "$out/kit"; then return; fi
+    if is_made_by_kit "$out" libtigercanon_c.a && is_made "$out" module.bc; then return; fi
     make_stage || stop "$root/out can't be written"
     say "the library for C is proved and compiled: two to four minutes on four processors, over what the gate has proved"
-    attend setsid "$root/scripts/prove-library" "$stage" >&2 && rt version >"$stage/kit" || stop "the library isn't proved"
+    attend setsid "$root/scripts/prove-library" "$stage" >&2 || stop "the library isn't proved"
     [ "$(hash_of_sources)" = "$sources" ] || stop "a source was edited meanwhile, so the library isn't that of the sources as they are"
     keep "$stage" "$out" "$sources" || stop "$out can't be written"
 }
