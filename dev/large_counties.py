@@ -109,10 +109,6 @@ def chain_line() -> bytes:
     return laid_out("1", {6: b"%10d", 17: SOURCE, 20: b"Main", 56: b"A41", 129: RESERVED * 2, 191: points})
 
 
-CHAINS = 100_100
-POLYGONS = NAMES = PARKS = 2 * CHAINS
-CONTENTS = 100_000
-LONG = 35_001  # The long chain.
 POINTS, FURTHER_NAMES, RANGES = 9_900, 4_900, 900
 TWINS = {500: ("Ash", "Birch", "Cedar"), 1_500: ("Main", "Main", "Main", "Main")}
 TIED_PLACE, TIED = 500, 7
@@ -166,25 +162,41 @@ def street_chain(place: int, start: Optional[int], end: Optional[int], name: str
     return maps.Chain({**OF_CHAIN, "FENAME": name}, points, start, end, **{"left": None, "right": None, "topology": OF_TOPOLOGY, **more})
 
 
-def crowded() -> County:
-    """Many names, landmarks, polygons and CENIDs, one long chain with many names and ranges, and one large landmark."""
-    topology = {**OF_TOPOLOGY, **dict.fromkeys(("RS_I2", "RS_I3"), OF_TOPOLOGY["RS_I1"])}
-    chains = [
-        street_chain(it, it, it + 1, left=2 * it, right=2 * it + 1, names=[2 * it, 2 * it + 1], topology=topology) for it in range(CHAINS)
-    ]
-    long = chains[LONG]
-    long.points[1:1] = ((WEST + STEP * LONG + place % 5, 32_300_000 + place) for place in range(POINTS))
-    long.names = [place * 37 % NAMES for place in range(FURTHER_NAMES)]  # some of them twice
-    long.ranges = [{"FRADDL": f"{number:>11}", "FRIADDL": "1"} for number in range(1, RANGES + 1)]
-    names = [{"FILE": maps.FILE, "FENAME": f"Way {number:06}"} for number in range(NAMES)]
-    polygons = [
-        maps.Polygon({"FILE": maps.FILE, "WATER": "0"}, (longitude(number), int(LATITUDE)), cenid=f"{number + 0x10000:05X}")
-        for number in range(POLYGONS)
-    ]
-    large = maps.Landmark(landmark_fields("Content", 0), polygons=list(range(CONTENTS)))
-    large.more = [landmark_fields("Content", number) for number in range(1, CONTENTS)]
-    parks = [maps.Landmark(landmark_fields("Park", number), polygons=[number]) for number in range(PARKS)]
-    return spelled(maps.County(chains, names, polygons, [large, *parks]))
+class Crowded(NamedTuple):
+    """How many chains a crowded county has, and contents of its large landmark. It has twice as many polygons, and as many further names
+    and small landmarks as these."""
+
+    chains: int
+
+    @property
+    def polygons(self) -> int:
+        return 2 * self.chains
+
+    @property
+    def long(self) -> int:
+        """The place of the long chain."""
+        return self.chains * 7 // 20
+
+    def county(self) -> County:
+        """Many names, landmarks, polygons and CENIDs, one long chain with many names and ranges, and one large landmark."""
+        topology = {**OF_TOPOLOGY, **dict.fromkeys(("RS_I2", "RS_I3"), OF_TOPOLOGY["RS_I1"])}
+        chains = [
+            street_chain(place, place, place + 1, left=2 * place, right=2 * place + 1, names=[2 * place, 2 * place + 1], topology=topology)
+            for place in range(self.chains)
+        ]
+        long = chains[self.long]
+        long.points[1:1] = ((WEST + STEP * self.long + place % 5, 32_300_000 + place) for place in range(POINTS))
+        long.names = [place * 37 % self.polygons for place in range(FURTHER_NAMES)]  # some of them twice
+        long.ranges = [{"FRADDL": f"{number:>11}", "FRIADDL": "1"} for number in range(1, RANGES + 1)]
+        names = [{"FILE": maps.FILE, "FENAME": f"Way {number:06}"} for number in range(self.polygons)]
+        polygons = [
+            maps.Polygon({"FILE": maps.FILE, "WATER": "0"}, (longitude(number), int(LATITUDE)), cenid=f"{number + 0x10000:05X}")
+            for number in range(self.polygons)
+        ]
+        large = maps.Landmark(landmark_fields("Content", 0), polygons=list(range(self.chains)))
+        large.more = [landmark_fields("Content", number) for number in range(1, self.chains)]
+        parks = [maps.Landmark(landmark_fields("Park", number), polygons=[number]) for number in range(self.polygons)]
+        return spelled(maps.County(chains, names, polygons, [large, *parks]))
 
 
 def landmark_fields(name: str, number: int) -> maps.Values:

@@ -30,12 +30,15 @@ class Tally:
 
     def count(self, is_so: object, message: str) -> bool:
         """Counts a case, and prints the message if it failed."""
-        with self.lock:
-            self.passed += bool(is_so)
-            self.failed += not is_so
-            if not is_so:
-                print(f"{self.what}{message}", flush=True)
+        self.add(int(bool(is_so)), int(not is_so))
+        if not is_so:
+            print(f"{self.what}{message}\n", end="", flush=True)
         return bool(is_so)
+
+    def add(self, passed: int = 0, failed: int = 0, skipped: int = 0) -> None:
+        """Counts cases that were tried, or skipped, elsewhere. Threads may count at the same time."""
+        with self.lock:
+            self.passed, self.failed, self.skipped = self.passed + passed, self.failed + failed, self.skipped + skipped
 
     def holds(self, name: str, is_so: object, found: object = "it is not so") -> bool:
         """Counts a case by its name, with the value that was found if it failed."""
@@ -52,7 +55,7 @@ class Tally:
 
     def skip(self, reason: str) -> None:
         """Counts a case that can't be tried here, and prints why."""
-        self.skipped += 1
+        self.add(skipped=1)
         print(f"{self.what or 'tests, '}skipped: {reason}", flush=True)
 
     def close(self) -> int:

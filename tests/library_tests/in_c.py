@@ -51,13 +51,18 @@ def try_vectors(tests: Tests) -> None:
             tests.count(not told, f"C, {case['name']}: {case['shows']}" + "".join(f"\n  {line}" for line in told))
 
 
+def small_pages() -> dict[str, str]:
+    """The environment without the setting for large pages, with which memory grows by large steps."""
+    return {key: text for key, text in os.environ.items() if key != "GLIBC_TUNABLES"}
+
+
 def try_rounds(tests: Tests) -> None:
     """A thousand calls leave no memory behind."""
     words = [["check", AUTAUGA], ["respell", AUTAUGA], ["normalise", AUTAUGA], ["normalise", "--no-sources", AUTAUGA],
              ["fingerprint", AUTAUGA], ["compare", AUTAUGA, RENUMBERED], ["check", ROOT / "examples/broken.txt"],
              ["compare", AUTAUGA, ROOT / "examples/refused/too-symmetric.txt"], ["respell", os.devnull]]
     for call in words:
-        done = tests.by_c("--rounds", "1000", *call)
+        done = tests.by_c("--rounds", "1000", *call, env=small_pages())
         found = [int(kib) for kib in re.findall(rb": (\d+) KiB", done.err)]
         is_so = len(found) == 2 and found[1] - found[0] <= GROWTH
         tests.count(is_so, f"1,000 rounds of {call[0]}: {done.err.decode()[:300]}")
@@ -109,11 +114,15 @@ def try_cpp(tests: Tests) -> None:
                 tests.equal(f"{compiler} in {standard} with {how}, {first.name}", wanted, run([made, first, second]))
 
 
-def try_threads(tests: Tests, county: Path) -> None:
-    """Calls in several threads at once return what one returns."""
+def try_county(tests: Tests) -> None:
+    """Calls in several threads at once return what one returns, and calls in little memory report that."""
+    county = tests.room / "county.txt"
+    make_county(2000, county)
     for threads in ("2", "4"):
         for call in [["fingerprint", county], ["normalise", county], ["compare", county, county], ["check", AUTAUGA]]:
             tests.equal(f"{threads} threads, {call[0]}", tests.by_c(*call), tests.by_c("--threads", threads, *call))
+    for command in ("check", "respell", "normalise", "fingerprint"):
+        tests.limit(command, county, range(2 << 20, 32 << 20, 512 << 10), env=small_pages())
 
 
 def try_checked(tests: Tests) -> None:
@@ -138,7 +147,8 @@ def try_checked(tests: Tests) -> None:
             tests.equal(f"{name}, {' '.join(map(str, call))}", tests.by_c(*call), run([*caller, *call]))
 
 
-def run_all(tests: Tests) -> None:
+def compile_callers(tests: Tests) -> None:
+    """Compiles the caller by each compiler that is installed, as all other tests in C need it."""
     try_exports(tests)
     if not tools("gcc"):
         tests.skip("gcc isn't installed: nothing was tried by C")
@@ -146,14 +156,6 @@ def run_all(tests: Tests) -> None:
     try_header(tests)
     for compiler in tools("gcc", "clang"):
         tests.compile(compiler, compiler, *tests.linked)
-    if "gcc" not in tests.callers:
-        return
-    for test in (try_vectors, try_rounds, try_parts, try_cpp, try_checked):
-        test(tests)
-    county = tests.room / "county.txt"
-    make_county(2000, county)
-    try_threads(tests, county)
-    # With large pages a growth is so large that none of the steps below may stop it.
-    plain = {key: text for key, text in os.environ.items() if key != "GLIBC_TUNABLES"}
-    for command in ("check", "respell", "normalise", "fingerprint"):
-        tests.limit(command, county, range(2 << 20, 32 << 20, 512 << 10), env=plain)
+
+
+TESTS = (try_checked, try_rounds, try_county, try_vectors, try_parts, try_cpp)

@@ -1,17 +1,19 @@
-"""The library on a county of 100,000 chains, compared with the program's answers; and by C on the counties of tests/test-large."""
+"""The library on a county of 70,000 chains, compared with the program's answers; and by C on counties of tests/test-large, most of them
+smaller: that the proved code, which is the program's too, does the same on large ones is tried there."""
 
 import importlib
-import itertools
 import mmap
 import os
 import sys
 from pathlib import Path
 
-from dev.measuring import TURNED, use_large_pages
+from dev import large_counties
+from dev.measuring import TURNED
 from dev.testing import make_county, run, script
 from library_tests.support import SUFFIXES, Tests
 
-CHAINS = 100_000
+# So no number of chains fits into two bytes.
+CHAINS = 70_000
 
 
 def try_c(tests: Tests, whole: Path, stem: Path) -> None:
@@ -19,9 +21,11 @@ def try_c(tests: Tests, whole: Path, stem: Path) -> None:
     words: list[list[object]] = [[command, whole] for command in ("check", "respell", "normalise", "fingerprint")]
     words += [[command, "--stem", stem] for command in ("respell", "normalise", "fingerprint")]
     words += [["fingerprint", "--no-sources", "--no-reserved", whole], ["compare", whole, f"{stem}.RT1"], ["compare", whole, whole]]
-    for call, name in itertools.product(words, tests.callers.keys() & {"gcc", "clang"}):
-        found, wanted = run([*tests.callers[name], *call]), run([tests.program, *call])
-        tests.count(found == wanted, f"{CHAINS} chains by {name}, {call[0]}: {found.status} {found.err!r}, {len(found.out)} bytes")
+    for call in words:
+        wanted = run([tests.program, *call])
+        for name in (it for it in ("gcc", "clang") if it in tests.callers):
+            found = run([*tests.callers[name], *call])
+            tests.count(found == wanted, f"{CHAINS} chains by {name}, {call[0]}: {found.status} {found.err!r}, {len(found.out)} bytes")
     wanted = run([tests.program, "fingerprint", whole])
     tests.equal("two threads on large counties", wanted, tests.by_c("--threads", 2, "fingerprint", whole))
 
@@ -56,23 +60,26 @@ def try_python(tests: Tests, whole: Path, stem: Path) -> None:
 
 
 def try_counties(tests: Tests) -> None:
-    """The calls for C on the large counties on which the program is tried, and on the large sets that are rejected."""
+    """The calls for C on counties in which everything is large, on sets that are rejected, and on a text of 390 MB, which the library holds
+    as a whole."""
     test_large = script("tests/test-large")
     large = test_large.Large("large, ", Path(tests.callers["gcc"][0]), tests.room)
-    for test in (test_large.many_of_each, test_large.large_refusals, test_large.very_many_chains):
-        test(large)
-    tests.passed += large.passed
-    tests.failed += large.failed
+    large.crowded = large_counties.Crowded(10_010)
+    test_large.many_of_each(large)
+    test_large.large_refusals(large)
+    large_counties.write(tests.room / "street", large_counties.street(test_large.STREET).text())
+    with open(tests.room / "street", "rb") as street:
+        test_large.make_call(large, test_large.Call(["normalise", "street"], test_large.hashes_of(street)[test_large.NO_MASK]))
+    tests.add(large.passed, large.failed)
 
 
 def run_all(tests: Tests) -> None:
-    use_large_pages()
     # One file of a county, and the stem of nine files of it under other numbers.
     whole, stem = tests.room / "large.txt", tests.room / "large"
     make_county(CHAINS, whole)
     make_county("--stem", *TURNED, CHAINS, stem)
     if "gcc" in tests.callers:
         try_c(tests, whole, stem)
-        tests.limit("fingerprint", whole, (mib << 20 for mib in (60, 90, 120, 400)))
+        tests.limit("fingerprint", whole, (mib << 20 for mib in (40, 60, 90, 400)))
         try_counties(tests)
     try_python(tests, whole, stem)

@@ -2,7 +2,6 @@
 
 import os
 import re
-import resource
 import shutil
 import sys
 from pathlib import Path
@@ -46,8 +45,7 @@ class Tests(testing.Tests):
         """A call in memory of these sizes, which ascend: if memory is short, only that is reported."""
         right, told = self.by_c(command, county), set()
         for size in sizes:
-            limits = (size, size)
-            found = self.by_c(command, county, preexec_fn=lambda: resource.setrlimit(resource.RLIMIT_AS, limits), **how)
+            found = run(["prlimit", f"--as={size}", *self.callers["gcc"], command, county], **how)
             # With even less memory the caller can't start or read its file.
             if told or found.status in (0, 5):
                 self.count(found in (right, LACKING), f"{command} in {size >> 10} KiB: {found.status}, {found.err!r}")
@@ -68,5 +66,5 @@ def run_pytest(tests: Tests) -> None:
         return
     done = run([pythons[0], "-m", "pytest", "-q", "-m", "library"], cwd=ROOT / "python", env=environment)
     passed = re.search(rb"(\d+) passed", done.out)
-    tests.passed += int(passed[1]) - 1 if passed else 0
+    tests.add(int(passed[1]) - 1 if passed else 0)
     tests.count(done.status == 0, f"the package's tests:\n{done.out.decode()[-3000:]}")
