@@ -231,6 +231,7 @@ def test_marks_of_markdown_are_left_out() -> None:
         (b"\xfe\xff\0001\n", "refused 1 UnknownType 1 1", "the file is UTF-16: convert it to LATIN1 first"),
         (b"\xef\xbb\xbf1\n", "refused 1 UnknownType 1 1", "the file begins with a byte order mark: remove its first three bytes"),
         (b"1\n1\n\x1a", "refused 1 UnknownType 1 3", CONTROL_Z),
+        (b"\x1a", "refused 1 UnknownType 1 1", CONTROL_Z),
         (b"1\n1\n\x1a\r\n", "refused 1 UnknownType 1 3", CONTROL_Z),
         (b"1\n1\x1a", "refused 3 BadByte 1 2 2", CONTROL_Z),
         (b"1\nx\n\x1a", "refused 1 UnknownType 1 2", ""),

@@ -86,6 +86,13 @@ def test_links() -> None:
     assert stems("in/a", "second") == ["in/a", "second/a"]
 
 
+def test_one_file_of_two_counties() -> None:
+    """Counties of which only some files are the same are two counties."""
+    put("second/b.RT2", b"another")
+    os.symlink("../in/b.RT1", "second/b.RT1")
+    assert stems("in/b", "second/b") == ["in/b", "second/b"]
+
+
 def test_files(archive: Path) -> None:
     """What is known about a county: one of single files, even if a zip of it is there too, a zip, and one file with all records."""
 

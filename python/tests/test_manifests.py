@@ -163,12 +163,14 @@ def test_a_lock_that_was_removed_meanwhile(room: Path, monkeypatch: pytest.Monke
 
 
 def test_a_lock_is_held_until_its_name_is_gone(room: Path, monkeypatch: pytest.MonkeyPatch) -> None:
-    """Otherwise the name that is removed could be that of the next run's lock."""
+    """Otherwise the name that is removed could be that of the next run's lock. A lock that isn't taken leaves no file open."""
     real = os.unlink
 
     def unlink(name: str) -> None:
+        open_files = os.listdir("/proc/self/fd")
         with pytest.raises(Failure, match="another run writes to it"):
             take_lock("m")
+        assert os.listdir("/proc/self/fd") == open_files
         real(name)
 
     with lock_held("m"):

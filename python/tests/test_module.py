@@ -274,9 +274,19 @@ def test_flags() -> None:
         assert tigercanon.normalise(TEXT, **nothing) == TEXT
 
 
+def resident() -> int:
+    """Returns how many bytes of memory this process has."""
+    return int(Path("/proc/self/statm").read_text().split()[1]) * mmap.PAGESIZE
+
+
 def test_a_large_text() -> None:
-    text = tigercanon.normalise(b"large")
-    assert len(text) == 70 << 20 and text.count(b"x") == len(text) - 1 and text.endswith(b"y")
+    """Its memory is given back."""
+    before = resident()
+    for _ in range(2):
+        text = tigercanon.normalise(b"large")
+        assert len(text) == 70 << 20 and text.count(b"x") == len(text) - 1 and text.endswith(b"y")
+        del text
+    assert resident() - before < 70 << 20
 
 
 def test_other_threads_run() -> None:

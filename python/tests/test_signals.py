@@ -7,6 +7,7 @@ import signal
 import struct
 import sys
 import termios
+import threading
 import time
 from contextlib import suppress
 from pathlib import Path
@@ -180,12 +181,14 @@ def test_a_terminal(archive: Path, is_stopped: bool) -> None:
     fcntl.ioctl(inner, termios.TIOCSWINSZ, struct.pack("HHHH", 24, 150, 0, 0))
     run = begin("fingerprint", "--jobs", "2", "in", stdout=inner, stderr=inner)
     os.close(inner)
-    shown = b""
+    shown, late = b"", threading.Timer(60.0, run.kill)
+    late.start()
     with suppress(OSError), open(terminal, "rb", buffering=0) as screen:
         while text := screen.read(4096):
             shown += text
             if is_stopped and b"9/10" in shown:
                 run.send_signal(signal.SIGINT)
+    late.cancel()
     assert end(run).status == (-signal.SIGINT if is_stopped else 1)
     assert b"0/10" in shown and b" counties/s" in shown
     rows, wanted = rows_of(shown), {*WANTED.splitlines(), f"{NAME}in/TGR5: refused 1 UnknownType 1 1", ""}

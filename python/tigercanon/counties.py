@@ -39,14 +39,15 @@ class Finder:
     def once(self, counties: Iterable[County], is_known: Callable[[County], bool] = lambda _: False) -> tuple[list[County], int]:
         """Returns the counties that aren't known, each once; and how many are known."""
         counted: dict[str, County] = {}
-        places: dict[str, str] = {}
+        stems: dict[tuple[str, ...], str] = {}
         known: set[str] = set()
         for county in counties:
             if is_known(county):
                 known.add(county.stem)
                 continue
-            # A name that its files have whichever links lead to them.
-            first = places.setdefault(real(county.places[0].place), county.stem) if county.places else county.stem
+            # The names that its files have whichever links lead to them.
+            places = tuple(real(file.place) for file in county.places)
+            first = stems.setdefault(places, county.stem) if places else county.stem
             if first != county.stem and county.stem not in counted:
                 self.same.append((county.stem, first))
             else:

@@ -11,9 +11,13 @@ from pathlib import Path
 import pytest
 from dev.maps import FILE, Landmark, Point, written
 from dev.testing import run
-from support import packed, put
+from support import NAME, packed, put
 
+from tigercanon import commands
+from tigercanon.diff.command import Steps
 from tigercanon.diff.words import TIED
+from tigercanon.progress import Console
+from tigercanon.resources import Resources
 
 from .changes import SUBJECTS, Changing, made_county, much_changed, split_maps
 from .reports import EXAMPLE, KINDS, Feature, diff, differing, example_differences, features_in, in_words
@@ -52,6 +56,24 @@ def test_example(room: Path) -> None:
     text, wanted = differing("--geojson", "geojson", EXAMPLE / "first.txt", EXAMPLE / "second.txt"), example_differences()
     assert told_in_geojson(room / "geojson") == wanted
     assert told_in_words(text) == set(map(in_words, wanted))
+
+
+def test_steps(room: Path, program: str, monkeypatch: pytest.MonkeyPatch, capsys: pytest.CaptureFixture[str]) -> None:
+    """If a comparison takes a while, each step is reported when it begins."""
+    monkeypatch.setattr(Steps, "start", lambda steps: steps.finished.set())
+    words = ["diff", "--page", "page", "--geojson", "geojson", str(EXAMPLE / "first.txt"), str(EXAMPLE / "second.txt")]
+    assert commands.perform(commands.parser().parse_args(words), Console(), Resources(prints=True)) == 1
+    assert capsys.readouterr().err.splitlines() == [
+        f"{NAME}{step}"
+        for step in (
+            "normalising both sets",
+            "reading the canonical texts",
+            "comparing 222 chains with 222",
+            "finding the sets' own numbers",
+            "writing the page",
+            "writing GeoJSON",
+        )
+    ]
 
 
 def test_another_hand(changing: Changing, files: Files, room: Path) -> None:
@@ -128,8 +150,8 @@ def test_numbers(files: Files, all_features: Path, room: Path) -> None:
     """Each record of both files has its feature, under any mask and from a zip."""
     wanted = {(side, *key) for side, path in zip(SIDES, files) for key in records(path)}
     assert seen(all_features, files) == wanted
-    differing("--geojson", "geojson", "--no-sources", "--no-reserved", *files)
-    assert seen(room / "geojson", files) < wanted
+    differing("--geojson", "geojson", "--all", "--no-sources", "--no-reserved", *files)
+    assert seen(room / "geojson", files) == wanted
     put("first.zip", packed({"TGR01001.RT1": files[0].read_bytes()}))
     assert diff("--geojson", "geojson", "--all", "first.zip", files[1]).lines == [
         "first.zip: no .RT2 .RT4 .RT5 .RT6 .RT7 .RT8 .RTI .RTP"

@@ -137,6 +137,9 @@ def test_places_of_a_landmark() -> None:
         "Park": '{"type":"MultiPoint","coordinates":[[-85.999999,32.000000],[-86.000000,32.000000]]}',
         "Inn": '{"type":"Point","coordinates":[-86.000000,32.000000]}',
     }
+    about = {"what": "landmark", "kind": "only in the second", "title": "Inn", "differs": None}
+    fields = {"second_LANAME": "Inn", "second_LALONG": -86.0, "second_LALAT": 32.0}
+    assert [found for _, found in features(compared(county, other)) if found["title"] == "Inn"] == [{**about, **fields}]
 
 
 def test_own_reverse() -> None:
@@ -148,6 +151,14 @@ def test_own_reverse() -> None:
     other.fields["FENAME"] = "Maple"
     (thing,) = things(compared(two_sided(chain), two_sided(other)))
     assert differing_fields(thing) == [("FENAME", "Main", "Maple")]
+
+
+def test_a_ring() -> None:
+    """It isn't its own reverse: with its sides exchanged it is another chain."""
+    ring = chain_between([(1, 1), (2, 5), (5, 2), (1, 1)])
+    other = turned(ring)
+    other.points = ring.points
+    assert compared(two_sided(ring), two_sided(other)).chains.counts == (0, 0, 1, 0)
 
 
 @pytest.mark.parametrize(
@@ -205,6 +216,7 @@ def test_degrees(point: str, words: str, longitude: str, latitude: str) -> None:
     "what, name, value, told, place",
     [
         ("chains", "start", 7, "one node in the one, 2 in the other:", "start of Main (A41), 0.000001° N, 0.000001° E"),
+        ("chains", "end", 7, "one node in the one, 2 in the other:", "end of Main (A41), 0.000006° N, 0.000006° E"),
         ("chains", "right", 2, "one polygon in the one, 2 in the other:", "right side of Main (A41)"),
         ("chains", "names", [0], "one feature name in the other, 2 in the one:", "further name 1 of Main (A41)"),
         ("landmarks", "polygons", [1], "one polygon in the one, 2 in the other:", "polygon 1 of Park"),
