@@ -1,6 +1,7 @@
 """The calls for archives do what the commands of their names do. They have nothing in common, and end what they have started."""
 
 import os
+import shutil
 import threading
 import types
 import typing
@@ -135,6 +136,18 @@ def test_nothing_starts_after_the_end(room: Path) -> None:
     for start in starts:
         with pytest.raises(Closed):
             start()
+
+
+def test_what_a_program_has_started_ends_with_it(room: Path) -> None:
+    sleeper = shutil.copy("/bin/sleep", room / "sleeper")
+
+    def are_asleep() -> bool:
+        return any(command.startswith(bytes(sleeper)) for _, _, command in processes())
+
+    with Resources() as resources:
+        threading.Thread(target=resources.run, args=(["/bin/sh", "-c", f"{sleeper} 60 & wait"],), daemon=True).start()
+        assert await_that(are_asleep)
+    assert await_that(lambda: not are_asleep(), 5)
 
 
 def test_names_and_types_of_the_package() -> None:

@@ -1,14 +1,17 @@
 """The work that is sent to the workers of a cluster, and the results from their answers. A fake client of Dask does at once
 what it is given."""
 
+import time
 from concurrent.futures import CancelledError, Future
 from typing import Any, Callable
 
 import pytest
 from support import Four, complete, manifest, put, zip_up
 
+import tigercanon
 from tigercanon import commands, engines
-from tigercanon.judge import Answer, Kind
+from tigercanon.errors import Failure
+from tigercanon.judge import Answer, County, Kind, Order
 from tigercanon.progress import Console
 from tigercanon.resources import Resources
 
@@ -122,6 +125,40 @@ def test_workers_that_end(monkeypatch: pytest.MonkeyPatch) -> None:
     for name in engines.SCHEDULER_ENDED:
         with pytest.raises(engines.Gone, match="the scheduler at there:1 is gone"):
             engine.answer(Lost(name))
+
+
+def test_counties_that_may_not_have_fitted(monkeypatch: pytest.MonkeyPatch) -> None:
+    """They are judged again after all others, each alone. The first answer may take a while."""
+    at_work: list[str] = []
+    judged: list[list[str]] = []
+
+    def judge(county: County, *_: object) -> Answer:
+        at_work.append(county.stem)
+        is_first = not any(county.stem in each for each in judged)
+        time.sleep(0.1)
+        judged.append([*at_work])
+        at_work.remove(county.stem)
+        return Answer(Kind.MEMORY if county.stem in ("b", "c") and is_first else Kind.ACCEPTED, county.stem)
+
+    monkeypatch.setattr(engines, "judge", judge)
+    monkeypatch.setattr(engines, "TICK", 0.01)
+    with Resources() as resources:
+        results = engines.Engine(1, resources).answers([County(stem) for stem in "abcd"], Order(""))
+        assert [result[0] for result in results if result] == [0, 3, 1, 2]
+        judged.clear()
+        results = engines.Engine(4, resources).answers([County(stem) for stem in "bc"], Order(""))
+        assert [result[0] for result in results if result] == [0, 1]
+    assert judged[2:] == [["b"], ["c"]]
+
+
+def test_a_call_whose_scheduler_is_gone(four: Four, monkeypatch: pytest.MonkeyPatch) -> None:
+    """It raises that after what was answered."""
+    monkeypatch.setattr(engines, "client_of", lambda *_: Client(2))
+    put("m", manifest(four).encode())
+    results = tigercanon.verify("m", scheduler="there:1")
+    assert [next(results).verdict for _ in range(2)] == ["OK", "OK"]
+    with pytest.raises(Failure, match="^the scheduler at there:1 is gone: 2 counties are left$"):
+        next(results)
 
 
 @pytest.mark.parametrize("count", range(5))

@@ -4,6 +4,7 @@ from __future__ import annotations
 
 import fcntl
 import os
+import shutil
 import tempfile
 import threading
 import time
@@ -12,7 +13,7 @@ from typing import Iterator
 
 import pytest
 from dev.testing import await_that
-from support import Four, complete, left_behind, listed, manifest, put, zip_up
+from support import HEAD, Four, complete, left_behind, listed, manifest, put, zip_up
 
 import tigercanon
 from tigercanon import judge, manifests, resources
@@ -40,6 +41,12 @@ def test_several_lines_for_a_county(room: Path) -> None:
     assert lines_of(failed + one) == [Line(f"{1:064}", "a")]
     assert lines_of(COMMENT.format("a") + one + COMMENT.format("b")) == [Line(f"{1:064}", "a", "1 2006-01-01T00:00:00Z")]
     assert [line.stem for line in lines_of(one + f"{3:064}  b\n" + two)] == ["b", "a"]
+
+
+def test_line_endings(room: Path) -> None:
+    """If all lines end in CR LF these are line endings. Otherwise a CR belongs to the name."""
+    for ends, names in ((("\r\n", "\r\n"), ["a", "b"]), (("\r\n", "\n"), ["a\r", "b"]), (("\n", "\r\n"), ["a", "b\r"])):
+        assert [line.stem for line in lines_of(f"{1:064}  a{ends[0]}{2:064}  b{ends[1]}")] == names
 
 
 @pytest.mark.parametrize("head", ["", "# tigercanon form 1\n"])
@@ -135,6 +142,29 @@ def test_counties_that_are_gone(four: Four) -> None:
     assert absent.fingerprint is None and "in/c\n" in listed("m")
     assert len([*tigercanon.manifest("in/c", output="m", update=True, prune=True)]) == 1
     assert "in/c\n" not in listed("m") and "in/deep/b\n" in listed("m")
+    shutil.rmtree("in")
+    assert len([*tigercanon.manifest("in/-d", "in/a a", "in/deep/b", output="m", update=True, prune=True)]) == 3
+    assert Path("m").read_text() == HEAD
+
+
+def test_a_county_of_a_name_that_is_gone(four: Four) -> None:
+    """In another folder and with another map it is another county, and the first one keeps its line, even if a source has its name."""
+    assert len([*tigercanon.manifest("in", output="m")]) == 4
+    for name in [name for name in os.listdir("in") if name.startswith("b.")]:
+        os.renames(f"in/{name}", f"in/deep/{name}")
+    put("in/deep/b.RT1", b"another map\n")
+    for source, county in (("in", "in/deep/b"), ("in/b", "in/b")):
+        assert [each.county for each in tigercanon.manifest(source, output="m", update=True)] == [county]
+        assert listed("m") == manifest({**four, "in/deep/b": b"another map\n"})
+
+
+def test_verifications_at_once(four: Four) -> None:
+    """They only look whether a run has the lock, and don't keep each other out."""
+    put("m", manifest(four).encode())
+    put("m.lock", b"process 1 on a machine that was turned off\n")
+    with open("m.lock") as other:
+        fcntl.flock(other, fcntl.LOCK_SH)
+        assert [each.verdict for each in tigercanon.verify("m")] == ["OK"] * 4
 
 
 def test_a_lock_whose_name_leads_elsewhere(room: Path) -> None:

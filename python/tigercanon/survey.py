@@ -155,7 +155,7 @@ class Survey:
             line = Line(answer.text, county.stem, sources if TELLING.fullmatch(sources) else "")
         else:
             line = Line("", county.stem, sources, refusal_in(answer.text))
-        has_place = bool(county.places) or before is not None
+        has_place = bool(county.places) or before is not None and not county.is_absent
         if has_place and (is_accepted or before is None or self.choice.update or not before.fingerprint):
             self.listed[folded(county.stem)] = line
             if self.manifest:
