@@ -6,8 +6,9 @@
 #include <string.h>
 #include <sys/mman.h>
 
-/* The engine's own names, and what WebAssembly gives it: its first free byte, and memory.grow. */
-static unsigned char *room;
+/* The engine's own names, and what WebAssembly gives it: the end of its static data, behind which its first block begins in the room, and
+ * memory.grow. */
+static unsigned char *static_end, *room;
 static uint64_t grow_pages(uint64_t pages);
 #define TYPES_H
 #define __multi3 tried_multi3
@@ -16,7 +17,7 @@ static uint64_t grow_pages(uint64_t pages);
 #define malloc tried_malloc
 #define free tried_free
 #define realloc tried_realloc
-#define __heap_base (*room)
+#define __heap_base (*static_end)
 #define __builtin_wasm_memory_grow(memory, pages) grow_pages(pages)
 #include "called.c"
 #include "heap.c"
@@ -37,11 +38,13 @@ static void told(int is_so, const char *what)
     if (!is_so) printf("FAILED %s\n", what);
 }
 
+/* The module's memory.grow, which takes and returns 32 bits. Memory that it hasn't given can't be touched. */
 static uint64_t grow_pages(uint64_t pages)
 {
+    uint32_t asked = (uint32_t)pages, refused = ~(uint32_t)0;
     uint64_t before = (uintptr_t)room / PAGE + pages_given;
-    if (pages > most_pages - pages_given) return ~0ULL;
-    pages_given += pages;
+    if (asked > most_pages - pages_given || mprotect(room + pages_given * PAGE, asked * PAGE, PROT_READ | PROT_WRITE)) return refused;
+    pages_given += asked;
     return before;
 }
 
@@ -131,21 +134,97 @@ static int step(struct held *block)
     return is_kept;
 }
 
+/* The free blocks in the lists, or -1 if one is in a wrong list. */
+static int listed_blocks(void)
+{
+    int count = 0;
+    for (unsigned list = 0; list < LISTS; list++)
+        for (struct block *each = lists[list]; each; each = links_of(each)->next, count++)
+            if (!(each->size & 1) || list_for(size_of(each)) != list) return -1;
+    return count;
+}
+
+/* Each block tells whether the one before it is free, no two neighbours are free, and all free ones are in lists. */
+static int is_sound(void)
+{
+    int count = 0;
+    uint64_t before = 0;
+    for (struct block *each = (struct block *)room; each != last; each = behind(each)) {
+        int is_free = each->size & 1;
+        if (each->before != before || (is_free && before)) return 0;
+        before = is_free ? size_of(each) : 0;
+        count += is_free;
+    }
+    return last->before == before && count == listed_blocks();
+}
+
 /* All memory as one free block, behind which the heap ends. */
 static int is_all_free(void)
 {
-    int blocks = 0;
-    uint64_t bytes = 0;
-    for (unsigned list = 0; list < LISTS; list++)
-        for (struct block *each = lists[list]; each; each = links_of(each)->next) blocks++, bytes += size_of(each);
-    return blocks == 1 && bytes + HEADER == pages_given * PAGE && (unsigned char *)last + HEADER == room + pages_given * PAGE;
+    return is_sound() && listed_blocks() == 1 && behind((struct block *)room) == last &&
+        (unsigned char *)last + HEADER == room + pages_given * PAGE;
+}
+
+/* No more memory is taken than is needed, from the first byte behind the static data that has the alignment. */
+static void try_beginning(void)
+{
+    unsigned char *first = tried_malloc(PAGE - HEADER);
+    told(first == room + HEADER && pages_given == 2, "a page with its header takes two pages");
+    unsigned char *second = tried_malloc(PAGE - 2 * HEADER);
+    told(second == first + PAGE && pages_given == 2, "a block that fits exactly is taken");
+    unsigned char *third = tried_malloc(PAGE - 2 * HEADER);
+    told(third == second + PAGE - HEADER && pages_given == 3, "a page less its header takes one page");
+    tried_free(second);
+    tried_free(third);
+    tried_free(tried_malloc(2 * PAGE));
+    told(is_sound(), "new memory is joined with the free block before it");
+    tried_free(first);
+    told(is_all_free(), "the first blocks become one");
+}
+
+/* Each block stays where it is: it takes the free block behind it, or new memory if it is the last one. */
+static void try_in_place(void)
+{
+    uint64_t before = pages_given;
+    unsigned char *one = tried_realloc(NULL, 1000), *two = tried_malloc(1000), *three = tried_malloc(1000);
+    told(one < two && two < three && pages_given == before, "a block leaves the rest of memory");
+    tried_free(two);
+    told(tried_realloc(one, 1900) == one, "a block takes the free block behind it");
+    told(tried_realloc(one, 100) == one, "a block that becomes smaller stays");
+    two = tried_malloc(1500);
+    told(one < two && two < three, "what a block gives back is taken again");
+    told(tried_realloc(three, before * PAGE) == three && pages_given == before + 1, "a block with free memory behind it takes a page more");
+    size_t all = (size_t)((unsigned char *)last - three);
+    told(tried_realloc(three, all) == three && pages_given == before + 1, "a block takes all memory behind it");
+    told(tried_realloc(three, all + 1) == three && pages_given == before + 2, "the last block takes a page more");
+    tried_free(one);
+    tried_free(two);
+    tried_free(three);
+    told(is_all_free(), "blocks that stayed become one");
+}
+
+/* Of a block that moves no more is read than it has. */
+static void try_moving(void)
+{
+    unsigned char *large = tried_malloc(100 * PAGE), *small = tried_malloc(100), *other = tried_malloc(100);
+    memset(small, 7, 100);
+    tried_free(large);
+    unsigned char *moved = tried_realloc(small, 99 * PAGE);
+    told(moved == large && is_intact(&(struct held){moved, 7, 100}, 100), "a block moves before other ones");
+    tried_free(moved);
+    tried_free(other);
+    told(is_all_free(), "after a move memory is whole");
 }
 
 static void try_heap(void)
 {
-    int are_kept = 1;
-    for (int each = 0; each < STEPS; each++) are_kept &= step(&held[next_number() % BLOCKS]);
+    int are_kept = 1, are_sound = 1;
+    for (int each = 0; each < STEPS; each++) {
+        are_kept &= step(&held[next_number() % BLOCKS]);
+        if (each % 500 == 0) are_sound &= is_sound();
+    }
     told(are_kept, "blocks keep what is in them");
+    told(are_sound, "free neighbours are joined");
     for (int each = 0; each < BLOCKS; each++) tried_free(held[each].address);
     told(is_all_free(), "what is freed becomes one block");
     uint64_t before = pages_given;
@@ -157,25 +236,37 @@ static void try_heap(void)
 static void try_refusals(void)
 {
     most_pages = pages_given + 10;
-    told(tried_malloc(MOST_PAGES * PAGE) == NULL && tried_malloc(LARGEST + 1) == NULL, "memory that isn't there is refused");
     unsigned char *block = tried_malloc(1000);
+    /* The last three have fewer pages in 32 bits, or fewer bytes in 64. */
+    uint64_t refused_sizes[] = {MOST_PAGES * PAGE, LARGEST + 1, 1ULL << 48, (1ULL << 48) + PAGE, ~0ULL};
+    for (int each = 0; each < 5; each++) {
+        told(tried_malloc(refused_sizes[each]) == NULL, "memory that isn't there is refused");
+        told(tried_realloc(block, refused_sizes[each]) == NULL, "a block doesn't grow by memory that isn't there");
+    }
     fill((struct held[1]){{0}}, block, 1000, 7);
     struct tried refused = rattle_realloc(block, 1000, MOST_PAGES * PAGE, 16);
     told(!refused.has_memory && refused.address != NULL && is_intact(&(struct held){block, 7, 1000}, 1000), "a block that can't grow stays");
-    struct tried given = rattle_alloc(100, 8);
-    told(given.has_memory == 1 && given.address != NULL, "memory is given with its address");
+    struct tried given = rattle_alloc(100, 8), other = rattle_alloc(100, 8);
+    memset(given.address, 1, 100);
+    memset(other.address, 2, 100);
+    told(given.has_memory == 1 && is_intact(&(struct held){given.address, 1, 100}, 100), "memory is given with its address");
     rattle_dealloc(given.address);
+    rattle_dealloc(other.address);
     tried_free(block);
     told(is_all_free(), "after a refusal memory is whole");
 }
 
 int main(void)
 {
-    room = mmap(NULL, (MOST_PAGES + 1) * PAGE, PROT_READ | PROT_WRITE, MAP_PRIVATE | MAP_ANONYMOUS, -1, 0);
+    room = mmap(NULL, (MOST_PAGES + 1) * PAGE, PROT_NONE, MAP_PRIVATE | MAP_ANONYMOUS, -1, 0);
     if (room == MAP_FAILED) return 1;
     room = (unsigned char *)(((uintptr_t)room + PAGE - 1) / PAGE * PAGE);
+    static_end = room - 7;
     try_products();
     try_comparing();
+    try_beginning();
+    try_in_place();
+    try_moving();
     try_heap();
     try_refusals();
     printf("%ld passed, %ld failed\n", passed, failed);
