@@ -35,6 +35,7 @@ export class ManyCounties {
   async start() {
     await this.readManifests();
     await this.takeListed();
+    if (this.isGone) return;
     this.queue = new Queue(this.counties, this.masks, (task, masks) => this.judge(task, masks));
     this.showSummary();
     for await (const task of this.queue.ended()) {
@@ -54,7 +55,7 @@ export class ManyCounties {
         this.notes.append(troubleOf(`${path}: ${error.message}.`));
       }
     }
-    if (!this.manifest) return;
+    if (!this.manifest || this.isGone) return;
     if (this.manifests.length > 1) this.notes.append(troubleOf(`There are ${this.manifests.length} manifests; ${this.manifest.name} is compared.`));
     this.masks = this.manifest.masks;
     this.actions.fixMasks(this.masks);

@@ -125,6 +125,68 @@ def try_broken_files(page: Page) -> None:
     page.equal("an empty file", "It is empty, so it has no records.", page.browser.text(".refusal .line"))
 
 
+def try_nothing(page: Page) -> None:
+    """Files that are no county are told by their endings, and a new start takes that away."""
+    folder = page.room / "nothing"
+    folder.mkdir()
+    for name in ("a.pdf", "b.pdf", "read.me"):
+        (folder / name).write_bytes(b"nothing")
+    other = page.room / "TGR01001.RT3"
+    other.write_bytes(b"nothing")
+    county = "A county is nine files .RT1 to .RTP, a zip of them, or one file with all records."
+    for file, wanted in ((folder, "these: 2 .pdf, 1 .me"), (other, "this: 1 .RT3")):
+        page.browser.start_again()
+        page.equal("a complaint at a new start", "", page.browser.text("#complaint"))
+        page.browser.drop([file])
+        page.browser.wait_for("!document.getElementById('complaint').hidden")
+        page.equal("a complaint", f"There is no county in {wanted}. {county}", page.browser.text("#complaint"))
+    page.show([EXAMPLES / "two-maps/first.txt"])
+    page.equal("a complaint beside a county", "", page.browser.text("#complaint"))
+
+
+# Keeps the workers that aren't ended, and begins anew as soon as a county is judged.
+STOPPED_AT_ONCE = """
+globalThis.workers ??= new Set();
+globalThis.Worker = class extends (globalThis.OwnWorker ??= Worker) {
+  constructor(...words) {
+    super(...words);
+    workers.add(this);
+  }
+  terminate() {
+    workers.delete(this);
+    super.terminate();
+  }
+};
+document.body.dataset.stopped = "";
+document.getElementById("announced").textContent = "";
+new MutationObserver((_, observer) => {
+  if (!document.querySelector(".stages, .many")) return;
+  observer.disconnect();
+  document.getElementById("again").click();
+  document.body.dataset.stopped = "yes";
+}).observe(document.getElementById("results"), { childList: true, subtree: true });
+"""
+
+
+def try_gone(page: Page) -> None:
+    """What was given before a new start isn't judged to its end, and nothing is said of it."""
+    manifest = page.room / "flagged.manifest"
+    manifest.write_text(f"# tigercanon form 1 --no-sources\n{'0' * 64}  first.txt\n")
+    files = [EXAMPLES / "two-maps/first.txt", EXAMPLES / "two-maps/second.txt", EXAMPLES / "autauga/all.txt", manifest]
+    for count, said in ((1, "first.txt: judging"), (2, "second.txt: judging"), (3, ""), (4, "")):
+        page.browser.start_again()
+        page.browser.driver.execute_script(STOPPED_AT_ONCE)
+        page.browser.give(files[:count])
+        page.browser.wait_for("document.body.dataset.stopped")
+        time.sleep(0.5)  # an announcement waits for a twentieth of a second
+        page.equal(f"workers for {count} that are gone", 0, page.browser.evaluate("workers.size"))
+        page.equal(f"what is said of {count}", said, page.browser.evaluate("document.getElementById('announced').textContent"))
+        page.equal(f"what is shown of {count}", "", page.browser.text("#results"))
+    boxes = "['checked', 'disabled'].map((is) => document.getElementById('no-sources')[is])"
+    page.equal("the flag of a manifest that is gone", [False, False], page.browser.evaluate(boxes))
+    page.browser.driver.execute_script("globalThis.Worker = OwnWorker")
+
+
 def archive(page: Page) -> Path:
     """A folder of counties: zips and single files, accepted and refused ones, and other files."""
     folder = page.room / "tiger"
@@ -273,4 +335,4 @@ def try_one_after_another(page: Page) -> None:
     page.browser.click("#no-sources")
 
 
-CASES = (try_drops, try_zips, try_broken_files, try_many, try_very_many, try_one_after_another)
+CASES = (try_drops, try_zips, try_broken_files, try_nothing, try_gone, try_many, try_very_many, try_one_after_another)
