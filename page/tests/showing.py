@@ -3,7 +3,7 @@
 from __future__ import annotations
 
 import re
-from typing import Any
+from typing import Any, Callable
 
 from dev.testing import run
 from in_browser import EXAMPLES, TOOLS, VERDICT, Page
@@ -215,6 +215,11 @@ def try_card(page: Page) -> None:
     page.browser.click(".place-card .close")
     page.equal("a closed card", True, page.browser.evaluate(CLOSED))
     page.equal("nothing is marked", 0, coloured(page, "chosen"))
+    cells = "[...new Set([...document.querySelectorAll('.place-card .content > .fields tr')].map(({ cells }) => cells.length))]"
+    for kind, wanted in (("changed", 3), ("first", 2), ("second", 2)):
+        page.browser.click(f".differences li:has(.sign.{kind}) > button")
+        page.browser.wait_for(f"document.querySelector('.place-card .kind.{kind}')")
+        page.equal(f"cells in a row of a thing {kind}", [wanted], page.browser.evaluate(cells))
 
 
 def click_map(page: Page, x: float, y: float) -> None:
@@ -244,18 +249,75 @@ def try_click(page: Page) -> None:
     page.holds("its fields", "CFCC" in page.browser.text(".place-card"), page.browser.text(".place-card"))
 
 
+def rulers(page: Page) -> list[tuple[str, float]]:
+    """The unit of each ruler of the map, and how many metres a pixel has by it."""
+    texts = "[...document.querySelectorAll('.rulers div')].map((each) => [...each.textContent.split(' '), each.getBoundingClientRect().width])"
+    metres = {"m": 1.0, "km": 1000.0, "ft": 0.3048, "mi": 1609.344}
+    return [(unit, float(length) * metres[unit] / pixels) for length, unit, pixels in page.browser.evaluate(texts)]
+
+
 def try_rulers(page: Page) -> None:
     """The map's scale is in metres and in feet."""
     show_town(page)
-    found = page.browser.evaluate(
-        "[...document.querySelectorAll('.rulers div')].map((each) => [each.textContent, each.offsetWidth])"
-    )
-    units = {"m": 1.0, "km": 1000.0, "ft": 0.3048, "mi": 1609.344}
-    metres = [float(text.split()[0]) * units[text.split()[1]] / pixels for text, pixels in found]
-    page.equal("units", ["m", "ft"], [text.split()[1] for text, _ in found])
-    page.holds("metres to a pixel", abs(metres[0] / metres[1] - 1) < 0.03, found)
+    (one, metres), (other, also) = rulers(page)
+    page.equal("units", ["m", "ft"], [one, other])
+    page.holds("metres to a pixel", abs(metres / also - 1) < 0.01, [metres, also])
     # 0.016 degrees of latitude are 1,781 m, and the town is 0.0155 degrees high.
-    page.holds("the town's height", 2.5 < metres[0] < 4.5, metres)
+    page.holds("the town's height", 2.5 < metres < 4.5, metres)
+
+
+PLACE = "(({ e, f }) => [e, f])(new DOMMatrix(getComputedStyle(document.querySelector('.place-card')).transform))"
+# Presses a key on the map, and returns whether the map takes it.
+KEY = "!document.querySelector('.map').dispatchEvent(new KeyboardEvent('keydown', { key: arguments[0], [arguments[1]]: true, cancelable: true }))"
+
+
+def moved(page: Page, act: Callable[[], object]) -> tuple[list[float], float]:
+    """By how many pixels the card on the map moves, and how many times more a pixel shows."""
+    before, metres = page.browser.evaluate(PLACE), rulers(page)[0][1]
+    act()
+    page.browser.wait_for(DRAWN)
+    after = page.browser.evaluate(PLACE)
+    return [after[at] - before[at] for at in (0, 1)], round(rulers(page)[0][1] / metres, 3)
+
+
+def mouse(page: Page, kind: str, x: int, y: int, **more: Any) -> None:
+    page.browser.command("Input.dispatchMouseEvent", type=kind, x=x, y=y, **more)
+
+
+def drag(page: Page) -> None:
+    left, top = map(
+        int, page.browser.evaluate("(({ left, top }) => [left, top])(document.querySelector('.map').getBoundingClientRect())")
+    )
+    for kind, x, y in (("mousePressed", 50, 60), ("mouseMoved", 65, 70), ("mouseMoved", 80, 40), ("mouseReleased", 80, 40)):
+        mouse(page, kind, left + x, top + y, button="left", buttons=1, clickCount=1)
+
+
+def try_moving(page: Page) -> None:
+    """Keys, buttons and the pointer move and zoom the map, and the card with it. Keys with Ctrl, Alt or Meta are the browser's."""
+    show_town(page)
+    whole = rulers(page)
+    page.browser.click(".differences li:nth-child(14) > button")
+    page.browser.wait_for(CARD)
+    arrows = {"ArrowLeft": [80, 0], "ArrowRight": [-80, 0], "ArrowUp": [0, 80], "ArrowDown": [0, -80], "x": [0, 0]}
+    for key, wanted in arrows.items():
+        taken = []
+        found = moved(page, lambda: taken.append(page.browser.evaluate(KEY, key, "bubbles")))
+        page.equal(f"the key {key}", ((wanted, 1.0), [key != "x"]), (found, taken))
+    for held in ("ctrlKey", "altKey", "metaKey"):
+        for key in ("ArrowLeft", "-"):
+            page.equal(f"{held} and {key}", ([0, 0], 1.0), moved(page, lambda: page.browser.evaluate(KEY, key, held)))
+    zooms = {"+": 0.625, "-": 1.6, "=": 0.625}
+    for key, factor in zooms.items():
+        page.equal(f"the key {key}", factor, moved(page, lambda: page.browser.evaluate(KEY, key, "bubbles"))[1])
+    for number, factor in ((2, 1.6), (1, 0.625)):
+        page.equal("a button", factor, moved(page, lambda: page.browser.click(f".tools button:nth-child({number})"))[1])
+    page.equal("a pointer that drags", ([30, -20], 1.0), moved(page, lambda: drag(page)))
+    page.equal("a card stays", False, page.browser.evaluate(CLOSED))
+    for act in (lambda: page.browser.evaluate(KEY, "0", "bubbles"), lambda: page.browser.click(".tools button:nth-child(3)")):
+        page.browser.evaluate(KEY, "+", "bubbles")
+        act()
+        page.browser.wait_for(DRAWN)
+        page.equal("the whole map", whole, rulers(page))
 
 
 def try_keyboard(page: Page) -> None:
@@ -396,6 +458,7 @@ CASES = (
     try_card,
     try_click,
     try_rulers,
+    try_moving,
     try_keyboard,
     try_exchange,
     try_third,
