@@ -144,8 +144,9 @@ def try_nothing(page: Page) -> None:
     page.equal("a complaint beside a county", "", page.browser.text("#complaint"))
 
 
-# Keeps the workers that aren't ended, and begins anew as soon as a county is judged.
-STOPPED_AT_ONCE = """
+# Keeps the workers that aren't ended, and begins anew as soon as something is shown.
+STOPPED_AT = """
+const [shown] = arguments;
 globalThis.workers ??= new Set();
 globalThis.Worker = class extends (globalThis.OwnWorker ??= Worker) {
   constructor(...words) {
@@ -160,11 +161,11 @@ globalThis.Worker = class extends (globalThis.OwnWorker ??= Worker) {
 document.body.dataset.stopped = "";
 document.getElementById("announced").textContent = "";
 new MutationObserver((_, observer) => {
-  if (!document.querySelector(".stages, .many")) return;
+  if (!document.querySelector(shown)) return;
   observer.disconnect();
   document.getElementById("again").click();
   document.body.dataset.stopped = "yes";
-}).observe(document.getElementById("results"), { childList: true, subtree: true });
+}).observe(document.getElementById("results"), { childList: true, subtree: true, attributes: true });
 """
 
 
@@ -173,9 +174,15 @@ def try_gone(page: Page) -> None:
     manifest = page.room / "flagged.manifest"
     manifest.write_text(f"# tigercanon form 1 --no-sources\n{'0' * 64}  first.txt\n")
     files = [EXAMPLES / "two-maps/first.txt", EXAMPLES / "two-maps/second.txt", EXAMPLES / "autauga/all.txt", manifest]
-    for count, said in ((1, "first.txt: judging"), (2, "second.txt: judging"), (3, ""), (4, "")):
+    for count, shown, said in (
+        (1, ".stages .now", "first.txt: judging"),
+        (2, ".stages .now", "second.txt: judging"),
+        (3, ".many", ""),
+        (4, ".many", ""),
+        (3, ".counties .link", ""),
+    ):
         page.browser.start_again()
-        page.browser.driver.execute_script(STOPPED_AT_ONCE)
+        page.browser.driver.execute_script(STOPPED_AT, shown)
         page.browser.give(files[:count])
         page.browser.wait_for("document.body.dataset.stopped")
         time.sleep(0.5)  # an announcement waits for a twentieth of a second
