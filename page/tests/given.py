@@ -164,7 +164,7 @@ new MutationObserver((_, observer) => {
   if (!document.querySelector(shown)) return;
   observer.disconnect();
   document.getElementById("again").click();
-  document.body.dataset.stopped = "yes";
+  document.body.dataset.stopped = `${workers.size} workers`;
 }).observe(document.getElementById("results"), { childList: true, subtree: true, attributes: true });
 """
 
@@ -185,6 +185,7 @@ def try_gone(page: Page) -> None:
         page.browser.driver.execute_script(STOPPED_AT, shown)
         page.browser.give(files[:count])
         page.browser.wait_for("document.body.dataset.stopped")
+        page.equal(f"what goes on of {count}", "0 workers", page.browser.evaluate("document.body.dataset.stopped"))
         time.sleep(0.5)  # an announcement waits for a twentieth of a second
         page.equal(f"workers for {count} that are gone", 0, page.browser.evaluate("workers.size"))
         page.equal(f"what is said of {count}", said, page.browser.evaluate("document.getElementById('announced').textContent"))
