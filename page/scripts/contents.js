@@ -4,6 +4,14 @@ import { CONTENTS } from "./tables.js";
 
 const FILE_WIDTH = 5;
 
+export const isBlank = (text) => text.trim() === "";
+
+// Whether two texts have the same bytes behind these places, from a distance to another.
+export function areAlike(bytes, at, others, other, from, to) {
+  for (let away = from; away < to; away += 1) if (bytes[at + away] !== others[other + away]) return false;
+  return true;
+}
+
 class Content {
   constructor({ hasFile, columns }) {
     this.hasFile = hasFile;
@@ -23,6 +31,11 @@ class Content {
   of(line) {
     const rest = line.slice(this.begin, this.end);
     return this.hasFile ? line.slice(FILE_WIDTH, 2 * FILE_WIDTH) + rest : rest;
+  }
+
+  // Whether the records that begin at these places of two texts have the same content.
+  isSame(bytes, at, others, other) {
+    return (!this.hasFile || areAlike(bytes, at, others, other, FILE_WIDTH, 2 * FILE_WIDTH)) && areAlike(bytes, at, others, other, this.begin, this.end);
   }
 
   value(content, name) {

@@ -1,10 +1,9 @@
 // The map of one county: its chains by their classes, its landmarks, and a key. A card shows the fields of a chain that is chosen.
-import { CHAIN } from "./contents.js";
+import { CHAIN, isBlank } from "./contents.js";
 import { h } from "./dom.js";
 import { fieldTable } from "./field_table.js";
 import { countyLook } from "./looks.js";
 import { MapView } from "./map.js";
-import { isBlank } from "./records.js";
 import { LENGTHS } from "./tables.js";
 
 const KEY = ["highway", "main road", "road", "rail", "water", "boundary", "landmark"];

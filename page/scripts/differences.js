@@ -16,7 +16,7 @@ export const MAKERS = {
     return { title: chainTitle(one ?? other), about, points, numberField: "TLID", rows: () => rowsOfChain(found, one, other) };
   },
   landmark(found, one, other) {
-    const points = landmarkPoints(one ?? other, (one ? found.first : found.second).county);
+    const points = landmarkPoints(one ?? other);
     const name = points.length > 1 ? "place and more" : points.length ? "place" : "without a place";
     const about = phrase(name, ...points.slice(0, 1).map(degrees), counted(points.length - 1));
     return { title: landmarkTitle(one ?? other), about, points, numberField: "LAND", rows: () => rowsOfLandmark(found, one, other) };

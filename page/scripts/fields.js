@@ -2,10 +2,9 @@
 //
 // A field has a name, what it holds, and a kind: a text, a point, or a flag that something is there. Its text is what is read (plain),
 // the bytes (exact), and what is compared (mark).
-import { CHAIN, LANDMARK, NAME, POLYGON, RANGE, TOPOLOGY } from "./contents.js";
+import { CHAIN, isBlank, LANDMARK, NAME, POLYGON, RANGE, TOPOLOGY } from "./contents.js";
 import { groupedBy } from "./grouping.js";
 import { degrees, NO_POINT } from "./points.js";
-import { isBlank } from "./records.js";
 import { BLANK, NO, NONE, YES } from "./tables.js";
 import { fieldWords, phrase } from "./wording.js";
 
@@ -41,17 +40,28 @@ function textOf(value, kind = "text") {
   return { plain, exact: value, mark: value };
 }
 
-// Tells what the parts of one map say. Polygons of two maps that are taken for one have one mark, even if they differ.
+// Tells what the parts of one map say. Polygons of two maps that are taken for one have one mark, even if they differ: a text, or one of
+// the polygons, for its content.
 export class Teller {
   constructor(county, marks) {
     this.county = county;
     this.marks = marks;
   }
 
+  markOf(polygon) {
+    const mark = polygon && this.marks[polygon.place];
+    return mark?.content ?? mark;
+  }
+
+  // Whether two polygons, either of which may be missing, have one mark.
+  isMarkedAs(polygon, teller, other) {
+    return this.marks[polygon?.place] === teller.marks[other?.place] || this.markOf(polygon) === teller.markOf(other);
+  }
+
   chain(chain) {
     const fields = new Fields();
     fields.addContent(CHAIN, chain.body);
-    this.county.nameBodies(chain).forEach((body, place) => {
+    chain.names.forEach(({ body }, place) => {
       fields.add(...fieldWords("further name", place + 1), { plain: nameText(NAME, body) || BLANK, exact: body, mark: body });
     });
     chain.ranges.forEach((content, place) => {
@@ -59,29 +69,28 @@ export class Teller {
       fields.addContent(RANGE, content, phrase("of range", place + 1));
     });
     ["start", "end"].forEach((end, place) => {
-      fields.add(...fieldWords("node", end, end), isBlank(chain.nodes[place]) ? NOTHING : THERE, "flag");
+      fields.add(...fieldWords("node", end, end), chain.node(place) ? THERE : NOTHING, "flag");
     });
-    ["left", "right"].forEach((hand, place) => this.addSide(fields, hand, chain.sides[place]));
+    ["left", "right"].forEach((hand, place) => this.addSide(fields, hand, chain.office(place), chain.side(place)));
     fields.addContent(TOPOLOGY, chain.topologyBody, " of type I");
     return fields;
   }
 
-  addSide(fields, hand, side) {
-    fields.add(...fieldWords("side's office", hand[0].toUpperCase(), hand), textOf(side.slice(0, 5)));
-    if (!isBlank(side.slice(5))) fields.add(...fieldWords("side", hand, hand), this.polygonText(side));
+  addSide(fields, hand, office, polygon) {
+    fields.add(...fieldWords("side's office", hand[0].toUpperCase(), hand), textOf(office));
+    if (polygon) fields.add(...fieldWords("side", hand, hand), this.polygonText(polygon));
   }
 
   // A polygon, as something else names it.
-  polygonText(key) {
-    const polygon = this.county.polygons.get(key);
-    return { plain: polygonWords(polygon.body), exact: polygon.content, mark: this.marks.get(key) };
+  polygonText(polygon) {
+    return { plain: polygonWords(polygon.body), exact: polygon.content, mark: this.markOf(polygon) };
   }
 
   // The polygons, as a landmark's records of type 8 name them.
   placeTexts(landmark) {
     return (landmark?.places ?? []).map(({ file, polygon }) => {
       const text = this.polygonText(polygon);
-      return { plain: `${text.plain} (${polygon.slice(0, 5).trim()})`, exact: file + text.exact, mark: `${file}|${text.mark}` };
+      return { plain: `${text.plain} (${polygon.cenid.trim()})`, exact: file + text.exact, mark: `${file}|${text.mark}` };
     });
   }
 }
@@ -183,8 +192,8 @@ export function landmarkTitle(landmark) {
 }
 
 // Where a landmark lies: its own points, or else the internal points of its polygons.
-export function landmarkPoints(landmark, county) {
+export function landmarkPoints(landmark) {
   const without = (points) => [...new Set(points)].filter((point) => point !== NO_POINT).sort();
   const own = without(landmark.bodies.map((body) => LANDMARK.value(body, "LALONG, LALAT")));
-  return own.length ? own : without(landmark.places.map(({ polygon }) => county.polygons.get(polygon).point));
+  return own.length ? own : without(landmark.places.map(({ polygon }) => polygon.point));
 }

@@ -3,8 +3,8 @@
 import { linesOf } from "./faulty.js";
 import { ownKeys } from "./matching.js";
 import { counted } from "./numbers.js";
-import { POINT_WIDTH } from "./points.js";
-import { featsOf, linesIn, readCounty, usedPlaces } from "./records.js";
+import { haveSamePoints } from "./lines.js";
+import { County } from "./records.js";
 
 const SAME = "the same";
 
@@ -24,10 +24,9 @@ export function fileDifferences(files, canonical, masks) {
 // One of the files: what has which number in it.
 class Side {
   constructor(parts, text, canonical, masks) {
-    Object.assign(this, { parts, text, county: readCounty(text) });
+    Object.assign(this, { parts, text, county: new County(text) });
     this.keys = ownKeys(this.county, canonical, masks);
     this.chains = new Map(this.county.chains.map((chain) => [chain.key, chain]));
-    this.divisions = divisionsOf(text);
   }
 
   chain(key) {
@@ -38,9 +37,9 @@ class Side {
   order() {
     const canonical = new Map([...this.keys].map(([key, own]) => [own, key]));
     const { chains, names, landmarks, polygons } = this.county;
-    const recorded = [...polygons.values()].filter(({ body }) => body);
+    const recorded = polygons.filter(({ body }) => body);
     const keys = (things) => things.map(({ key }) => canonical.get(key)).join();
-    return { chains: keys(chains), names: [...names.values()].map(({ body }) => body).join("\n"), landmarks: keys(landmarks), polygons: keys(recorded) };
+    return { chains: keys(chains), names: names.map(({ body }) => body).join("\n"), landmarks: keys(landmarks), polygons: keys(recorded) };
   }
 }
 
@@ -49,7 +48,7 @@ const ofAll = (count, all, name) => `${counted(count)} of ${counted(all)} ${name
 
 function numbersText([first, second], canonical) {
   const isOther = ({ key }) => first.keys.get(key) !== second.keys.get(key);
-  const found = [["chains", "TLID", canonical.chains], ["landmarks", "LAND", canonical.landmarks], ["polygons", "POLYID", [...canonical.polygons.values()]]]
+  const found = [["chains", "TLID", canonical.chains], ["landmarks", "LAND", canonical.landmarks], ["polygons", "POLYID", canonical.polygons]]
     .map(([name, field, things]) => [differing(things, isOther), things.length, `${name} (${field})`]);
   found.splice(1, 0, otherNames(first, second));
   const parts = found.filter(([count]) => count > 0).map(([count, all, name]) => ofAll(count, all, name));
@@ -58,7 +57,7 @@ function numbersText([first, second], canonical) {
 
 // How many feature names have another FEAT.
 function otherNames(first, second) {
-  const spelled = (side) => [...side.county.names].map(([feat, { body }]) => `${body}\n${feat}`).sort();
+  const spelled = (side) => [...side.county.names].map(({ feat, body }) => `${body}\n${feat}`).sort();
   const others = new Set(spelled(second));
   const names = spelled(first);
   return [differing(names, (name) => !others.has(name)), names.length, "names (FEAT)"];
@@ -71,26 +70,20 @@ function orderText([first, second]) {
 }
 
 function directionText([first, second], canonical) {
-  const count = differing(canonical.chains, ({ key }) => first.chain(key).points !== second.chain(key).points);
+  const count = differing(canonical.chains, ({ key }) => !haveSamePoints(first.chain(key), second.chain(key)));
   return count ? `${ofAll(count, canonical.chains.length, "chains")} run the other way` : SAME;
 }
 
 function divisionText([first, second], canonical) {
-  const division = (side, key) => side.divisions.get(side.keys.get(key)) ?? "";
-  const count = differing(canonical.chains, ({ key }) => division(first, key) !== division(second, key));
+  const count = differing(canonical.chains, ({ key }) => divisionOf(first.chain(key)) !== divisionOf(second.chain(key)));
   return count ? `the shape points or names of ${ofAll(count, canonical.chains.length, "chains")} are divided differently among records` : SAME;
 }
 
-// How many places each record of types 2 and 4 has in use, chain by chain.
-function divisionsOf(text) {
-  const found = new Map();
-  for (const line of linesIn(text)) {
-    if (line[0] !== "2" && line[0] !== "4") continue;
-    const key = `1${line.slice(5, 15)}`;
-    const used = line[0] === "2" ? usedPlaces(line).length / POINT_WIDTH : featsOf(line).length;
-    found.set(key, `${found.get(key) ?? ""} ${line[0]}:${line.slice(15, 18)}:${used}`);
-  }
-  return found;
+// How many places each record of types 2 and 4 of a chain has in use.
+function divisionOf({ county, place }) {
+  const points = Array.from(county.inner.of(place), (line) => `2:${county.sequence(line)}:${county.usedPlaces(line)}`);
+  const names = Array.from(county.further.of(place), (line) => `4:${county.sequence(line)}:${county.feats(line).length}`);
+  return [...points, ...names].join(" ");
 }
 
 function spellingText(sides) {

@@ -1,10 +1,10 @@
 // What was found about two maps, for the page: a summary, the shapes of the map, and a list that is asked for in pieces.
 import { countsOf, MAKERS, nameOf, SUBJECTS, things, verdictOf } from "./differences.js";
-import { chainTitle, landmarkTitle, landmarkPoints } from "./fields.js";
+import { landmarkTitle, landmarkPoints } from "./fields.js";
 import { ALIKE, CHANGED, keyOfKind } from "./kinds.js";
 import { counted } from "./numbers.js";
-import { eachPoint, NO_POINT, POINT_WIDTH, position } from "./points.js";
-import { distinct, Shapes } from "./shapes.js";
+import { NO_POINT, position } from "./points.js";
+import { linesOfChains, titlesOf } from "./shapes.js";
 import { KINDS } from "./tables.js";
 import { tieLine, tiedPlace, tiePoints } from "./ties.js";
 
@@ -44,16 +44,15 @@ export class Findings {
   // whatever else differs, and of landmarks. The class of a chain is its kind.
   shapes() {
     const alike = this.comparison.chains.alike.map(([one]) => one);
-    const different = this.entries.filter((entry) => entry.what === "chain");
-    const points = alike.reduce((sum, chain) => sum + chain.points.length / POINT_WIDTH, 0);
-    const shapes = new Shapes(alike.length + different.length, different.reduce((sum, entry) => sum + entry.points.length, points));
-    for (const chain of alike) addLine(shapes, chain.points, ALIKE);
-    for (const entry of different) addLine(shapes, entry.points.join(""), entry.kind);
+    const entries = this.entries.filter((entry) => entry.what === "chain");
+    const different = entries.map(({ number }) => this.things[number].one ?? this.things[number].other);
+    const kinds = new Uint8Array(alike.length + different.length).fill(ALIKE);
+    kinds.set(entries.map(({ kind }) => kind), alike.length);
     return {
-      chains: shapes.sent(),
+      chains: linesOfChains(alike.concat(different), kinds),
       firstEntry: alike.length,
-      entries: Uint32Array.from(different.map((entry) => entry.number)),
-      titles: distinct(alike.map(chainTitle)),
+      entries: Uint32Array.from(entries, ({ number }) => number),
+      titles: titlesOf(this.counties[0], alike.map(({ recordAt }) => recordAt)),
       points: [...this.alikeLandmarks(), ...this.differingPoints()],
     };
   }
@@ -66,7 +65,7 @@ export class Findings {
   alikeLandmarks() {
     return this.comparison.landmarks.alike.flatMap(([one]) => {
       const title = landmarkTitle(one);
-      return landmarkPoints(one, this.counties[0]).map((point) => ({ title, place: position(point), kind: ALIKE, subject: "landmark" }));
+      return landmarkPoints(one).map((point) => ({ title, place: position(point), kind: ALIKE, subject: "landmark" }));
     });
   }
 
@@ -148,8 +147,3 @@ const entryOfTie = (tie) => ({
   about: `at ${counted(tiePoints(tie).length)} places`,
   points: tiePoints(tie),
 });
-
-function addLine(shapes, points, kind) {
-  for (const point of eachPoint(points)) shapes.add(...position(point));
-  shapes.endChain(kind);
-}

@@ -4,13 +4,15 @@
 //
 // A canonical text has numbers of its own. The same set, respelled by the engine, keeps its own numbers. Both describe one map, so
 // they are matched as two maps are. Things that nothing tells apart may have their numbers exchanged.
-import { CHAIN, LANDMARK, RANGE } from "./contents.js";
+import { areAlike, CHAIN, isBlank, LANDMARK, TOPOLOGY } from "./contents.js";
 import { landmarkRows, pairBy, polygonFields, rows, Teller } from "./fields.js";
-import { comesAfterItsReverse, isOwnReverse, NO_POINT, reversedPoints } from "./points.js";
-import { County, isBlank, numberOf } from "./records.js";
+import { Groups, isOwnReverse, orderOfEnds } from "./lines.js";
+import { NO_POINT } from "./points.js";
+import { numberOf, OFFICE_WIDTH } from "./records.js";
 import { areasOf, areTied, tiesAmong, tiesOf } from "./ties.js";
 
-const OFFICE = 5; // columns of a polygon's key with the office that numbers it
+const BOTH = [0, 1]; // ends or sides of a chain
+const OFFICES = [40, 55]; // where a record of type I has the offices of the polygons on its left and right
 
 // What is in the first map alone, in the second alone, changed, and alike.
 class Matched {
@@ -67,46 +69,46 @@ class Comparison {
 }
 
 export function compareCounties(first, second) {
-  const byPoints = new Map();
-  [first, second].forEach((county, place) => {
-    for (const chain of county.chains) {
-      const group = byPoints.get(chain.points);
-      if (group) group[place].push(chain);
-      else byPoints.set(chain.points, place ? [[], [chain]] : [[chain], []]);
-    }
-  });
-  const groups = [...byPoints.values()];
-  const isCertain = ([ones, others]) => ones.length === 1 && others.length === 1 && !isOwnReverse(ones[0].points);
-  const certain = groups.filter(isCertain).map(([ones, others]) => [ones[0], others[0]]);
-  const polygons = matchPolygons(first, second, certain);
-  const [one, other] = tellersOf(first, second, polygons);
-  const names = new Matched([...first.names.values()], [...second.names.values()]);
-  names.pair("alike", (name) => name.body);
-  const chains = matchChains(groups, one, other);
+  const { groups, certain, polygons, one, other } = prepared(first, second);
+  const names = new Matched(first.names, second.names);
+  names.pair("alike", bodyOf);
+  const chains = matchChains(groups, groups.pairs, one, other);
   return new Comparison({ first: one, second: other, certain, chains, landmarks: matchLandmarks(one, other), polygons, names });
 }
 
+// What chains are matched by: their groups, and the polygons.
+function prepared(first, second) {
+  const groups = new Groups(first.chains, second.chains);
+  const certain = groups.pairs.filter((pair) => isCertain(groups, pair));
+  const polygons = matchPolygons(first, second, certain);
+  const [one, other] = tellersOf(first, second, polygons);
+  return { groups, certain, polygons, one, other };
+}
+
+const isCertain = (groups, pair) => groups.isSingle(pair) && !isOwnReverse(pair[0]);
+
 // A mark of each map's polygons: their content, or, if they changed, one mark for both maps.
 function tellersOf(first, second, polygons) {
-  const [marks, others] = [polygons.first, polygons.second].map((alone) => new Map(alone.map((each) => [each.key, each.content])));
-  for (const [one, other] of polygons.alike) {
-    marks.set(one.key, one.content);
-    others.set(other.key, one.content);
-  }
+  const [marks, others] = [[], []];
+  for (const one of polygons.first) marks[one.place] = one;
+  for (const other of polygons.second) others[other.place] = other;
+  for (const [one, other] of polygons.alike) marks[one.place] = others[other.place] = one;
   polygons.changed.forEach(([one, other], number) => {
-    marks.set(one.key, `changed ${number}`);
-    others.set(other.key, `changed ${number}`);
+    marks[one.place] = others[other.place] = `changed ${number}`;
   });
   return [new Teller(first, marks), new Teller(second, others)];
 }
 
-// Matches chains by their points, and those of the same points by their fields.
-function matchChains(groups, first, second) {
+// Matches chains by their points, and those of the same points by their fields: those of the groups with these pairs.
+function matchChains(groups, pairs, first, second) {
   const matched = new Matched();
-  for (const [ones, others] of groups) {
-    if (ones.length === 1 && others.length === 1 && sayTheSame(ones[0], others[0], first, second)) {
-      matched.alike.push([ones[0], others[0]]);
-    } else if (ones.length && others.length) {
+  for (const pair of pairs) {
+    if (groups.isSingle(pair) && sayTheSame(pair[0], pair[1], first, second)) {
+      matched.alike.push(pair);
+      continue;
+    }
+    const [ones, others] = groups.listsOf(pair);
+    if (ones.length && others.length) {
       matchGroup(ones, others, first, second, matched);
     } else {
       matched.first.push(...ones);
@@ -119,7 +121,7 @@ function matchChains(groups, first, second) {
 // Matches chains of the same points as a multiset: those with the same content, and then those that differ the least. A chain that is
 // its own reverse may be seen from either end.
 function matchGroup(allOnes, allOthers, first, second, matched) {
-  const mayBeTurned = isOwnReverse(allOnes[0].points);
+  const mayBeTurned = isOwnReverse(allOnes[0]);
   const seen = (chain, teller) => (mayBeTurned ? lesserTurn(chain, teller) : chain);
   const said = new Map();
   const [seenOnes, seenOthers] = [[allOnes, first], [allOthers, second]].map(([chains, teller]) =>
@@ -137,7 +139,7 @@ function matchGroup(allOnes, allOthers, first, second, matched) {
 function pairTheNearest(onesLeft, othersLeft, first, second, mayBeTurned, matched) {
   let [ones, others] = [onesLeft, othersLeft];
   while (ones.length && others.length) {
-    const seen = others.flatMap((other) => (mayBeTurned ? [other, turned(other)] : [other]));
+    const seen = others.flatMap((other) => (mayBeTurned ? [other, other.turned] : [other]));
     const distance = (one, other) => rows(first.chain(one), second.chain(other)).filter((row) => row.differs).length;
     const pairs = ones.flatMap((one) => seen.map((other) => ({ one, other, distance: distance(one, other) })));
     const nearest = pairs.reduce((best, pair) => (pair.distance < best.distance ? pair : best));
@@ -151,63 +153,73 @@ function pairTheNearest(onesLeft, othersLeft, first, second, mayBeTurned, matche
 
 // Whether two chains have the same content without their points and numbers. `says` would make long strings of all chains.
 function sayTheSame(one, other, first, second) {
-  if (one.body !== other.body || one.topologyBody !== other.topologyBody) return false;
-  const [nodes, sides, ranges] = [other.nodes, other.sides, other.ranges];
-  return one.nodes.every((node, at) => isBlank(node) === isBlank(nodes[at])) && one.sides.every((side, at) => isSameSide(side, sides[at], first, second))
-    && haveSame(first.county.nameBodies(one), second.county.nameBodies(other)) && haveSame(one.ranges, ranges);
+  if (one.isTurned || other.isTurned) return says(one, first) === says(other, second);
+  return haveSameRecords(one, other) && hasNode(one, 0) === hasNode(other, 0) && hasNode(one, 1) === hasNode(other, 1)
+    && isSameSide(0, one, other, first, second) && isSameSide(1, one, other, first, second)
+    && one.hasNamesOf(other) && haveSame(one.ranges, other.ranges);
 }
 
-const haveSame = (ones, others) => ones.length === others.length && ones.every((one, at) => one === others[at]);
+function haveSameRecords(one, other) {
+  const [{ bytes }, { bytes: others }] = [one.county, other.county];
+  const [topology, twin] = [one.topologyAt, other.topologyAt];
+  return CHAIN.isSame(bytes, one.recordAt, others, other.recordAt) && TOPOLOGY.isSame(bytes, topology, others, twin)
+    && OFFICES.every((at) => areAlike(bytes, topology, others, twin, at, at + OFFICE_WIDTH));
+}
 
-const isSameSide = (one, other, first, second) => first.marks.get(one) === second.marks.get(other) && one.slice(0, OFFICE) === other.slice(0, OFFICE);
+const hasNode = (chain, end) => chain.node(end) !== 0;
+const isSameSide = (hand, one, other, first, second) => first.isMarkedAs(one.side(hand), second, other.side(hand));
+const haveSame = (ones, others) => ones.length === others.length && ones.every((one, at) => one === others[at]);
+const bodyOf = ({ body }) => body;
 
 // The content of a chain without its points and numbers, as one string.
 function says(chain, teller) {
-  const [left, right] = chain.sides;
-  const marks = [left, right].map((side) => teller.marks.get(side) ?? "-");
-  const nodes = chain.nodes.map((node) => (isBlank(node) ? "no" : "yes")).join();
-  const names = chain.feats.length ? teller.county.nameBodies(chain) : [];
-  const parts = [chain.body, chain.topologyBody, left.slice(0, OFFICE), right.slice(0, OFFICE), ...marks, nodes, names.join("|"), chain.ranges.join("|")];
+  const nodes = BOTH.map((end) => (chain.node(end) ? "yes" : "no")).join();
+  const marks = BOTH.map((hand) => teller.markOf(chain.side(hand)) ?? "-");
+  const names = chain.names.map(bodyOf).join("|");
+  const parts = [chain.body, chain.topologyBody, chain.office(0), chain.office(1), ...marks, nodes, names, chain.ranges.join("|")];
   return parts.join("\n");
 }
 
-export function turned({ key, body, points, feats, ranges, topologyBody, nodes, sides }) {
-  return {
-    key,
-    feats,
-    topologyBody,
-    body: CHAIN.turned(body),
-    points: reversedPoints(points),
-    ranges: ranges.map((range) => RANGE.turned(range)),
-    nodes: [...nodes].reverse(),
-    sides: [...sides].reverse(),
-  };
-}
-
 // Of the ways to see a chain that is its own reverse the one that says the lesser.
-function lesserTurn(chain, teller) {
-  const other = turned(chain);
-  return says(other, teller) < says(chain, teller) ? other : chain;
-}
+const lesserTurn = (chain, teller) => (says(chain.turned, teller) < says(chain, teller) ? chain.turned : chain);
 
 // Matches polygons by their content, the others by their point, and then by the sides of chains.
 function matchPolygons(first, second, certain) {
-  // Of each polygon the first side, among the chains that both maps have, on which it lies.
-  const sides = new Map();
-  certain.forEach((pair, place) => {
-    pair.forEach((chain, which) => {
-      const { polygons } = which ? second : first;
-      chain.sides.forEach((side, at) => {
-        const polygon = polygons.get(side);
-        if (polygon && !sides.has(polygon)) sides.set(polygon, `${place} ${at ? "right" : "left"}`);
-      });
-    });
-  });
-  const matched = new Matched([...first.polygons.values()], [...second.polygons.values()]);
-  matched.pair("alike", (polygon) => `${polygon.content}\n${sides.get(polygon) ?? ""}`, (polygon) => polygon.content);
+  const sides = [new SidesOf(first, certain, 0), new SidesOf(second, certain, 1)];
+  const sideOf = (polygon) => sides[Number(first.polygons[polygon.place] !== polygon)].of(polygon);
+  // Those of one side and content are found without making a text of each.
+  const bySide = (polygon) => {
+    const side = sideOf(polygon);
+    if (side === undefined) return polygon.content;
+    const [one, other] = sides.map((its) => its.polygons[side]);
+    return one && other && one.hasContentOf(other) ? side : undefined;
+  };
+  const matched = new Matched(first.polygons, second.polygons);
+  matched.pair("alike", bySide, (polygon) => polygon.content);
   const point = (polygon) => (polygon.point === NO_POINT ? undefined : polygon.point);
-  matched.pair("changed", point, (polygon) => sides.get(polygon));
+  matched.pair("changed", point, sideOf);
   return matched;
+}
+
+// Of each polygon of a map the first side on which it lies, among the chains that both maps have: a number.
+class SidesOf {
+  constructor(county, certain, which) {
+    this.sides = new Int32Array(county.polygons.length).fill(-1);
+    this.polygons = new Array(2 * certain.length);
+    certain.forEach((pair, place) => {
+      for (const hand of BOTH) this.add(pair[which].side(hand), 2 * place + hand);
+    });
+  }
+
+  add(polygon, side) {
+    if (!polygon || this.sides[polygon.place] >= 0) return;
+    this.sides[polygon.place] = side;
+    this.polygons[side] = polygon;
+  }
+
+  of({ place }) {
+    return this.sides[place] < 0 ? undefined : this.sides[place];
+  }
 }
 
 // Matches landmarks by their whole content, and the others by their records, points, names and polygons.
@@ -217,7 +229,7 @@ function matchLandmarks(first, second) {
   for (const teller of [first, second]) {
     for (const landmark of teller.county.landmarks) {
       bodies.set(landmark, [...landmark.bodies].sort().join("\n"));
-      const its = landmark.places.map(({ file, polygon }) => `${file}|${teller.marks.get(polygon)}`);
+      const its = landmark.places.map(({ file, polygon }) => `${file}|${teller.markOf(polygon)}`);
       places.set(landmark, its.length ? its.sort().join("\n") : undefined);
     }
   }
@@ -240,13 +252,14 @@ export const rowsOfChain = (comparison, one, other) => rows(one && comparison.fi
 // The keys in these records of the things in their canonical text, which was made with these masks, by the keys of the things there.
 // Chains are matched by their points, so that they need no mask.
 export function ownKeys(records, canonical, masks) {
-  const chains = records.chains.map((chain) => (comesAfterItsReverse(chain.points) ? turned(chain) : chain));
+  const chains = records.chains.map((chain) => (orderOfEnds(chain) > 0 ? chain.turned : chain));
   const unsourced = (landmark) => ({ ...landmark, bodies: landmark.bodies.map((body) => LANDMARK.blanked(body, "SOURCE")) });
   const landmarks = masks.sources ? records.landmarks.map(unsourced) : records.landmarks;
-  const found = compareCounties(new County(chains, records.names, records.polygons, landmarks), canonical);
-  const keys = new Map();
-  for (const part of [found.chains, found.landmarks, found.polygons]) {
-    for (const [one, other] of [...part.alike, ...part.changed]) keys.set(other.key, one.key);
+  const { groups, certain, polygons, one, other } = prepared({ ...records, chains, landmarks }, canonical);
+  const others = matchChains(groups, groups.pairs.filter((pair) => !isCertain(groups, pair)), one, other);
+  const keys = new Map(certain.map(([own, chain]) => [chain.key, own.key]));
+  for (const part of [others, matchLandmarks(one, other), polygons]) {
+    for (const [own, thing] of [...part.alike, ...part.changed]) keys.set(thing.key, own.key);
   }
   return keys;
 }

@@ -13,17 +13,6 @@ export const position = (point) => [Number(point.slice(0, 10)), Number(point.sli
 
 export const reversedPoints = (points) => eachPoint(points).reverse().join("");
 
-export const isOwnReverse = (points) =>
-  points.slice(0, POINT_WIDTH) === points.slice(-POINT_WIDTH) && points === reversedPoints(points);
-
-// Whether a canonical text has these points from the other end: there they come before their reverse.
-export function comesAfterItsReverse(points) {
-  const listed = eachPoint(points).flatMap(position);
-  const other = eachPoint(points).reverse().flatMap(position);
-  const at = listed.findIndex((value, place) => value !== other[place]);
-  return at >= 0 && listed[at] > other[at];
-}
-
 // A coordinate in millionths of a degree as a number of degrees with six places, as GeoJSON has it.
 export function decimal(coordinate) {
   return `${coordinate[0] === "-" ? "-" : ""}${Number(coordinate.slice(1, -6))}.${coordinate.slice(-6)}`;

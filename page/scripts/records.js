@@ -1,65 +1,264 @@
 // Reads the records that the engine prints: a county's chains, feature names, polygons and landmarks. The engine spells each number
-// and point in one way, so equal ones are equal strings.
-import { CHAIN, LANDMARK, NAME, POLYGON, RANGE, TOPOLOGY } from "./contents.js";
-import { groupedBy } from "./grouping.js";
-import { NO_POINT, POINT_WIDTH } from "./points.js";
+// and point in one way, so equal ones are equal bytes. Nearly all that two maps have is alike. So a county keeps its text as bytes, and
+// only what differs is made into strings.
+import { areAlike, CHAIN, isBlank, LANDMARK, NAME, POLYGON, RANGE, TOPOLOGY } from "./contents.js";
+import { Numbering } from "./numbering.js";
+import { NO_POINT, reversedPoints } from "./points.js";
 import { LENGTHS } from "./tables.js";
 
-const LINE_FEED = 10;
-const DECODED_AT_ONCE = 1 << 24;
+const [LINE_FEED, SPACE, ZERO, MINUS] = [0x0a, 0x20, 0x30, 0x2d];
 const NONE_OF_THEM = [];
-const UNUSED_PLACE = "+000000000+00000000";
+const [TLID_WIDTH, POLYGON_WIDTH] = [10, 15];
+
+export const OFFICE_WIDTH = 5;
 
 export class NotCanonical extends Error {}
 
-export const isBlank = (text) => text.trim() === "";
+// The text of so many bytes. All that a record may have is spelled in Latin-1.
+const textIn = (bytes, from, to) => String.fromCharCode.apply(null, bytes.subarray(from, to));
 
-// A chain by its records. Most of what it has is looked at once or twice, so only its points are kept beside them.
-class Chain {
-  constructor(line, topology, inner, names, ranges) {
-    Object.assign(this, { line, topology, names, lines: ranges });
-    this.points = line.slice(190, 209) + inner.map(usedPlaces).join("") + line.slice(209);
+// The number in a field, or 0 if it is blank.
+function numberAt(bytes, from, to) {
+  let value = 0;
+  for (let at = from; at < to; at += 1) if (bytes[at] !== SPACE) value = value * 10 + bytes[at] - ZERO;
+  return value;
+}
+
+function coordinateAt(bytes, from, to) {
+  const value = numberAt(bytes, from + 1, to);
+  return bytes[from] === MINUS ? -value : value;
+}
+
+function there(thing, key) {
+  if (thing === undefined) throw new NotCanonical(`there is no record under ${key}`);
+  return thing;
+}
+
+// Where the lines of each record type begin.
+function beginnings(bytes) {
+  const [found, lines, lengths] = [{}, [], []];
+  for (const [type, length] of Object.entries(LENGTHS)) {
+    const code = type.charCodeAt(0);
+    found[type] = [];
+    [lines[code], lengths[code]] = [found[type], length];
+  }
+  for (let at = 0; at < bytes.length; ) {
+    const end = at + lengths[bytes[at]];
+    if (bytes[end] !== LINE_FEED) throw new NotCanonical(`it has a line that isn't a record: ${textIn(bytes, at, at + 20)}`);
+    lines[bytes[at]].push(at);
+    at = end + 1;
+  }
+  return found;
+}
+
+// The lines of one type side by side, chain by chain. Those of a chain are in the order of their RTSQs.
+class LinesOfChains {
+  constructor(count, lines, chainOf, sequenceOf) {
+    const chains = Int32Array.from(lines, chainOf);
+    this.starts = new Uint32Array(count + 1);
+    for (const chain of chains) this.starts[chain + 1] += 1;
+    for (let chain = 0; chain < count; chain += 1) this.starts[chain + 1] += this.starts[chain];
+    const next = this.starts.slice();
+    this.lines = new Uint32Array(lines.length);
+    chains.forEach((chain, number) => {
+      this.lines[next[chain]] = lines[number];
+      next[chain] += 1;
+    });
+    for (let chain = 0; chain < count; chain += 1) {
+      if (this.count(chain) > 1) this.of(chain).sort((one, other) => sequenceOf(one) - sequenceOf(other));
+    }
   }
 
-  get key() {
-    return `1${this.line.slice(5, 15)}`;
+  count(chain) {
+    return this.starts[chain + 1] - this.starts[chain];
   }
 
-  get body() {
-    return CHAIN.of(this.line);
-  }
-
-  get feats() {
-    return this.names.flatMap(featsOf);
-  }
-
-  get ranges() {
-    return this.lines.map((line) => RANGE.of(line));
-  }
-
-  get topologyBody() {
-    return TOPOLOGY.of(this.topology);
-  }
-
-  get nodes() {
-    return [this.topology.slice(20, 30), this.topology.slice(30, 40)];
-  }
-
-  get sides() {
-    return [this.topology.slice(40, 55), this.topology.slice(55, 70)];
+  of(chain) {
+    return this.lines.subarray(this.starts[chain], this.starts[chain + 1]);
   }
 }
 
-// A polygon on a side of a chain or of type P. Its body is empty if no record of type P has it. Its key is the office that numbers
-// it, in 5 columns, and its number there, in 10.
+// The lines of a text by their types, those of each chain, and its points.
+export class Records {
+  constructor(bytes) {
+    Object.assign(this, { bytes, lines: beginnings(bytes) });
+    this.count = this.lines["1"].length;
+    this.tlids = Numbering.ofBytes(bytes, TLID_WIDTH, this.count);
+    for (const line of this.lines["1"]) this.tlids.of(line + 5);
+    this.inner = this.byChain("2");
+    this.readPoints();
+  }
+
+  text(from, to) {
+    return textIn(this.bytes, from, to);
+  }
+
+  // The line that begins there.
+  line(at) {
+    return this.text(at, at + LENGTHS[String.fromCharCode(this.bytes[at])]);
+  }
+
+  // The lines of a type that each chain has. `at` is where they have their TLID.
+  byChain(type, at = 5) {
+    const chainOf = (line) => {
+      const chain = this.tlids.find(line + at);
+      if (chain < 0) throw new NotCanonical(`there is no record of type 1 for ${this.line(line)}`);
+      return chain;
+    };
+    return new LinesOfChains(this.count, this.lines[type], chainOf, (line) => this.sequence(line));
+  }
+
+  sequence(line) {
+    return numberAt(this.bytes, line + 15, line + 18);
+  }
+
+  // How many of the ten places of a record of type 2 have points. They are used from the left.
+  usedPlaces(line) {
+    let used = 10;
+    while (used && !this.longitude(line + 19 * used - 1) && !this.latitude(line + 19 * used - 1)) used -= 1;
+    return used;
+  }
+
+  longitude(point) {
+    return coordinateAt(this.bytes, point, point + 10);
+  }
+
+  latitude(point) {
+    return coordinateAt(this.bytes, point + 10, point + 19);
+  }
+
+  // Puts the points of all chains side by side, each as two numbers in millionths of a degree.
+  readPoints() {
+    this.starts = new Uint32Array(this.count + 1);
+    const places = new Int32Array(2 * (2 * this.count + 10 * this.lines["2"].length));
+    let end = 0;
+    const add = (point) => {
+      places[end] = this.longitude(point);
+      places[end + 1] = this.latitude(point);
+      end += 2;
+    };
+    const { starts, lines } = this.inner;
+    this.lines["1"].forEach((line, chain) => {
+      add(line + 190);
+      for (let inner = starts[chain]; inner < starts[chain + 1]; inner += 1) {
+        const used = this.usedPlaces(lines[inner]);
+        for (let place = 1; place <= used; place += 1) add(lines[inner] + 19 * place - 1);
+      }
+      add(line + 209);
+      this.starts[chain + 1] = end / 2;
+    });
+    this.places = places.slice(0, end);
+  }
+}
+
+// A chain by its place among those of its county. It may be seen from its other end.
+export class Chain {
+  constructor(county, place, isTurned = false) {
+    Object.assign(this, { county, place, isTurned });
+  }
+
+  get turned() {
+    return new Chain(this.county, this.place, !this.isTurned);
+  }
+
+  // How many points the chain has.
+  get size() {
+    return this.county.starts[this.place + 1] - this.county.starts[this.place];
+  }
+
+  // Where a point of the chain is among those of its county.
+  pointAt(number) {
+    return this.isTurned ? this.county.starts[this.place + 1] - 1 - number : this.county.starts[this.place] + number;
+  }
+
+  get recordAt() {
+    return this.county.lines["1"][this.place];
+  }
+
+  get topologyAt() {
+    return this.county.topologies[this.place];
+  }
+
+  get key() {
+    return `1${this.county.text(this.recordAt + 5, this.recordAt + 15)}`;
+  }
+
+  get body() {
+    return this.seen(CHAIN, CHAIN.of(this.county.line(this.recordAt)));
+  }
+
+  get ranges() {
+    if (!this.county.ranges.count(this.place)) return NONE_OF_THEM;
+    return Array.from(this.county.ranges.of(this.place), (line) => this.seen(RANGE, RANGE.of(this.county.line(line))));
+  }
+
+  get topologyBody() {
+    return TOPOLOGY.of(this.county.line(this.topologyAt));
+  }
+
+  // The further names of the chain.
+  get names() {
+    return this.county.namesOf.get(this.place) ?? NONE_OF_THEM;
+  }
+
+  get points() {
+    const line = this.county.line(this.recordAt);
+    const inner = Array.from(this.county.inner.of(this.place), (at) => this.county.text(at + 18, at + 18 + 19 * this.county.usedPlaces(at)));
+    const points = `${line.slice(190, 209)}${inner.join("")}${line.slice(209)}`;
+    return this.isTurned ? reversedPoints(points) : points;
+  }
+
+  seen(layout, content) {
+    return this.isTurned ? layout.turned(content) : content;
+  }
+
+  // The number of the node at the start (0) or at the end (1), or 0 if there is none.
+  node(end) {
+    const at = this.topologyAt + (this.isEnd(end) ? 30 : 20);
+    return numberAt(this.county.bytes, at, at + 10);
+  }
+
+  // The polygon on the left (0) or on the right (1), if there is one.
+  side(hand) {
+    return this.county.sides[2 * this.place + Number(this.isEnd(hand))];
+  }
+
+  // The office of the polygon on the left or on the right.
+  office(hand) {
+    const at = this.topologyAt + (this.isEnd(hand) ? 55 : 40);
+    return this.county.text(at, at + OFFICE_WIDTH);
+  }
+
+  // Whether another chain has further names that are spelled the same.
+  hasNamesOf(other) {
+    const [names, others] = [this.names, other.names];
+    return names.length === others.length && names.every(({ body }, at) => body === others[at].body);
+  }
+
+  // Whether the second of both ends or sides is meant, as the records have them.
+  isEnd(which) {
+    return Boolean(which) !== this.isTurned;
+  }
+}
+
+// A polygon on a side of a chain or of type P, which may have no record. Its key is the office that numbers it, in 5 columns, and its
+// number there, in 10.
 export class Polygon {
-  constructor(key, body = "") {
-    this.key = key;
-    this.body = body;
+  constructor(county, place, keyAt, recordAt) {
+    Object.assign(this, { county, place, keyAt, recordAt });
+  }
+
+  get key() {
+    return this.county.text(this.keyAt, this.keyAt + POLYGON_WIDTH);
   }
 
   get cenid() {
-    return this.key.slice(0, 5);
+    return this.county.text(this.keyAt, this.keyAt + OFFICE_WIDTH);
+  }
+
+  // The content of its record, or nothing if it has none.
+  get body() {
+    return this.recordAt === undefined ? "" : POLYGON.of(this.county.line(this.recordAt));
   }
 
   get point() {
@@ -69,98 +268,81 @@ export class Polygon {
   get content() {
     return this.cenid + this.body;
   }
-}
 
-export class County {
-  constructor(chains, names, polygons, landmarks) {
-    Object.assign(this, { chains, names, polygons, landmarks });
-  }
-
-  // The chain's further names, spelled out.
-  nameBodies(chain) {
-    return chain.feats.map((feat) => this.names.get(feat).body);
-  }
-}
-
-// The lines of a text. It is decoded in pieces of so many bytes, since browsers make no string of more than some 500 million letters.
-export function* linesIn(bytes, piece = DECODED_AT_ONCE) {
-  for (let from = 0; from < bytes.length; ) {
-    const end = bytes.lastIndexOf(LINE_FEED, from + piece - 1) + 1;
-    if (end <= from) throw new NotCanonical("its lines are too long, or the last one has no line ending");
-    yield* new TextDecoder("windows-1252").decode(bytes.subarray(from, end - 1)).split("\n");
-    from = end;
+  hasContentOf(other) {
+    const [{ bytes }, { bytes: others }] = [this.county, other.county];
+    if (!areAlike(bytes, this.keyAt, others, other.keyAt, 0, OFFICE_WIDTH)) return false;
+    if (this.recordAt === undefined || other.recordAt === undefined) return this.recordAt === other.recordAt;
+    return POLYGON.isSame(bytes, this.recordAt, others, other.recordAt);
   }
 }
 
 // The county of a canonical text, or of respelled records.
-export function readCounty(bytes, piece = DECODED_AT_ONCE) {
-  const records = Object.fromEntries(Object.keys(LENGTHS).map((type) => [type, []]));
-  for (const line of linesIn(bytes, piece)) {
-    if (LENGTHS[line[0]] !== line.length) throw new NotCanonical(`it has a line that isn't a record: ${line.slice(0, 20)}`);
-    records[line[0]].push(line);
+export class County extends Records {
+  constructor(bytes) {
+    super(bytes);
+    this.chains = Array.from({ length: this.count }, (_, place) => new Chain(this, place));
+    this.ranges = this.byChain("6");
+    this.readNames();
+    const { lines, starts } = this.byChain("I", 10);
+    if (starts.some((start, chain) => start !== chain)) throw new NotCanonical("a chain hasn't one record of type I");
+    this.topologies = lines;
+    this.readPolygons();
+    this.readLandmarks();
   }
-  const names = new Map(records["5"].map((line) => [line.slice(10, 18), { body: NAME.of(line), uses: 0 }]));
-  const polygons = new Map(records.P.map((line) => [line.slice(10, 25), new Polygon(line.slice(10, 25), POLYGON.of(line))]));
-  const landmarks = readLandmarks(records);
-  const chains = readChains(records);
-  for (const chain of chains) {
-    for (const feat of chain.feats) there(names, feat).uses += 1;
-    for (const side of chain.sides) {
-      if (!polygons.has(side) && !isBlank(side.slice(5))) polygons.set(side, new Polygon(side));
+
+  // The feature names, and those of each chain.
+  readNames() {
+    const numbered = (at, place) => ({ place, feat: this.text(at + 10, at + 18), body: NAME.of(this.line(at)), uses: 0 });
+    this.names = this.lines["5"].map(numbered);
+    const byFeat = new Map(this.names.map((name) => [name.feat, name]));
+    this.further = this.byChain("4");
+    this.namesOf = new Map();
+    this.chains.forEach((_, chain) => {
+      if (!this.further.count(chain)) return;
+      const names = Array.from(this.further.of(chain)).flatMap((line) => this.feats(line)).map((feat) => there(byFeat.get(feat), feat));
+      for (const name of names) name.uses += 1;
+      this.namesOf.set(chain, names);
+    });
+  }
+
+  // The FEATs of a record of type 4.
+  feats(line) {
+    return [18, 26, 34, 42, 50].map((at) => this.text(line + at, line + at + 8)).filter((feat) => !isBlank(feat));
+  }
+
+  // The polygons, those with a record first, and those on the sides of each chain.
+  readPolygons() {
+    this.polygons = [];
+    const numbers = Numbering.ofBytes(this.bytes, POLYGON_WIDTH, this.lines.P.length + 2 * this.count);
+    const add = (key, record) => {
+      const place = numbers.of(key);
+      this.polygons[place] ??= new Polygon(this, place, key, record);
+      return this.polygons[place];
+    };
+    for (const line of this.lines.P) add(line + 10, line);
+    const hasNumber = (key) => this.bytes[key + POLYGON_WIDTH - 1] !== SPACE;
+    this.sides = [];
+    for (const line of this.topologies) {
+      for (const key of [line + 40, line + 55]) this.sides.push(hasNumber(key) ? add(key) : undefined);
     }
+    this.polygonAt = (key) => there(this.polygons[numbers.find(key)], this.text(key, key + POLYGON_WIDTH));
   }
-  return new County(chains, names, polygons, landmarks);
-}
 
-function there(map, key) {
-  if (!map.has(key)) throw new NotCanonical(`there is no record under ${key}`);
-  return map.get(key);
-}
-
-// The chains, in the order of their records of type 1.
-function readChains(records) {
-  const [inner, names, ranges] = ["2", "4", "6"].map((type) => byChain(records[type]));
-  const topologies = new Map(records.I.map((line) => [line.slice(10, 20), line]));
-  return records["1"].map((line) => {
-    const tlid = line.slice(5, 15);
-    const [shape, further, more] = [inner, names, ranges].map((records) => records.get(tlid) ?? NONE_OF_THEM);
-    return new Chain(line, there(topologies, tlid), shape, further, more);
-  });
-}
-
-// The places of a record of type 2, without the unused ones at its end.
-export function usedPlaces(line) {
-  let end = line.length;
-  while (line.endsWith(UNUSED_PLACE, end)) end -= POINT_WIDTH;
-  return line.slice(18, end);
-}
-
-// The FEATs of a record of type 4.
-export function featsOf(line) {
-  const places = [18, 26, 34, 42, 50].map((at) => line.slice(at, at + 8));
-  return places.filter((feat) => !isBlank(feat));
-}
-
-// The records of each chain, by its TLID, in the order of their RTSQs.
-function byChain(lines) {
-  const found = groupedBy(lines, (line) => line.slice(5, 15));
-  const sequence = (line) => Number(line.slice(15, 18));
-  for (const several of found.values()) if (several.length > 1) several.sort((one, other) => sequence(one) - sequence(other));
-  return found;
-}
-
-// The landmarks, in the order of their first records.
-function readLandmarks(records) {
-  const landmarks = new Map();
-  for (const line of records["7"]) {
-    const key = line.slice(10, 20);
-    if (!landmarks.has(key)) landmarks.set(key, { key, bodies: [], places: [] });
-    landmarks.get(key).bodies.push(LANDMARK.of(line));
+  // The landmarks, in the order of their first records.
+  readLandmarks() {
+    const landmarks = new Map();
+    for (const at of this.lines["7"]) {
+      const key = this.text(at + 10, at + 20);
+      if (!landmarks.has(key)) landmarks.set(key, { key, bodies: [], places: [] });
+      landmarks.get(key).bodies.push(LANDMARK.of(this.line(at)));
+    }
+    for (const at of this.lines["8"]) {
+      const key = this.text(at + 25, at + 35);
+      there(landmarks.get(key), key).places.push({ file: this.text(at + 5, at + 10), polygon: this.polygonAt(at + 10) });
+    }
+    this.landmarks = [...landmarks.values()];
   }
-  for (const line of records["8"]) {
-    there(landmarks, line.slice(25, 35)).places.push({ file: line.slice(5, 10), polygon: line.slice(10, 25) });
-  }
-  return [...landmarks.values()];
 }
 
 export const numberOf = (key) => Number(key.slice(-10));

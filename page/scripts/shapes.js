@@ -3,125 +3,58 @@
 import { classOf } from "./classes.js";
 import { CHAIN, LANDMARK } from "./contents.js";
 import { chainTitle, landmarkTitle } from "./fields.js";
-import { linesIn } from "./records.js";
-import { RECORD_TYPES } from "./tables.js";
+import { Numbering } from "./numbering.js";
+import { NO_POINT, position } from "./points.js";
+import { Records } from "./records.js";
 
 const TURN = 360_000_000;
-const [ZERO, MINUS, BLANK_BYTE] = [0x30, 0x2d, 0x20];
-const POINTS_IN_RECORD = 10;
+const [TITLE, TITLE_END] = [17, 58]; // in a record of type 1: the name and the class of a chain
 
-export class Shapes {
-  // Space for so many chains and points.
-  constructor(chains, points) {
-    this.starts = new Uint32Array(chains + 1);
-    this.places = new Int32Array(2 * points);
-    this.classes = new Uint8Array(chains);
-    this.chains = 0;
-    this.points = 0;
-  }
-
-  add(longitude, latitude) {
-    this.places[2 * this.points] = longitude;
-    this.places[2 * this.points + 1] = latitude;
-    this.points += 1;
-  }
-
-  endChain(kind) {
-    this.classes[this.chains] = kind;
-    this.chains += 1;
-    this.starts[this.chains] = this.points;
-  }
-
-  // What a page can be sent, and the buffers that go along.
-  sent() {
-    const shift = shiftOf(this.places, this.points);
-    for (let at = 0; shift && at < 2 * this.points; at += 2) if (this.places[at] > 0) this.places[at] -= TURN;
-    return { starts: this.starts, places: this.places.subarray(0, 2 * this.points), classes: this.classes, shift };
-  }
-}
-
-function shiftOf(places, points) {
+// Moves the points of a map that crosses the line of 180 degrees, and returns by how much.
+export function shift(places) {
   let [least, most] = [Infinity, -Infinity];
-  for (let at = 0; at < 2 * points; at += 2) {
+  for (let at = 0; at < places.length; at += 2) {
     least = Math.min(least, places[at]);
     most = Math.max(most, places[at]);
   }
-  return most - least > TURN / 2 ? TURN : 0;
+  if (most - least <= TURN / 2) return 0;
+  for (let at = 0; at < places.length; at += 2) if (places[at] > 0) places[at] -= TURN;
+  return TURN;
 }
 
-function coordinate(bytes, from, to) {
-  let value = 0;
-  for (let at = from + 1; at < to; at += 1) value = value * 10 + bytes[at] - ZERO;
-  return bytes[from] === MINUS ? -value : value;
-}
-
-function numberAt(bytes, from, to) {
-  let value = 0;
-  for (let at = from; at < to; at += 1) if (bytes[at] !== BLANK_BYTE) value = value * 10 + bytes[at] - ZERO;
-  return value;
-}
-
-// Where the lines of each record type begin in a canonical text, which has them in the order of the types.
-function beginnings(text) {
-  const found = {};
-  let at = 0;
-  for (const [type, { length }] of Object.entries(RECORD_TYPES)) {
-    const from = at;
-    while (at < text.length && text[at] === type.charCodeAt(0)) at += length + 1;
-    found[type] = { from, count: (at - from) / (length + 1), step: length + 1 };
-  }
-  if (at !== text.length) throw new Error("the engine's text isn't in canonical form");
-  return found;
-}
-
-// The shapes of a canonical text, in which the chains have their numbers from 1. Lines of type 2 follow each other chain by chain.
-export function shapesOf(text) {
-  const records = beginnings(text);
-  const { count, step } = records["1"];
-  const shapes = new Shapes(count, 2 * count + POINTS_IN_RECORD * records["2"].count);
-  let inner = records["2"].from;
-  const end = inner + records["2"].count * records["2"].step;
-  for (let chain = 0; chain < count; chain += 1) {
-    const line = records["1"].from + chain * step;
-    shapes.add(coordinate(text, line + 190, line + 200), coordinate(text, line + 200, line + 209));
-    for (; inner < end && numberAt(text, inner + 5, inner + 15) === chain + 1; inner += records["2"].step) addPlaces(shapes, text, inner);
-    shapes.add(coordinate(text, line + 209, line + 219), coordinate(text, line + 219, line + 228));
-    shapes.endChain(classOf(text[line + 55], text[line + 56]));
-  }
-  const counts = Object.fromEntries(Object.entries(records).map(([type, its]) => [type, its.count]));
-  return { chains: shapes.sent(), titles: distinct(titlesIn(text, records["1"])), landmarks: landmarksOf(text, records["7"]), counts };
-}
-
-const linesOfType = (text, { from, count, step }) => linesIn(text.subarray(from, from + count * step));
-
-function* titlesIn(text, records) {
-  for (const line of linesOfType(text, records)) yield chainTitle({ body: CHAIN.of(line) });
-}
-
-// The titles of chains: each title once, and the number of each chain's.
-export function distinct(titles) {
-  const numbers = new Map();
-  const ofChains = Uint32Array.from(titles, (title) => {
-    if (!numbers.has(title)) numbers.set(title, numbers.size);
-    return numbers.get(title);
+// The lines of chains, which may be of several counties.
+export function linesOfChains(chains, classes) {
+  const starts = new Uint32Array(chains.length + 1);
+  chains.forEach(({ size }, at) => {
+    starts[at + 1] = starts[at] + size;
   });
-  return { all: [...numbers.keys()], ofChains };
+  const places = new Int32Array(2 * starts[chains.length]);
+  chains.forEach(({ county, place, size }, at) => {
+    const from = 2 * county.starts[place];
+    places.set(county.places.subarray(from, from + 2 * size), 2 * starts[at]);
+  });
+  return { starts, places, classes, shift: shift(places) };
+}
+
+// The shapes of a canonical text.
+export function shapesOf(text) {
+  const records = new Records(text);
+  const { starts, places, lines } = records;
+  const classes = Uint8Array.from(lines["1"], (line) => classOf(text[line + 55], text[line + 56]));
+  const counts = Object.fromEntries(Object.entries(lines).map(([type, { length }]) => [type, length]));
+  return { chains: { starts, places, classes, shift: shift(places) }, titles: titlesOf(records, lines["1"]), landmarks: landmarksOf(records), counts };
+}
+
+// The titles of the chains with these records of type 1: each title once, and the number of each chain's.
+export function titlesOf(records, lines) {
+  const titles = Numbering.ofBytes(records.bytes, TITLE_END - TITLE, lines.length);
+  const ofChains = Uint32Array.from(lines, (line) => titles.of(line + TITLE));
+  return { all: titles.things.map((at) => chainTitle({ body: CHAIN.of(records.line(at - TITLE)) })), ofChains };
 }
 
 // The landmarks that are points.
-function landmarksOf(text, records) {
-  const found = [];
-  for (const line of linesOfType(text, records)) {
-    if (line[54] === " ") continue;
-    const place = [Number(line.slice(54, 64)), Number(line.slice(64, 73))];
-    found.push({ place, title: landmarkTitle({ bodies: [LANDMARK.of(line)] }) });
-  }
-  return found;
-}
-
-function addPlaces(shapes, text, line) {
-  for (let at = line + 18; at < line + 208; at += 19) {
-    const [longitude, latitude] = [coordinate(text, at, at + 10), coordinate(text, at + 10, at + 19)];
-    if (longitude || latitude) shapes.add(longitude, latitude);
-  }
+function landmarksOf(records) {
+  const bodies = records.lines["7"].map((line) => LANDMARK.of(records.line(line)));
+  const placed = bodies.map((body) => ({ body, point: LANDMARK.value(body, "LALONG, LALAT") })).filter(({ point }) => point !== NO_POINT);
+  return placed.map(({ body, point }) => ({ place: position(point), title: landmarkTitle({ bodies: [body] }) }));
 }

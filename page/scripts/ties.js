@@ -4,7 +4,6 @@ import { LANDMARK } from "./contents.js";
 import { chainTitle, landmarkTitle, pairBy } from "./fields.js";
 import { groupedBy } from "./grouping.js";
 import { degrees, eachPoint, NO_POINT } from "./points.js";
-import { isBlank } from "./records.js";
 import { phrase } from "./wording.js";
 
 const SUBJECTS_OF_TIES = ["node", "polygon", "feature name"];
@@ -29,18 +28,16 @@ export function tiesAmong(tied) {
 // Calls `add` with the numbers that both maps have at a chain's places: the nodes at its ends, the polygons on sides with the same
 // content in both maps, and the further names, if they are the same.
 export function eachTied(chain, twin, first, second, add) {
-  const [nodes, others] = [chain.nodes, twin.nodes];
-  for (let at = 0; at < ENDS.length; at += 1) {
-    if (!isBlank(nodes[at]) && !isBlank(others[at])) add("node", nodes[at], others[at], ENDS[at]);
+  for (let end = 0; end < ENDS.length; end += 1) {
+    const [node, other] = [chain.node(end), twin.node(end)];
+    if (node && other) add("node", node, other, ENDS[end]);
   }
-  const [sides, otherSides] = [chain.sides, twin.sides];
-  for (let at = 0; at < HANDS.length; at += 1) {
-    const mark = first.marks.get(sides[at]);
-    if (mark !== undefined && mark === second.marks.get(otherSides[at])) add("polygon", sides[at], otherSides[at], HANDS[at]);
+  for (let hand = 0; hand < HANDS.length; hand += 1) {
+    const [side, other] = [chain.side(hand), twin.side(hand)];
+    if (side && other && first.isMarkedAs(side, second, other)) add("polygon", side.place, other.place, HANDS[hand]);
   }
-  const [feats, otherFeats] = [chain.feats, twin.feats];
-  if (!feats.length || first.county.nameBodies(chain).join("\n") !== second.county.nameBodies(twin).join("\n")) return;
-  feats.forEach((feat, at) => add("feature name", feat, otherFeats[at], `further name ${at + 1}`));
+  if (!chain.names.length || !chain.hasNamesOf(twin)) return;
+  chain.names.forEach((name, at) => add("feature name", name.place, twin.names[at].place, `further name ${at + 1}`));
 }
 
 // What a chain and its twin tie together.
@@ -53,7 +50,7 @@ export function tiesOf(chain, twin, first, second) {
 // Whether the chains of these pairs have one number in the one map where they have several in the other. Nearly always they don't, and
 // this is found in much less time than what is tied.
 export function areTied(pairs, first, second) {
-  const numbers = Object.fromEntries(SUBJECTS_OF_TIES.map((subject) => [subject, [new Map(), new Map()]]));
+  const numbers = Object.fromEntries(SUBJECTS_OF_TIES.map((subject) => [subject, [[], []]]));
   let isTied = false;
   const add = (subject, one, other) => {
     const [others, ones] = numbers[subject];
@@ -68,17 +65,16 @@ export function areTied(pairs, first, second) {
 
 // Whether a number has another partner than it had before.
 function isAnother(partners, number, partner) {
-  const known = partners.get(number);
-  if (known === undefined) partners.set(number, partner);
-  return known !== undefined && known !== partner;
+  partners[number] ??= partner;
+  return partners[number] !== partner;
 }
 
 // The polygons that a landmark lies in, in both maps.
 export function areasOf(landmark, twin, first, second) {
-  const areas = (its, teller) => its.places.map(({ file, polygon }) => ({ mark: `${file} ${teller.marks.get(polygon)}`, polygon }));
+  const areas = (its, teller) => its.places.map(({ file, polygon }) => ({ mark: `${file} ${teller.markOf(polygon)}`, polygon }));
   const { pairs } = pairBy(areas(landmark, first), areas(twin, second), (area) => area.mark);
   return pairs.map(([one, other], at) => {
-    return { subject: "polygon", first: one.polygon, second: other.polygon, landmark, place: `polygon ${at + 1}` };
+    return { subject: "polygon", first: one.polygon.place, second: other.polygon.place, landmark, place: `polygon ${at + 1}` };
   });
 }
 

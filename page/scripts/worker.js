@@ -6,7 +6,7 @@ import { compareCounties, ownNumbers } from "./matching.js";
 import { geojson } from "./geojson.js";
 import { Findings } from "./findings.js";
 import { fingerprint, hexadecimal, NO_MEMORY, normalise, respell } from "./engine.js";
-import { readCounty } from "./records.js";
+import { County } from "./records.js";
 import { counted } from "./numbers.js";
 import { lineOf } from "./refusals.js";
 import { partsOf } from "./sets.js";
@@ -67,7 +67,7 @@ async function compareTexts({ texts, most = MOST_LISTED }) {
   if (areEqual(first, second)) return { areOneMap: true, shapes: shapesOf(first) };
   const size = first.length + second.length;
   if (size > most) return { areOneMap: false, tooLarge: tooLarge(size, most) };
-  const counties = [first, second].map((text) => readCounty(text));
+  const counties = [first, second].map((text) => new County(text));
   report({ stage: "matching" });
   findings = new Findings(compareCounties(...counties), counties);
   report({ stage: "map" });
@@ -82,14 +82,14 @@ async function respelled(module, county) {
   return { parts, text };
 }
 
-const canonicalCounty = async (text) => readCounty(new Uint8Array(await text.arrayBuffer()));
+const canonicalCounty = async (text) => new County(new Uint8Array(await text.arrayBuffer()));
 
 // The numbers of things in the files of both sets, by the keys that are wanted.
 async function numbersOf({ module, counties, texts, masks, wanted }) {
   const found = [];
   for (const [side, county] of counties.entries()) {
     const { text } = await respelled(module, county);
-    const numbers = ownNumbers(readCounty(text), await canonicalCounty(texts[side]), masks);
+    const numbers = ownNumbers(new County(text), await canonicalCounty(texts[side]), masks);
     found.push(new Map(wanted[side].map((key) => [key, numbers.get(key)])));
   }
   return found;
@@ -107,7 +107,7 @@ async function saveDifferences({ module, counties, sets, masks, withAlike }) {
   const own = [];
   for (const [place, county] of counties.entries()) {
     const { text } = await respelled(module, county);
-    own.push(ownNumbers(readCounty(text), findings.counties[place], masks));
+    own.push(ownNumbers(new County(text), findings.counties[place], masks));
   }
   report({ stage: "writing" });
   const pieces = geojson(findings.comparison, sets, false, flagsOf(masks).join(" "), own, withAlike);

@@ -7,7 +7,7 @@ import { engineBytes, take } from "./scripts.mjs";
 
 const engine = await take("engine");
 const { compareCounties, ownNumbers } = await take("matching");
-const { readCounty } = await take("records");
+const { County } = await take("records");
 const { geojson } = await take("geojson");
 const module = new WebAssembly.Module(engineBytes());
 
@@ -17,8 +17,8 @@ async function differences({ files, flags }) {
   const texts = parts.map((part) => engine.normalise(module, part, masks).text);
   const hash = async (text) => engine.hexadecimal(new Uint8Array(await webcrypto.subtle.digest("SHA-256", text)));
   const sets = await Promise.all(files.map(async (name, place) => ({ name, fingerprint: await hash(texts[place]) })));
-  const counties = texts.map((text) => readCounty(text));
-  const own = parts.map((part, place) => ownNumbers(readCounty(engine.respell(module, part).text), counties[place], masks));
+  const counties = texts.map((text) => new County(text));
+  const own = parts.map((part, place) => ownNumbers(new County(engine.respell(module, part).text), counties[place], masks));
   const areOneMap = sets[0].fingerprint === sets[1].fingerprint;
   const leftOut = flags.filter((flag) => flag.startsWith("--no-")).join(" ");
   return JSON.parse([...geojson(compareCounties(...counties), sets, areOneMap, leftOut, own, flags.includes("--all"))].join(""));

@@ -11,7 +11,7 @@ const { leftOut } = await take("manifests");
 const { compareCounties, ownNumbers } = await take("matching");
 const { shownName } = await take("names");
 const { POINT_WIDTH } = await take("points");
-const { readCounty } = await take("records");
+const { County } = await take("records");
 const { tiedPoint } = await take("ties");
 const { sentenceOf } = await take("two");
 
@@ -32,7 +32,7 @@ const module = new WebAssembly.Module(engineBytes());
 const masks = { sources: false, reserved: false };
 const partsOf = (name) => [example(name)];
 const respelled = (name) => ({ parts: partsOf(name), text: engine.respell(module, partsOf(name)).text });
-const canonical = (name) => readCounty(engine.normalise(module, partsOf(name), masks).text);
+const canonical = (name) => new County(engine.normalise(module, partsOf(name), masks).text);
 const ways = (first, second) => Object.fromEntries(fileDifferences([respelled(first), respelled(second)], canonical(first), masks).map(({ label, text }) => [label, text]));
 const renumbered = ways("autauga/all.txt", "autauga-renumbered/all.txt");
 equal("other numbers", "other numbers for 7 of 7 chains (TLID), 2 of 2 names (FEAT), 3 of 3 landmarks (LAND), 3 of 3 polygons (POLYID)", renumbered.Numbers);
@@ -48,6 +48,8 @@ const respeltCounty = canonical("autauga/all.txt");
 const spelling = (...files) => fileDifferences(files, respeltCounty, masks).find(({ label }) => label === "Spelling").text;
 equal("lines that aren't in canonical spelling", "lines end in CR LF in the first and in LF in the second; 3 of 33 lines of the first aren't in canonical spelling", spelling(other, respelt));
 equal("lines that are", "the same", spelling(respelt, respelt));
+const upsideDown = new Uint8Array(Buffer.from(Buffer.from(canonicalText).toString("latin1").trimEnd().split("\n").reverse().map((line) => `${line}\n`).join(""), "latin1"));
+equal("records of types 2 and 4 in another order aren't divided differently", "the same", fileDifferences([respelt, { parts: [upsideDown], text: upsideDown }], respeltCounty, masks).find(({ label }) => label === "Division").text);
 const spelled = ways("types-1-and-I.txt", "other-spelling.txt");
 equal("another spelling", ["the same", "the same", "the same", "the same"], [spelled.Numbers, spelled.Order, spelled.Direction, spelled.Division]);
 equal("its line endings", "lines end in LF in the first and in CR LF in the second", spelled.Spelling.split(";")[0]);
@@ -79,7 +81,7 @@ equal("what a name is of", true, /^FILE 01001, a further name of \d+ chains?$/.t
 const harrison = list("harrison").piece[0];
 equal("three of the fields that changed", [["range 1", "FRADDL of range 1", "TOADDL of range 1"], 4, "no", "yes"], [harrison.changes.map(({ label }) => label), harrison.more, harrison.changes[0].first, harrison.changes[0].second]);
 equal("without numbers at first", ["", 0], [harrison.numbers, list("TLID 1977").count]);
-const own = town.map((name, side) => ownNumbers(readCounty(engine.respell(module, partsOf(name)).text), counties[side], masks));
+const own = town.map((name, side) => ownNumbers(new County(engine.respell(module, partsOf(name)).text), counties[side], masks));
 findings.takeNumbers(own);
 equal("numbers of both files", ["TLID 50 and 898", 1], [list("harrison").piece[0].numbers, list("tlid 1977").count]);
 equal("a number of one file", "TLID 40", list("TLID 40 jackson").piece[0].numbers);
@@ -90,7 +92,7 @@ equal("a chain that is alike", [ALIKE, "chain", false], (({ kind, what, rows }) 
 
 // Where nodes are joined differently, the places are listed.
 const joined = (first, second) => {
-  const both = [first, second].map((text) => readCounty(text));
+  const both = [first, second].map((text) => new County(text));
   return new Findings(compareCounties(...both), both);
 };
 const text = engine.normalise(module, partsOf("autauga/all.txt"), masks).text;

@@ -5,7 +5,7 @@ const { CLASSES, classOf } = await take("classes");
 const { boundsOf, byStyle, chainNear, draw, drawOne, specksOf, Squares, strokesOf } = await take("drawing");
 const { ALIKE, CHANGED, FIRST, KIND_LINES, SECOND } = await take("kinds");
 const { drawMark } = await take("marks");
-const { Shapes } = await take("shapes");
+const { shift } = await take("shapes");
 const { View } = await take("view");
 
 // The classes of roads are those of the CFCC: A1 has limited access, A2 and A3 are main roads, A4 and more are others.
@@ -116,18 +116,12 @@ equal("of two small chains of a place one is drawn, and the long one", 2, thinne
 
 // A map across the line of 180 degrees is moved to one side; one on one side isn't.
 const crossing = (longitudes) => {
-  const made = new Shapes(2, longitudes.length + 5);
-  longitudes.forEach((longitude, at) => made.add(longitude, at + 50));
-  made.endChain(4);
-  made.add(longitudes[0], 7);
-  made.endChain(2);
-  const { places, shift, starts, classes } = made.sent();
-  return [[...places], shift, [...starts], [...classes]];
+  const places = Int32Array.from(longitudes.flatMap((longitude, at) => [longitude, at + 50]));
+  return [shift(places), [...places]];
 };
-const across = [-180_000_001, 50, -179_999_999, 51, -180_500_000, 52, -180_000_001, 7];
-equal("a map across the line of 180 degrees", [across, 360_000_000, [0, 3, 4], [4, 2]], crossing([179_999_999, -179_999_999, 179_500_000]));
-equal("a map on one side of it", [[-86_000_000, 50, -85_000_000, 51, -86_000_000, 7], 0, [0, 2, 3], [4, 2]], crossing([-86_000_000, -85_000_000]));
-equal("a map on the eastern side", [[144_000_000, 50, 145_000_000, 51, 144_000_000, 7], 0, [0, 2, 3], [4, 2]], crossing([144_000_000, 145_000_000]));
+equal("a map across the line of 180 degrees", [360_000_000, [-180_000_001, 50, -179_999_999, 51, -180_500_000, 52]], crossing([179_999_999, -179_999_999, 179_500_000]));
+equal("a map on one side of it", [0, [-86_000_000, 50, -85_000_000, 51]], crossing([-86_000_000, -85_000_000]));
+equal("a map on the eastern side", [0, [144_000_000, 50, 145_000_000, 51]], crossing([144_000_000, 145_000_000]));
 
 const near = (x, y, isShown = () => true) => chainNear(view, layer, x, y, 8, isShown);
 equal("the chain at a place", 0, near(view.x(250), view.y(250) + 3));
