@@ -1,5 +1,6 @@
 // How two files of one map differ, though they describe the same things: in the numbers, in the order of records, in the direction of
 // chains, in how shape points and names are divided among records, and in spelling.
+import { sequenceAt, usedPlaces } from "./columns.js";
 import { linesOf } from "./faulty.js";
 import { ownKeys } from "./matching.js";
 import { counted } from "./numbers.js";
@@ -81,8 +82,8 @@ function divisionText([first, second], canonical) {
 
 // How many places each record of types 2 and 4 of a chain has in use.
 function divisionOf({ county, place }) {
-  const points = Array.from(county.inner.of(place), (line) => `2:${county.sequence(line)}:${county.usedPlaces(line)}`);
-  const names = Array.from(county.further.of(place), (line) => `4:${county.sequence(line)}:${county.feats(line).length}`);
+  const points = county.linesOf("inner", place).map((line) => `2:${sequenceAt(county.bytes, line)}:${usedPlaces(county.bytes, line)}`);
+  const names = county.linesOf("further", place).map((line) => `4:${sequenceAt(county.bytes, line)}:${county.feats(line).length}`);
   return [...points, ...names].join(" ");
 }
 

@@ -52,7 +52,7 @@ export class Findings {
       chains: linesOfChains(alike.concat(different), kinds),
       firstEntry: alike.length,
       entries: Uint32Array.from(entries, ({ number }) => number),
-      titles: titlesOf(this.counties[0], alike.map(({ recordAt }) => recordAt)),
+      titles: titlesOf(this.counties[0].bytes, alike.map(({ recordAt }) => recordAt)),
       points: [...this.alikeLandmarks(), ...this.differingPoints()],
     };
   }

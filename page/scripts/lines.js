@@ -3,7 +3,7 @@ import { Numbering, stirred } from "./numbering.js";
 
 // Which end comes first: negative if it is the one that the records begin with, and 0 if a chain is its own reverse. A canonical text
 // has no chain from the end that comes later.
-export function orderOfEnds({ county: { starts, places }, place }) {
+export function orderOfEnds({ county: { columns: { starts, places } }, place }) {
   for (let [one, other] = [starts[place], starts[place + 1] - 1]; one < other; one += 1, other -= 1) {
     const order = places[2 * one] - places[2 * other] || places[2 * one + 1] - places[2 * other + 1];
     if (order) return order;
@@ -14,7 +14,7 @@ export function orderOfEnds({ county: { starts, places }, place }) {
 export const isOwnReverse = (chain) => orderOfEnds(chain) === 0;
 
 function hashOf(chain) {
-  const { places } = chain.county;
+  const { places } = chain.county.columns;
   let hash = 0;
   for (let number = 0; number < chain.size; number += 1) {
     const at = 2 * chain.pointAt(number);
@@ -24,7 +24,7 @@ function hashOf(chain) {
 }
 
 export function haveSamePoints(one, other) {
-  const [places, others] = [one.county.places, other.county.places];
+  const [places, others] = [one.county.columns.places, other.county.columns.places];
   for (let number = 0; number < one.size; number += 1) {
     const [at, twin] = [2 * one.pointAt(number), 2 * other.pointAt(number)];
     if (places[at] !== others[twin] || places[at + 1] !== others[twin + 1]) return false;

@@ -1,154 +1,19 @@
 // Reads the records that the engine prints: a county's chains, feature names, polygons and landmarks. The engine spells each number
 // and point in one way, so equal ones are equal bytes. Nearly all that two maps have is alike. So a county keeps its text as bytes, and
 // only what differs is made into strings.
+import { lineAt, NotCanonical, numberAt, readColumns, textIn, usedPlaces } from "./columns.js";
 import { areAlike, CHAIN, isBlank, LANDMARK, NAME, POLYGON, RANGE, TOPOLOGY } from "./contents.js";
-import { Numbering } from "./numbering.js";
-import { NO_POINT, reversedPoints } from "./points.js";
-import { LENGTHS } from "./tables.js";
+import { NO_POINT, POINT_WIDTH, reversedPoints } from "./points.js";
 
-const [LINE_FEED, SPACE, ZERO, MINUS] = [0x0a, 0x20, 0x30, 0x2d];
 const NONE_OF_THEM = [];
-const [TLID_WIDTH, POLYGON_WIDTH] = [10, 15];
+
+const KEY_WIDTH = 15; // of a polygon's key
 
 export const OFFICE_WIDTH = 5;
-
-export class NotCanonical extends Error {}
-
-// The text of so many bytes. All that a record may have is spelled in Latin-1.
-const textIn = (bytes, from, to) => String.fromCharCode.apply(null, bytes.subarray(from, to));
-
-// The number in a field, or 0 if it is blank.
-function numberAt(bytes, from, to) {
-  let value = 0;
-  for (let at = from; at < to; at += 1) if (bytes[at] !== SPACE) value = value * 10 + bytes[at] - ZERO;
-  return value;
-}
-
-function coordinateAt(bytes, from, to) {
-  const value = numberAt(bytes, from + 1, to);
-  return bytes[from] === MINUS ? -value : value;
-}
 
 function there(thing, key) {
   if (thing === undefined) throw new NotCanonical(`there is no record under ${key}`);
   return thing;
-}
-
-// Where the lines of each record type begin.
-function beginnings(bytes) {
-  const [found, lines, lengths] = [{}, [], []];
-  for (const [type, length] of Object.entries(LENGTHS)) {
-    const code = type.charCodeAt(0);
-    found[type] = [];
-    [lines[code], lengths[code]] = [found[type], length];
-  }
-  for (let at = 0; at < bytes.length; ) {
-    const end = at + lengths[bytes[at]];
-    if (bytes[end] !== LINE_FEED) throw new NotCanonical(`it has a line that isn't a record: ${textIn(bytes, at, at + 20)}`);
-    lines[bytes[at]].push(at);
-    at = end + 1;
-  }
-  return found;
-}
-
-// The lines of one type side by side, chain by chain. Those of a chain are in the order of their RTSQs.
-class LinesOfChains {
-  constructor(count, lines, chainOf, sequenceOf) {
-    const chains = Int32Array.from(lines, chainOf);
-    this.starts = new Uint32Array(count + 1);
-    for (const chain of chains) this.starts[chain + 1] += 1;
-    for (let chain = 0; chain < count; chain += 1) this.starts[chain + 1] += this.starts[chain];
-    const next = this.starts.slice();
-    this.lines = new Uint32Array(lines.length);
-    chains.forEach((chain, number) => {
-      this.lines[next[chain]] = lines[number];
-      next[chain] += 1;
-    });
-    for (let chain = 0; chain < count; chain += 1) {
-      if (this.count(chain) > 1) this.of(chain).sort((one, other) => sequenceOf(one) - sequenceOf(other));
-    }
-  }
-
-  count(chain) {
-    return this.starts[chain + 1] - this.starts[chain];
-  }
-
-  of(chain) {
-    return this.lines.subarray(this.starts[chain], this.starts[chain + 1]);
-  }
-}
-
-// The lines of a text by their types, those of each chain, and its points.
-export class Records {
-  constructor(bytes) {
-    Object.assign(this, { bytes, lines: beginnings(bytes) });
-    this.count = this.lines["1"].length;
-    this.tlids = Numbering.ofBytes(bytes, TLID_WIDTH, this.count);
-    for (const line of this.lines["1"]) this.tlids.of(line + 5);
-    this.inner = this.byChain("2");
-    this.readPoints();
-  }
-
-  text(from, to) {
-    return textIn(this.bytes, from, to);
-  }
-
-  // The line that begins there.
-  line(at) {
-    return this.text(at, at + LENGTHS[String.fromCharCode(this.bytes[at])]);
-  }
-
-  // The lines of a type that each chain has. `at` is where they have their TLID.
-  byChain(type, at = 5) {
-    const chainOf = (line) => {
-      const chain = this.tlids.find(line + at);
-      if (chain < 0) throw new NotCanonical(`there is no record of type 1 for ${this.line(line)}`);
-      return chain;
-    };
-    return new LinesOfChains(this.count, this.lines[type], chainOf, (line) => this.sequence(line));
-  }
-
-  sequence(line) {
-    return numberAt(this.bytes, line + 15, line + 18);
-  }
-
-  // How many of the ten places of a record of type 2 have points. They are used from the left.
-  usedPlaces(line) {
-    let used = 10;
-    while (used && !this.longitude(line + 19 * used - 1) && !this.latitude(line + 19 * used - 1)) used -= 1;
-    return used;
-  }
-
-  longitude(point) {
-    return coordinateAt(this.bytes, point, point + 10);
-  }
-
-  latitude(point) {
-    return coordinateAt(this.bytes, point + 10, point + 19);
-  }
-
-  // Puts the points of all chains side by side, each as two numbers in millionths of a degree.
-  readPoints() {
-    this.starts = new Uint32Array(this.count + 1);
-    const places = new Int32Array(2 * (2 * this.count + 10 * this.lines["2"].length));
-    let end = 0;
-    const add = (point) => {
-      places[end] = this.longitude(point);
-      places[end + 1] = this.latitude(point);
-      end += 2;
-    };
-    const { starts, lines } = this.inner;
-    this.lines["1"].forEach((line, chain) => {
-      add(line + 190);
-      for (let inner = starts[chain]; inner < starts[chain + 1]; inner += 1) {
-        const used = this.usedPlaces(lines[inner]);
-        for (let place = 1; place <= used; place += 1) add(lines[inner] + 19 * place - 1);
-      }
-      add(line + 209);
-      this.starts[chain + 1] = end / 2;
-    });
-    this.places = places.slice(0, end);
-  }
 }
 
 // A chain by its place among those of its county. It may be seen from its other end.
@@ -163,20 +28,22 @@ export class Chain {
 
   // How many points the chain has.
   get size() {
-    return this.county.starts[this.place + 1] - this.county.starts[this.place];
+    const { starts } = this.county.columns;
+    return starts[this.place + 1] - starts[this.place];
   }
 
   // Where a point of the chain is among those of its county.
   pointAt(number) {
-    return this.isTurned ? this.county.starts[this.place + 1] - 1 - number : this.county.starts[this.place] + number;
+    const { starts } = this.county.columns;
+    return this.isTurned ? starts[this.place + 1] - 1 - number : starts[this.place] + number;
   }
 
   get recordAt() {
-    return this.county.lines["1"][this.place];
+    return this.county.columns.lines["1"][this.place];
   }
 
   get topologyAt() {
-    return this.county.topologies[this.place];
+    return this.county.columns.topologies[this.place];
   }
 
   get key() {
@@ -188,8 +55,7 @@ export class Chain {
   }
 
   get ranges() {
-    if (!this.county.ranges.count(this.place)) return NONE_OF_THEM;
-    return Array.from(this.county.ranges.of(this.place), (line) => this.seen(RANGE, RANGE.of(this.county.line(line))));
+    return this.county.linesOf("ranges", this.place).map((line) => this.seen(RANGE, RANGE.of(this.county.line(line))));
   }
 
   get topologyBody() {
@@ -203,7 +69,7 @@ export class Chain {
 
   get points() {
     const line = this.county.line(this.recordAt);
-    const inner = Array.from(this.county.inner.of(this.place), (at) => this.county.text(at + 18, at + 18 + 19 * this.county.usedPlaces(at)));
+    const inner = this.county.linesOf("inner", this.place).map((at) => this.county.text(at + 18, at + 18 + POINT_WIDTH * usedPlaces(this.county.bytes, at)));
     const points = `${line.slice(190, 209)}${inner.join("")}${line.slice(209)}`;
     return this.isTurned ? reversedPoints(points) : points;
   }
@@ -220,7 +86,7 @@ export class Chain {
 
   // The polygon on the left (0) or on the right (1), if there is one.
   side(hand) {
-    return this.county.sides[2 * this.place + Number(this.isEnd(hand))];
+    return this.county.polygons[this.county.columns.sides[2 * this.place + Number(this.isEnd(hand))]];
   }
 
   // The office of the polygon on the left or on the right.
@@ -249,7 +115,7 @@ export class Polygon {
   }
 
   get key() {
-    return this.county.text(this.keyAt, this.keyAt + POLYGON_WIDTH);
+    return this.county.text(this.keyAt, this.keyAt + KEY_WIDTH);
   }
 
   get cenid() {
@@ -278,32 +144,41 @@ export class Polygon {
 }
 
 // The county of a canonical text, or of respelled records.
-export class County extends Records {
-  constructor(bytes) {
-    super(bytes);
-    this.chains = Array.from({ length: this.count }, (_, place) => new Chain(this, place));
-    this.ranges = this.byChain("6");
+export class County {
+  constructor(bytes, columns = readColumns(bytes)) {
+    Object.assign(this, { bytes, columns });
+    const { lines, polygons } = columns;
+    this.chains = Array.from(lines["1"], (_, place) => new Chain(this, place));
+    this.polygons = Array.from(polygons, (key, place) => new Polygon(this, place, key, lines.P[place]));
     this.readNames();
-    const { lines, starts } = this.byChain("I", 10);
-    if (starts.some((start, chain) => start !== chain)) throw new NotCanonical("a chain hasn't one record of type I");
-    this.topologies = lines;
-    this.readPolygons();
     this.readLandmarks();
+  }
+
+  text(from, to) {
+    return textIn(this.bytes, from, to);
+  }
+
+  line(at) {
+    return lineAt(this.bytes, at);
+  }
+
+  // The further lines of a chain: `inner` ones with its points, `further` ones with its names, or its `ranges`.
+  linesOf(name, chain) {
+    const { starts, lines } = this.columns[name];
+    return starts[chain] === starts[chain + 1] ? NONE_OF_THEM : [...lines.subarray(starts[chain], starts[chain + 1])];
   }
 
   // The feature names, and those of each chain.
   readNames() {
     const numbered = (at, place) => ({ place, feat: this.text(at + 10, at + 18), body: NAME.of(this.line(at)), uses: 0 });
-    this.names = this.lines["5"].map(numbered);
+    this.names = Array.from(this.columns.lines["5"], numbered);
     const byFeat = new Map(this.names.map((name) => [name.feat, name]));
-    this.further = this.byChain("4");
     this.namesOf = new Map();
-    this.chains.forEach((_, chain) => {
-      if (!this.further.count(chain)) return;
-      const names = Array.from(this.further.of(chain)).flatMap((line) => this.feats(line)).map((feat) => there(byFeat.get(feat), feat));
+    for (const { place } of this.chains) {
+      const names = this.linesOf("further", place).flatMap((line) => this.feats(line)).map((feat) => there(byFeat.get(feat), feat));
       for (const name of names) name.uses += 1;
-      this.namesOf.set(chain, names);
-    });
+      if (names.length) this.namesOf.set(place, names);
+    }
   }
 
   // The FEATs of a record of type 4.
@@ -311,36 +186,19 @@ export class County extends Records {
     return [18, 26, 34, 42, 50].map((at) => this.text(line + at, line + at + 8)).filter((feat) => !isBlank(feat));
   }
 
-  // The polygons, those with a record first, and those on the sides of each chain.
-  readPolygons() {
-    this.polygons = [];
-    const numbers = Numbering.ofBytes(this.bytes, POLYGON_WIDTH, this.lines.P.length + 2 * this.count);
-    const add = (key, record) => {
-      const place = numbers.of(key);
-      this.polygons[place] ??= new Polygon(this, place, key, record);
-      return this.polygons[place];
-    };
-    for (const line of this.lines.P) add(line + 10, line);
-    const hasNumber = (key) => this.bytes[key + POLYGON_WIDTH - 1] !== SPACE;
-    this.sides = [];
-    for (const line of this.topologies) {
-      for (const key of [line + 40, line + 55]) this.sides.push(hasNumber(key) ? add(key) : undefined);
-    }
-    this.polygonAt = (key) => there(this.polygons[numbers.find(key)], this.text(key, key + POLYGON_WIDTH));
-  }
-
   // The landmarks, in the order of their first records.
   readLandmarks() {
     const landmarks = new Map();
-    for (const at of this.lines["7"]) {
+    const { lines, areas } = this.columns;
+    for (const at of lines["7"]) {
       const key = this.text(at + 10, at + 20);
       if (!landmarks.has(key)) landmarks.set(key, { key, bodies: [], places: [] });
       landmarks.get(key).bodies.push(LANDMARK.of(this.line(at)));
     }
-    for (const at of this.lines["8"]) {
-      const key = this.text(at + 25, at + 35);
-      there(landmarks.get(key), key).places.push({ file: this.text(at + 5, at + 10), polygon: this.polygonAt(at + 10) });
-    }
+    lines["8"].forEach((at, number) => {
+      const [key, polygon] = [this.text(at + 25, at + 35), this.polygons[areas[number]]];
+      there(landmarks.get(key), key).places.push({ file: this.text(at + 5, at + 10), polygon: there(polygon, this.text(at + 10, at + 25)) });
+    });
     this.landmarks = [...landmarks.values()];
   }
 }

@@ -53,8 +53,8 @@ export class TwoCounties {
     replace(this.verdict, stages.node);
     this.assistant = new Assistant((stage) => (this.shown?.onstage ?? ((each) => stages.at(each)))(stage));
     try {
-      const texts = this.panels.map((panel) => panel.result.text);
-      this.found = await this.assistant.ask("compareTexts", { texts });
+      const [texts, columns] = ["text", "columns"].map((name) => this.panels.map(({ result }) => result[name]));
+      this.found = await this.assistant.ask("compareTexts", { texts, columns });
     } catch (error) {
       if (!this.isGone) replace(this.verdict, troubleOf(error.message));
       return;

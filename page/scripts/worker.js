@@ -2,6 +2,7 @@
 // or { trouble }. After the differences of two maps were found it goes on to answer questions about them.
 import { fileDifferences } from "./file_differences.js";
 import { flagsOf } from "./manifests.js";
+import { readColumns } from "./columns.js";
 import { compareCounties, ownNumbers } from "./matching.js";
 import { geojson } from "./geojson.js";
 import { Findings } from "./findings.js";
@@ -26,7 +27,7 @@ const refusedAnswer = (fault, parts, names, notes) => {
   return { isAccepted: false, line: lineOf(fault), number: fault.number, notes, ...shown };
 };
 
-// Judges a county: its canonical text, the hash of that, and, if it is shown alone, the map's shapes.
+// Judges a county: its canonical text, the hash of that, and the map's shapes or, if it isn't shown alone, its columns.
 async function judge({ module, county, masks, isAlone }) {
   const { parts, names, notes } = await partsOf(county, report);
   report({ stage: "judging" });
@@ -34,10 +35,11 @@ async function judge({ module, county, masks, isAlone }) {
   if (fault) return refusedAnswer(fault, parts, names, status === NO_MEMORY ? [...notes, FULL] : notes);
   parts.length = 0;
   report({ stage: "fingerprint" });
-  const digest = await digestOf(text);
+  const digest = digestOf(text);
+  // While the hash is made elsewhere, what the map or a comparison needs is read.
   if (isAlone) report({ stage: "map" });
-  const shapes = isAlone ? shapesOf(text) : undefined;
-  return { isAccepted: true, fingerprint: digest, text: new Blob([text]), size: text.length, shapes, notes };
+  const read = isAlone ? { shapes: shapesOf(text) } : { columns: readColumns(text) };
+  return { isAccepted: true, fingerprint: await digest, text: new Blob([text]), size: text.length, ...read, notes };
 }
 
 // Judges a county of many: only its fingerprint, by the engine's own call.
@@ -61,13 +63,13 @@ function areEqual(one, other) {
 }
 
 // Compares two canonical texts byte by byte, and finds what differs, if they aren't too large for that.
-async function compareTexts({ texts, most = MOST_LISTED }) {
+async function compareTexts({ texts, columns = [], most = MOST_LISTED }) {
   report({ stage: "comparing" });
   const [first, second] = await Promise.all(texts.map(async (text) => new Uint8Array(await text.arrayBuffer())));
   if (areEqual(first, second)) return { areOneMap: true, shapes: shapesOf(first) };
   const size = first.length + second.length;
   if (size > most) return { areOneMap: false, tooLarge: tooLarge(size, most) };
-  const counties = [first, second].map((text) => new County(text));
+  const counties = [first, second].map((text, place) => new County(text, columns[place]));
   report({ stage: "matching" });
   findings = new Findings(compareCounties(...counties), counties);
   report({ stage: "map" });

@@ -4,10 +4,11 @@ import { Blob } from "node:buffer";
 import { test } from "node:test";
 import { engineBytes, example, take } from "./scripts.mjs";
 
+const { NotCanonical } = await take("columns");
 const { normalise } = await take("engine");
 const { compareCounties } = await take("matching");
 const { eachPoint, position } = await take("points");
-const { County, NotCanonical } = await take("records");
+const { County } = await take("records");
 const { shapesOf } = await take("shapes");
 const { JOBS } = await take("worker");
 
