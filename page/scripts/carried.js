@@ -1,5 +1,6 @@
 // Two counties that a page carries, each file packed: tigercanon-tools writes such a page, and this page writes one to save a comparison.
-import { bytesOfBase64 } from "./jobs.js";
+import { GZIP } from "./first_line.js";
+import { bytesOfBase64, unpackedBase64 } from "./jobs.js";
 import { flagsOf } from "./manifests.js";
 import { counted } from "./numbers.js";
 
@@ -17,11 +18,13 @@ export function takeCarried() {
   return text ? JSON.parse(text) : undefined;
 }
 
-// The counties, as if their files had been dropped, and the masks.
+// The counties, as if their files had been dropped, and the masks. Files stay packed until they are read; a zip is read by its parts.
 export async function unpackCarried({ counties, masks }) {
   const both = counties.map(async ({ name, files }) => {
     const given = {};
-    for (const file of files) given[file.kind] = new File([await bytesOfBase64(file.gzip)], file.name);
+    for (const { kind, name: file, gzip } of files) {
+      given[kind] = kind === "zip" ? new File([await unpackedBase64(gzip)], file) : new File([bytesOfBase64(gzip)], file, { type: GZIP });
+    }
     const { whole, zip, ...singles } = given;
     return { stem: name, notes: [], ...(whole ? { whole } : zip ? { zip } : { files: singles }) };
   });
@@ -44,7 +47,7 @@ export async function pageWith(counties, fingerprints, masks) {
 }
 
 async function packedBase64(file) {
-  const packed = await new Response(file.stream().pipeThrough(new CompressionStream("gzip"))).blob();
+  const packed = file.type === GZIP ? file : await new Response(file.stream().pipeThrough(new CompressionStream("gzip"))).blob();
   const reader = new FileReader();
   await new Promise((resolve, reject) => Object.assign(reader, { onload: resolve, onerror: () => reject(reader.error) }).readAsDataURL(packed));
   return reader.result.slice(reader.result.indexOf(",") + 1);

@@ -7,6 +7,9 @@ const LINE_END = 10;
 const PACKED_HEAD = 65536; // bytes of a packed file that have its first line in them
 const FILLED = { false: /^ *[0-9]+ *$/, true: /^ *[+-]?[0-9]+ *$/ };
 
+// The type of a file that is packed by gzip, whatever its name is.
+export const GZIP = "application/gzip";
+
 export const unzippedStream = (blob) => blob.stream().pipeThrough(new DecompressionStream("gzip"));
 
 // As many bytes as the longest record has.

@@ -1,4 +1,5 @@
 // Workers: each job has one of its own, so that its memory is given back when it ends. Jobs of many small counties share some.
+import { unzippedStream } from "./first_line.js";
 
 const MOST_SHARED = 20_000_000; // bytes that a worker reads before it is replaced
 
@@ -9,17 +10,20 @@ function element(id) {
   return document.getElementById(id).textContent.trim();
 }
 
-export async function bytesOfBase64(text) {
+export function bytesOfBase64(text) {
   const letters = atob(text);
-  const packed = new Uint8Array(letters.length);
-  for (let at = 0; at < letters.length; at += 1) packed[at] = letters.charCodeAt(at);
-  const stream = new Blob([packed]).stream().pipeThrough(new DecompressionStream("gzip"));
-  return new Response(stream).arrayBuffer();
+  const bytes = new Uint8Array(letters.length);
+  for (let at = 0; at < letters.length; at += 1) bytes[at] = letters.charCodeAt(at);
+  return bytes;
+}
+
+export function unpackedBase64(text) {
+  return new Response(unzippedStream(new Blob([bytesOfBase64(text)]))).arrayBuffer();
 }
 
 // The engine, compiled once for all workers.
 export function engineModule() {
-  moduleReady ??= bytesOfBase64(element("engine")).then((bytes) => WebAssembly.compile(bytes));
+  moduleReady ??= unpackedBase64(element("engine")).then((bytes) => WebAssembly.compile(bytes));
   return moduleReady;
 }
 

@@ -3,7 +3,7 @@ import { takeCarried, unpackCarried } from "./carried.js";
 import { endingsOf, sortedOut } from "./counties.js";
 import { announce, h, replace } from "./dom.js";
 import { chosenFiles, droppedFiles } from "./dropping.js";
-import { bytesOfBase64, engineModule } from "./jobs.js";
+import { engineModule, unpackedBase64 } from "./jobs.js";
 import { ManyCounties } from "./many.js";
 import { baseOf, shownName } from "./names.js";
 import { OneCounty } from "./one.js";
@@ -128,7 +128,7 @@ function complain(text) {
 
 async function example(name) {
   const files = EXAMPLES[name].map(async ({ name: path, gzip }) => {
-    const file = new File([await bytesOfBase64(gzip)], path.replace("/all", "").replace(/^.*\//, ""));
+    const file = new File([await unpackedBase64(gzip)], path.replace("/all", "").replace(/^.*\//, ""));
     return { path: file.name, file };
   });
   Object.assign(state, NOTHING);

@@ -1,5 +1,5 @@
 // Reads the parts of a county: in the order of the nine files, or the one file with all records.
-import { beginningOf, isPacked, unzippedStream } from "./first_line.js";
+import { beginningOf, isPacked, GZIP, unzippedStream } from "./first_line.js";
 import { TYPES } from "./tables.js";
 import { Unreadable } from "./unreadable.js";
 import { checkSize, LARGEST, membersOf, unpacked } from "./zips.js";
@@ -45,6 +45,7 @@ function progress(report, stage, total) {
 const changed = ({ name }) => new Unreadable(`a file changed while it was read: ${name}`);
 
 async function readFile(file, count) {
+  if (file.type === GZIP) return unpackedFile(file, count);
   const bytes = new Uint8Array(file.size);
   const reader = file.stream().getReader();
   let at = 0;
@@ -75,7 +76,13 @@ async function unpackedFile(file, count) {
     pieces.push(value);
   }
   count(file.size);
-  return new Uint8Array(await new Blob(pieces).arrayBuffer());
+  const bytes = new Uint8Array(size);
+  let at = 0;
+  for (const piece of pieces) {
+    bytes.set(piece, at);
+    at += piece.length;
+  }
+  return bytes;
 }
 
 async function singles(given, report) {

@@ -1,8 +1,8 @@
 // The work of the page, in a worker of its own. It is asked by one message and answers with any number of { stage } and one { answer }
 // or { trouble }. After the differences of two maps were found it goes on to answer questions about them.
+import { readColumns } from "./columns.js";
 import { fileDifferences } from "./file_differences.js";
 import { flagsOf } from "./manifests.js";
-import { readColumns } from "./columns.js";
 import { compareCounties, ownNumbers } from "./matching.js";
 import { geojson } from "./geojson.js";
 import { Findings } from "./findings.js";
