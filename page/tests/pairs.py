@@ -10,10 +10,12 @@ from typing import Any, Callable, Iterator, NamedTuple, Sequence
 
 from dev import maps
 from dev.random_counties import Maker
-from tigercanon.diff.differing import Differing, found_between
+from tigercanon.diff.differing import compared as comparison_of
+from tigercanon.diff.differing import open_sets
 from tigercanon.diff.geojson import write_geojson
+from tigercanon.diff.matching import Comparison
 from tigercanon.diff.page import find_page, write_page
-from tigercanon.diff.sets import found
+from tigercanon.diff.sets import Sets, found
 from tigercanon.errors import Failure
 from tigercanon.resources import Kept, Resources
 
@@ -73,6 +75,14 @@ def wet(maker: Maker, county: maps.County) -> None:
 EDITS: Sequence[Edit] = (lose, add, move, rename, join, mask, wet)
 
 
+class Differing(NamedTuple):
+    """Two sets, where they differ, and their files, packed for a page."""
+
+    sets: Sets
+    comparison: Comparison
+    packed: list[dict[str, Any]]
+
+
 class Pair(NamedTuple):
     """Two counties in files, the flags to compare them with, and where the tools find that they differ."""
 
@@ -123,7 +133,8 @@ def compared(program: Path, files: Sequence[Path], flags: Sequence[str]) -> Diff
     """Where the tools find that two sets differ. Raises Failure if one is refused."""
     names, masks = list(map(str, files)), tuple(flag for flag in flags if flag.startswith("--no-"))
     with Resources() as resources:
-        return found_between([found(name, False) for name in names], names, str(program), masks, resources, with_files=True)
+        both = open_sets([found(name, False) for name in names], names, str(program), masks, resources)
+        return Differing(both.sets, comparison_of(both, str(program), resources), both.packed)
 
 
 def pairs(program: Path, folder: Path, seed: int) -> Iterator[Pair]:

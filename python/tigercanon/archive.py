@@ -11,7 +11,7 @@ from contextlib import closing
 from dataclasses import dataclass
 from typing import Any, Generator, Iterable, Iterator, Optional, Sequence
 
-from .diff.differing import found_between
+from .diff.differing import compared, open_sets
 from .diff.geojson import properties
 from .diff.sets import found
 from .diff.words import things
@@ -205,7 +205,8 @@ def differences(
     names = names_of([first, second])
     with Resources() as resources:
         counties, masks = [found(name, False) for name in names], flags_for(no_sources, no_reserved)
-        comparison = found_between(counties, names, find_program(program), masks, resources).comparison
+        executable = find_program(program)
+        comparison = compared(open_sets(counties, names, executable, masks, resources), executable, resources)
     for thing in things(comparison):
         points = tuple((int(point[:10]), int(point[10:])) for point in thing.points)
         yield Difference(thing.what, thing.kind, thing.name, properties(thing, comparison.own), points)

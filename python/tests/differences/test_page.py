@@ -64,6 +64,19 @@ def test_whole_files(room: Path) -> None:
     assert [[*map(str, counts)] for counts in zip(*found["counts"].values())] == rows
 
 
+def test_only_the_page(room: Path) -> None:
+    """Without another option nothing is printed, and the page has no counts: it finds what differs itself."""
+    for second, status in ((SECOND, 1), (FIRST, 0)):
+        ended = diff("--force", "--page", "page.html", FIRST, second)
+        assert (ended.status, ended.out, ended.err) == (status, "", "")
+        assert sorted(carried(room / "page.html")) == ["counties", "fingerprints", "masks"]
+    ended = diff("--force", "--page", "page.html", "--geojson", "map.geojson", FIRST, SECOND)
+    assert (ended.status, ended.out) == (1, "")
+    assert "counts" in carried(room / "page.html") and (room / "map.geojson").exists()
+    counted = json.loads(diff("--force", "--page", "page.html", "--summary", "--json", FIRST, SECOND).out)
+    assert counted["verdict"] == "different"
+
+
 def test_nine_files_and_a_zip(room: Path) -> None:
     """The files are the user's own, each under its record type. One that is missing isn't there."""
     texts = nine(room / "in")
@@ -123,8 +136,10 @@ def test_which_page(room: Path, monkeypatch: pytest.MonkeyPatch) -> None:
 
 
 def test_carried(room: Path) -> None:
-    """A page that isn't whole, one without counties, and another file carry nothing."""
+    """A page that isn't whole, one without counties or counts, and another file carry nothing."""
     diff("--page", "page.html", FIRST, SECOND)
+    assert carried_by(room / "page.html") is None
+    diff("--force", "--summary", "--page", "page.html", FIRST, SECOND)
     page, found = room / "page.html", carried(room / "page.html")
     read = carried_by(page)
     assert read and (list(read.fingerprints), read.counts) == (found["fingerprints"], found["counts"])

@@ -13,7 +13,7 @@ from ..manifests import flags_of
 from ..program import find_program
 from ..progress import Console, print_bytes, print_lines
 from ..resources import STANDARD_OUTPUT, Kept, Resources, new_files
-from .differing import found_between
+from .differing import compared, open_sets
 from .geojson import features, head, write_geojson
 from .matching import Comparison
 from .page import find_page, write_page
@@ -63,8 +63,8 @@ def add_arguments(parser: argparse.ArgumentParser) -> None:
     add("--stem", action="store_true", help="use FIRST and SECOND as the beginnings of names, even if such files exist")
     add("--summary", action="store_true", help="print only how many of each kind differ")
     add("--json", action="store_true", help="print the differences as JSON, or with --summary how many there are")
-    about = "write tigercanon.html with both counties in it, to be opened in a browser; - is standard output, without the report"
-    add("--page", metavar="FILE", help=about)
+    about = "write tigercanon.html with both counties in it, to be opened in a browser, and no report without --summary or --json"
+    add("--page", metavar="FILE", help=f"{about}; - is standard output, without any report")
     add("--geojson", metavar="FILE", help="write the differences as GeoJSON, for any GIS; - is standard output, without the report")
     add("--all", action="store_true", help="with --geojson: also write what is the same in both maps")
 
@@ -90,29 +90,37 @@ def outputs_of(options: argparse.Namespace) -> list[str]:
 def reported_difference(options: argparse.Namespace, outputs: list[str], console: Console, resources: Resources) -> int:
     template = find_page() if options.page is not None else None
     program, kept = find_program(options.program), Kept()
-    with Steps(console) as steps:
+    with Steps(console) as steps, resources.part() as part:
         names = (options.first, options.second)
         counties = [found(name, options.stem) for name in names]
         read = [file.place for county in counties for file in county.places]
         inputs = resources.inputs([*read, program, *([str(template)] if template else [])])
         with new_files(outputs, inputs, resources, options.force) as files:
             page, geojson = (files.get(name, kept) if name else None for name in (options.page, options.geojson))
-            with_numbers = bool(geojson or options.json or not options.summary)
-            differing = found_between(counties, names, program, flags_of(options), resources, steps.at, with_numbers, bool(page))
-            for note in differing.notes:
+            both = open_sets(counties, names, program, flags_of(options), part, steps.at)
+            for note in both.notes:
                 console.report(note)
+            comparison = None
+            if geojson or has_report(options):
+                with_numbers = bool(geojson or options.json or not options.summary)
+                comparison = compared(both, program, part, steps.at, with_numbers)
             if page and template:
                 steps.at("writing the page")
-                write_page(page, template, options.page, differing.packed, differing.comparison, differing.sets)
-            if geojson:
+                write_page(page, template, options.page, both.packed, comparison, both.sets)
+            if geojson and comparison:
                 steps.at("writing GeoJSON")
-                write_geojson(geojson, differing.comparison, differing.sets, options.all)
+                write_geojson(geojson, comparison, both.sets, options.all)
     if kept in (page, geojson):
         print_bytes(b"".join(kept.pieces))
-    else:
-        sets, comparison = differing.sets, differing.comparison
-        print_lines([as_json(comparison, sets, options.summary)] if options.json else told(comparison, sets, options.summary))
-    return int(not differing.sets.are_one_map)
+    elif comparison and has_report(options):
+        is_summary, sets = options.summary, both.sets
+        print_lines([as_json(comparison, sets, is_summary)] if options.json else told(comparison, sets, is_summary))
+    return int(not both.sets.are_one_map)
+
+
+def has_report(options: argparse.Namespace) -> bool:
+    """Returns whether the differences are printed: a page shows them itself."""
+    return options.page is None or options.summary or options.json
 
 
 def as_json(comparison: Comparison, sets: Sets, is_summary: bool) -> str:

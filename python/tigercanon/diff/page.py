@@ -65,15 +65,14 @@ def packed(source: Source) -> dict[str, Any]:
 
 
 def write_page(
-    file: Writable, page: Path, name: str, counties: Sequence[dict[str, Any]], comparison: Comparison, sets: Sets
+    file: Writable, page: Path, name: str, counties: Sequence[dict[str, Any]], comparison: Comparison | None, sets: Sets
 ) -> None:
-    """Writes the page with these counties. Raises Failure if it would be too large."""
-    counts = {subject: part.counts for subject, part in zip(SUBJECTS, comparison.parts)}
-    fingerprints = [sets.first.fingerprint, sets.second.fingerprint]
+    """Writes the page with these counties, and with the counts if they were compared. Raises Failure if it would be too large."""
+    carried: dict[str, Any] = {"fingerprints": [sets.first.fingerprint, sets.second.fingerprint]}
+    if comparison:
+        carried["counts"] = {subject: part.counts for subject, part in zip(SUBJECTS, comparison.parts)}
     # JSON without a letter that begins a tag, whatever the input is.
-    text = json.dumps({"fingerprints": fingerprints, "counts": counts, "masks": sets.masks, "counties": counties}).replace(
-        "<", "\\u003c"
-    )
+    text = json.dumps({**carried, "masks": sets.masks, "counties": counties}).replace("<", "\\u003c")
     filled = page.read_text("utf-8").replace(EMPTY, EMPTY.replace("><", f">{text}<"), 1).encode()
     if len(filled) > LARGEST_PAGE:
         raise Failure(
