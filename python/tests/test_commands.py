@@ -44,6 +44,11 @@ def test_pages() -> None:
         assert (ROOT / place).read_text("utf-8") == text, f"{place}: run release/tool-pages"
 
 
+def test_text_of_a_man_page() -> None:
+    """Hyphens, backslashes and what would be a request at the beginning of a line are spelled as roff has them."""
+    assert PAGES.roff(".a-b\n'c\n\nd\\e") == "\\&.a\\-b\n\\&'c\n.PP\nd\\\\e"
+
+
 def test_pages_have_all_commands() -> None:
     """Each page has each command with its flags, and the man page its arguments."""
     for name, command in PAGES.commands().items():
