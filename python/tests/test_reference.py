@@ -12,7 +12,7 @@ from typing import Callable, Iterable
 
 import pytest
 from dev.maps import Chain, County, turned
-from dev.random_counties import Maker, lines_of
+from dev.random_counties import FAULTS, Maker, file_of, lines_of
 from dev.testing import LENGTHS, ROOT, Answer, await_that, run
 
 SEED = 3
@@ -148,3 +148,19 @@ def test_counties() -> None:
         lines = lines_of(county, chance)
         assert lines == lines_of(county, again)
         assert all(len(line) == LENGTHS[line[0]] for line in lines)
+
+
+def test_faults_and_files() -> None:
+    """Each fault changes the lines of some county, and files have CR LF after all of their lines, after some, or after none."""
+    changing, shares = set(), set()
+    for seed in range(40):
+        chance = random.Random(seed)
+        lines = lines_of(Maker(chance).county(), chance)
+        for fault in FAULTS:
+            spoilt = list(lines)
+            fault(spoilt, chance)
+            changing |= {fault} if spoilt != lines else set()
+        ends = Counter(line.endswith(b"\r\n") for line in file_of(lines, chance).splitlines(keepends=True)[:-1])
+        shares.add((ends[True] > 0, ends[False] > 0))
+    assert changing == {*FAULTS}
+    assert shares == {(True, False), (True, True), (False, True)}
