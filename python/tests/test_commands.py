@@ -145,7 +145,8 @@ class TestProgram:
 
 def test_installing(room: Path) -> None:
     """The package installs with Debian's hatchling, without a network. It has all of its files, the page on refusals, the page for
-    browsers, its command, and the program and the library of prebuilt/, which need nothing around them."""
+    browsers, its command, and the program and the library of prebuilt/, which need nothing around them. To install it takes seconds.
+    """
     pytest.importorskip("hatchling", reason="python3-hatchling isn't installed")
     shutil.copytree(PACKAGE, "python", ignore=shutil.ignore_patterns("tests", "__pycache__"))
     shutil.copytree(ROOT / "prebuilt", "prebuilt")

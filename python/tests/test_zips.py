@@ -128,21 +128,23 @@ def url(room: Path) -> Iterator[str]:
 
 @pytest.mark.cluster
 def test_a_server(url: str, room: Path, fake: Path) -> None:
-    """A transfer that breaks off once is made again; one that breaks off three times is reported."""
+    """A transfer that breaks off once is made again; one that breaks off three times is reported. Here without pauses between attempts."""
+    put("quick/sitecustomize.py", b"from tigercanon import storage\nstorage.PAUSES = (0.0, 0.0)\n")
+    quick = {"PYTHONPATH": "quick"}
     for module in ("aiohttp", "requests"):  # without them fsspec reads no http
         pytest.importorskip(module)
     attempts = {"TGR00001": 1, "failing": 3, "once": 2, "always": 3}
     for name in attempts:
         put(f"in/{name}.ZIP", packed(COUNTY))
     complete("in/TGR00005", TEXT)
-    ended = call("fingerprint", "-o", "m", f"{url}/in")
+    ended = call("fingerprint", "-o", "m", f"{url}/in", env=quick)
     assert (ended.status, sorted(ended.reports)) == (1, [f"{url}/in/always", f"{url}/in/failing"]), ended.err
     for name, why in (("failing", ".*500.*"), ("always", ".*")):
         assert re.fullmatch(rf"can't be read: {why} \(three attempts\)", ended.reports[f"{url}/in/{name}"])
     assert {name: Server.asked.count(f"/in/{name}.ZIP") for name in attempts} == attempts
     names = ("TGR00001", "TGR00005", "once")
     assert listed("m") == manifest({f"{url}/in/{name}": TEXT for name in names})
-    verdicts = call("verify", "m").out.replace(f"{url}/in/", "")
+    verdicts = call("verify", "m", env=quick).out.replace(f"{url}/in/", "")
     assert re.sub(r" \(.*\)", "", verdicts).splitlines() == [
         "TGR00001: OK",
         "TGR00005: OK",
