@@ -1,5 +1,6 @@
-"""Whole runs over 300 counties by the real program, here and by a Dask scheduler whose workers are killed. Their archive has counties in
-several spellings, and the refused examples among them, as zips and as single files."""
+"""Whole runs over 130 counties by the real program, here and by a Dask scheduler whose workers are killed. Their archive has counties in
+several spellings, and each refused example among them, as zips and as single files. A test on a cluster takes seconds: each process of
+Dask needs one to start."""
 
 import os
 import re
@@ -24,7 +25,8 @@ from tigercanon.counties import Finder
 from tigercanon.errors import Failure
 from tigercanon.judge import Order, endings
 
-COUNTIES = 300
+COUNTIES = 130
+CHANGED = 5  # zips to which each of five things happens
 
 FINGERPRINT = ("fingerprint", "-o", "m", "in")
 SCHEDULER = ("--scheduler", "dask/scheduler.json")
@@ -124,7 +126,7 @@ def test_on_this_machine(archive: Archive) -> None:
     assert len(verified) == refused and all(": REFUSED (refused " in line for line in verified)
 
 
-def change(archive: Archive, count: int) -> dict[str, list[str]]:
+def change(archive: Archive) -> dict[str, list[str]]:
     """Does to some zips what happens to files in a year: the names of counties by that."""
     zips = {
         line[66:]: path
@@ -133,7 +135,8 @@ def change(archive: Archive, count: int) -> dict[str, list[str]]:
         if path.exists()
     }
     ways = ("gone", "emptied", "cut", "moved", "unreadable")
-    chosen = {way: [*zips][place::7][:count] for place, way in enumerate(ways)}
+    chosen = {way: [*zips][place::7][:CHANGED] for place, way in enumerate(ways)}
+    assert {len(stems) for stems in chosen.values()} == {CHANGED}
     for way, stems in chosen.items():
         for path in (zips[stem] for stem in stems):
             text = path.read_bytes()
@@ -150,7 +153,7 @@ def change(archive: Archive, count: int) -> dict[str, list[str]]:
 def test_a_second_year(archive: Archive) -> None:
     """What has happened to zips is reported, the manifest follows the disk, and nothing is missing from the counts."""
     assert call(*FINGERPRINT).status == 1
-    chosen = change(archive, 8)
+    chosen = change(archive)
     ended = call(*FINGERPRINT, "--update")
     failed = {*chosen["emptied"], *chosen["cut"], *chosen["unreadable"]}
     moved = {stem: f"in/moved/{os.path.basename(stem)}" for stem in chosen["moved"]}
@@ -166,29 +169,36 @@ def test_a_second_year(archive: Archive) -> None:
             r"(\d+) ([a-z]+)", next(line for line in ended.lines if " gone; " in line and "failed" in line)
         )
     }
-    assert (numbers["counties"], numbers["gone"], numbers["new"], numbers["failed"]) == (COUNTIES - 8, 8, 8, 24)
+    assert (numbers["counties"], numbers["gone"], numbers["new"], numbers["failed"]) == (
+        COUNTIES - CHANGED,
+        CHANGED,
+        CHANGED,
+        3 * CHANGED,
+    )
     assert numbers["in"] + numbers["new"] + numbers["refused"] + numbers["failed"] <= COUNTIES
     verdicts = Counter(line.split(": ")[1].split(" ")[0] for line in call("verify", "m", "in").out.splitlines())
     refused = COUNTIES - len(archive.lines) + 1
-    assert verdicts == {"OK": len(archive.lines) - 1 - 32, "FAILED": 24, "MISSING": 8, "REFUSED": refused}
+    assert verdicts == {"OK": len(archive.lines) - 1 - 4 * CHANGED, "FAILED": 3 * CHANGED, "MISSING": CHANGED, "REFUSED": refused}
     pruned = call(*FINGERPRINT, "--update", "--prune")
     assert {line[66:] for line in listed("m").splitlines()[1:]} == {line[66:] for line in expected} - {*chosen["gone"]}
     assert {f"{stem}: gone, and taken out" for stem in chosen["gone"]} <= {*pruned.lines}
 
 
 class Engine:
-    """A Dask scheduler and workers on 127.0.0.1, each a process as a cluster starts it. The workers don't have the package."""
+    """A Dask scheduler and workers on 127.0.0.1, each a process as a cluster starts it. The workers don't have the package. Those with a
+    nanny, a process of its own, are started again when they end."""
 
-    def __init__(self, room: Path, workers: int = 3) -> None:
+    def __init__(self, room: Path, workers: int = 2, has_nannies: bool = False) -> None:
         self.room = room / "dask"
         self.room.mkdir()
-        self.file = self.room / "scheduler.json"
+        self.file, self.has_nannies = self.room / "scheduler.json", has_nannies
         self.scheduler = self.begin("scheduler", "--port 0 --dashboard-address 127.0.0.1:0")
         assert await_that(self.file.exists), "the scheduler doesn't start"
         self.workers = [self.begin_worker() for _ in range(workers)]
 
     def begin_worker(self) -> Process:
-        return self.begin("worker", "--nthreads 1 --memory-limit 2GB --no-dashboard --local-directory .")
+        more = "" if self.has_nannies else " --no-nanny"
+        return self.begin("worker", f"--nthreads 1 --memory-limit 2GB --no-dashboard --local-directory .{more}")
 
     def begin(self, kind: str, more: str) -> Process:
         words = f"-m distributed.cli.dask_{kind} --scheduler-file scheduler.json --host 127.0.0.1 {more}".split()
@@ -217,14 +227,22 @@ class TestDask:
         engine.close()
 
     @pytest.fixture
-    def run(self, archive: Archive, slow: None, engine: Engine) -> Process:
+    def nannies(self, room: Path) -> Iterator[Engine]:
+        engine = Engine(room, 3, has_nannies=True)
+        yield engine
+        engine.close()
+
+    def begun(self) -> Process:
         """Starts a run, and returns it when it has done twenty counties."""
         run = begin(*BY_DASK)
         assert await_that(lambda: count_of_lines("m") > 20)
         return run
 
     def test_by_a_scheduler(self, archive: Archive, engine: Engine) -> None:
-        """The package isn't installed on the workers: what they do comes with the work."""
+        """The package isn't installed on the workers: what they do comes with the work, but not the program."""
+        ended = call(*BY_DASK, "--program", "/no/program")
+        why = "a worker has no program: there is no /no/program, and no tigercanon on its PATH"
+        assert (ended.status, ended.lines[-1]) == (2, f"the scheduler at dask/scheduler.json: {why}")
         for sources in (["in/TGR000*", "in/more"], ["in"]):
             ended = call("fingerprint", *SCHEDULER, "-o", "m", *sources)
             assert ended.status == 1, ended.err
@@ -233,9 +251,9 @@ class TestDask:
         assert (checked.status, checked.out.count(": OK\n")) == (1, len(archive.lines) - 1)
         assert checked.out.count("\n") == COUNTIES
 
-    def test_workers_are_killed(self, archive: Archive, slow: None, engine: Engine, run: Process) -> None:
+    def test_workers_are_killed(self, archive: Archive, slow: None, nannies: Engine) -> None:
         """Two of three workers: nothing is missing, and no county is blamed."""
-        victims = engine.worker_processes()
+        run, victims = self.begun(), nannies.worker_processes()
         assert len(victims) == 3
         for victim in victims[:2]:
             os.kill(victim, signal.SIGKILL)
@@ -243,7 +261,7 @@ class TestDask:
         assert (ended.status, plain(ended.reports)) == (1, archive.reports)
         assert_all_done(archive, killed=2)
 
-    def test_a_county_that_ends_its_worker(self, archive: Archive, slow: None, engine: Engine) -> None:
+    def test_a_county_that_ends_its_worker(self, archive: Archive, slow: None, nannies: Engine) -> None:
         """It is reported; counties that only shared a worker with it aren't."""
         put("in/TGR90001.RT1", b"kill\r\n")
         ended = call(*BY_DASK)
@@ -251,8 +269,9 @@ class TestDask:
         assert (ended.status, plain(ended.reports)) == (1, wanted)
         assert_all_done(archive, killed=8)
 
-    def test_the_scheduler_is_killed(self, archive: Archive, slow: None, engine: Engine, run: Process) -> None:
+    def test_the_scheduler_is_killed(self, archive: Archive, slow: None, engine: Engine) -> None:
         """The command reports how many counties are left, and the same command does the rest."""
+        run = self.begun()
         os.killpg(engine.scheduler.pid, signal.SIGKILL)
         ended = end(run)
         assert ended.status == 1, ended.err
@@ -263,17 +282,13 @@ class TestDask:
         assert call(*FINGERPRINT).status == 1
         assert_all_done(archive)
 
-    def test_a_signal(self, archive: Archive, run: Process) -> None:
+    def test_a_signal(self, archive: Archive, slow: None, engine: Engine) -> None:
+        run = self.begun()
         run.send_signal(signal.SIGTERM)
         assert run.wait(2) == -signal.SIGTERM
         assert re.fullmatch(rf"stopped by TERM: \d+ of {COUNTIES} counties done", end(run).lines[-1])
         assert call(*BY_DASK).status == 1
         assert_all_done(archive)
-
-    def test_workers_without_the_program(self, archive: Archive, engine: Engine) -> None:
-        ended = call(*BY_DASK, "--program", "/no/program")
-        why = "a worker has no program: there is no /no/program, and no tigercanon on its PATH"
-        assert (ended.status, ended.lines[-1]) == (2, f"the scheduler at dask/scheduler.json: {why}")
 
     @pytest.mark.parametrize("address", ["tcp://127.0.0.1:9", "nowhere.json"])
     def test_without_a_scheduler(self, room: Path, address: str, monkeypatch: pytest.MonkeyPatch) -> None:
