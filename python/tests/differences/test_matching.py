@@ -137,7 +137,7 @@ def test_places_of_a_landmark() -> None:
         "Park": '{"type":"MultiPoint","coordinates":[[-85.999999,32.000000],[-86.000000,32.000000]]}',
         "Inn": '{"type":"Point","coordinates":[-86.000000,32.000000]}',
     }
-    about = {"what": "landmark", "kind": "only in the second", "title": "Inn", "differs": None}
+    about: dict[str, object] = {"what": "landmark", "kind": "only in the second", "title": "Inn", "differs": None}
     fields = {"second_LANAME": "Inn", "second_LALONG": -86.0, "second_LALAT": 32.0}
     assert [found for _, found in features(compared(county, other)) if found["title"] == "Inn"] == [{**about, **fields}]
 
