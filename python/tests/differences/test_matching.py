@@ -91,6 +91,11 @@ def two_sided(*chains: Chain) -> County:
         ("chain", lambda chain: setattr(chain, "start", None), [("start node", "yes", "no")]),
         ("chain", lambda chain: setattr(chain, "end", None), [("end node", "yes", "no")]),
         ("chain", lambda chain: setattr(chain, "left", None), [("left polygon", f"at {WEST}", "(none)")]),
+        (
+            "chain",
+            lambda chain: vars(chain).update(left=None, outside=("06003", "06005")),
+            [("CENIDL", "06001", "06003"), ("left polygon", f"at {WEST}", "(none)")],
+        ),
         ("chain", lambda chain: setattr(chain, "right", 0), [("right polygon", f"at {EAST}", f"at {WEST}")]),
         ("polygon", lambda polygon: polygon.fields.update(WATER="9"), [("WATER", "(blank)", "9")]),
         ("polygon", lambda polygon: setattr(polygon, "point", (1, 2)), [("POLYLONG, POLYLAT", WEST, NEAR_ZERO)]),
