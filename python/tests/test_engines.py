@@ -92,7 +92,8 @@ def test_limits(four: Four, run: Any, where: str) -> None:
 
 
 def test_faults(four: Four, run: Any, monkeypatch: pytest.MonkeyPatch) -> None:
-    """What check shows of a refused county comes from a worker as from this machine, and so do notes, failures and time limits."""
+    """What check shows of a refused county comes from a worker as from this machine, and so do notes, failures and time limits, of which
+    the least is a second."""
     monkeypatch.setenv("REFUSAL", "refused 4 BadNumber 1 1 6")
     put("in/b.RT1", b"1         x\n")
     put("in/c.RT7").unlink()

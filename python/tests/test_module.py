@@ -116,7 +116,8 @@ def test_many_parts() -> None:
 
 
 def test_large_parts(tmp_path: Path) -> None:
-    """Each byte of a file counts, and lengths have 64 bits. Parts of a file that aren't written take no space."""
+    """Each byte of a file counts, and lengths have 64 bits. Parts of a file that aren't written take no space, but it takes seconds to read
+    and to pack them."""
     for size in (70 << 20, (4 << 30) + 5):
         path = tmp_path / f"{size}"
         with path.open("wb") as made:

@@ -1,4 +1,5 @@
-"""tools/compare-with-reference finds nothing wrong with the program, and finds the faults of others. Its counties have the cases to be tried."""
+"""tools/compare-with-reference finds nothing wrong with the program, and finds the faults of others. Its counties have the cases to be tried.
+A comparison takes seconds, since it calls the program hundreds of times."""
 
 from __future__ import annotations
 
