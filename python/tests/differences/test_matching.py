@@ -93,7 +93,7 @@ def two_sided(*chains: Chain) -> County:
         ("chain", lambda chain: setattr(chain, "left", None), [("left polygon", f"at {WEST}", "(none)")]),
         (
             "chain",
-            lambda chain: vars(chain).update(left=None, outside=("06003", "06005")),
+            lambda chain: chain.__dict__.update(left=None, outside=("06003", "06005")),
             [("CENIDL", "06001", "06003"), ("left polygon", f"at {WEST}", "(none)")],
         ),
         ("chain", lambda chain: setattr(chain, "right", 0), [("right polygon", f"at {EAST}", f"at {WEST}")]),
