@@ -28,7 +28,7 @@ export class MapView {
     Object.assign(this, { points, look, onpick, titleOf, onclose, hidden: new Set(), chosen: null, round: 0, specks: [] });
     this.groups = byStyle(chains.classes, look.order);
     this.shown = points;
-    this.view = new View(chains.starts.length > 1 ? all : withPoints(all, points));
+    this.view = new View(chains.starts.length > 1 || !points.length ? all : boundsOfPoints(points));
     this.build(label);
     this.observer = new ResizeObserver(() => this.resize());
     this.observer.observe(this.frame);
@@ -297,8 +297,8 @@ export class MapView {
   }
 }
 
-function withPoints(bounds, points) {
-  const all = [...bounds];
+function boundsOfPoints(points) {
+  const all = [Infinity, Infinity, -Infinity, -Infinity];
   for (const { place } of points) {
     all[0] = Math.min(all[0], place[0]);
     all[1] = Math.min(all[1], place[1]);

@@ -266,6 +266,22 @@ def try_rulers(page: Page) -> None:
     page.holds("the town's height", 2.5 < metres < 4.5, metres)
 
 
+def try_points(page: Page) -> None:
+    """One county without chains has no map, and two have one that shows all their landmarks."""
+    files = [page.room / "points.txt", page.room / "others.txt"]
+    places = (("-086010000", "+32400000"), ("-086000000", "+32420000"))
+    for file, cfcc in zip(files, ("D43", "D85")):
+        file.write_text("".join(f"7200601001{number:10} {cfcc}{'':30}{x}{y}\n" for number, (x, y) in enumerate(places, 1)))
+    resize(page, LAPTOP)
+    page.show(files[:1])
+    page.equal("a county without chains", "This set has no chains, so there is nothing to draw.", page.browser.text(".chart"))
+    page.show(files, LISTED)
+    page.browser.wait_for(DRAWN)
+    # 0.02 degrees of latitude are 2,226 m, and the map has a margin of 24 pixels.
+    wanted, found = 2226.4 / (page.browser.evaluate("document.querySelector('.map').clientHeight") - 48), rulers(page)[0][1]
+    page.holds("metres to a pixel between two landmarks", abs(found / wanted - 1) < 0.01, [wanted, found])
+
+
 PLACE = "(({ e, f }) => [e, f])(new DOMMatrix(getComputedStyle(document.querySelector('.place-card')).transform))"
 # Presses a key on the map, and returns whether the map takes it.
 KEY = "!document.querySelector('.map').dispatchEvent(new KeyboardEvent('keydown', { key: arguments[0], [arguments[1]]: true, cancelable: true }))"
@@ -458,6 +474,7 @@ CASES = (
     try_card,
     try_click,
     try_rulers,
+    try_points,
     try_moving,
     try_keyboard,
     try_exchange,
