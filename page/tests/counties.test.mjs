@@ -6,6 +6,7 @@ import { gzipSync } from "node:zlib";
 import { example, take } from "./scripts.mjs";
 
 const { countyIn, doublesAmong, endingsOf, packedSize, sortedOut } = await take("counties");
+const { sizeText } = await take("dom");
 const { chosenFiles, droppedFiles, TooManyFiles } = await take("dropping");
 const { beginningOf, beginsWithRecord, firstLine, isRecord } = await take("first_line");
 const { partsOf } = await take("sets");
@@ -145,6 +146,11 @@ test("names for files to save, keys and endings", () => {
   assert.deepEqual(["x/tgr01001", "TGR01001.txt", "tgr01001.txt.gz", ".b", "a.b.c"].map(keyOf), ["TGR01001", "TGR01001", "TGR01001", ".B", "A.B"]);
   assert.deepEqual(["a.TAR.GZ", "a.b.c", ".b", "in.x/b", "b."].map(endingOf), [".tar.gz", ".c", "without an ending", "without an ending", "."]);
   assert.deepEqual(["b", "a\u{10000}", "a\uffff", "a", "B"].sort(byBytes), ["B", "a", "a\uffff", "a\u{10000}", "b"]);
+});
+
+test("sizes in words", () => {
+  const texts = ["999 bytes", "1.0 KB", "9.9 KB", "10 KB", "1000 KB", "1.0 MB", "12 MB", "1.0 GB"];
+  assert.deepEqual([999, 1000, 9900, 10_000, 999_999, 1_000_000, 12_000_000, 1_000_000_000].map(sizeText), texts);
 });
 
 test("the nine parts in their order, with their names and what is missing", async () => {

@@ -246,6 +246,10 @@ def try_many(page: Page) -> None:
     changed.write_text("".join(lines[:-1]) + f"{comments}{'1' * 64}  tiger/TGR01009\n{'1' * 64}  tiger/words.txt\n")
     page.browser.give([changed])
     compared(page, changed, folder, "a manifest after the counties")
+    page.equal(
+        "a listed file isn't skipped", "Other files were skipped: 1 .pdf.", page.browser.text(".summary").partition("failed. ")[2]
+    )
+    page.equal("its flags", "It was made with no flags.", page.browser.text(".verified")[-26:])
     page.browser.click("tbody tr button")
     page.holds("a county of the table", page.browser.wait_for(RESULT), page.browser.text("main"))
     page.browser.driver.back()
@@ -257,6 +261,7 @@ def try_many(page: Page) -> None:
     run([TOOLS, "fingerprint", "--program", page.program, "--no-sources", "-o", masked, "tiger"], cwd=page.room)
     page.browser.give([masked])
     compared(page, masked, folder, "a manifest with a flag")
+    page.equal("the flag of a manifest", "It was made with --no-sources.", page.browser.text(".verified")[-30:])
     is_fixed = [True, True]
     page.equal(
         "the box of its flag",

@@ -181,6 +181,19 @@ test("a zip that is cut off, one that isn't a zip, and files that can't be unpac
   for (const [zip, sentence] of sentences) assert.equal((await outcome(zip)).sentence, sentence);
 });
 
+test("bytes that can't be had don't make a zip broken", async () => {
+  const whole = zipOf([[name, "123", { stored: true }]]);
+  const failing = (error) => ({
+    size: whole.size,
+    slice: (from, to) => (to - from === 3 ? { size: 3, stream: () => new ReadableStream({ pull: (controller) => controller.error(error) }) } : whole.slice(from, to)),
+  });
+  for (const [error, sentence] of [
+    [new RangeError("full"), "RangeError: full"],
+    [new DOMException("gone", "NotReadableError"), "NotReadableError: gone"],
+    [new TypeError("wrong"), broken],
+  ]) assert.equal((await outcome(failing(error))).sentence, sentence);
+});
+
 test("what stands before a zip, and a comment behind it, don't matter", async () => {
   const whole = Buffer.from(await zipOf([[name, "123"]]).arrayBuffer());
   const comment = Buffer.from("PK, a comment");
