@@ -66,6 +66,11 @@ def try_masks(page: Page) -> None:
             f"the fingerprint with {flags}", wanted, page.browser.evaluate("document.getElementById('fingerprint')?.textContent")
         )
         page.holds(f"the page names {flags}", all(f"--{flag}" in page.browser.text(".fingerprint") for flag in flags))
+    for flags in (["--no-sources"], []):
+        page.browser.click("#no-sources")
+        wanted = page.printed("fingerprint", *flags, file)
+        shown = f"document.getElementById('fingerprint')?.textContent === '{wanted}'"
+        page.holds(f"the county is judged again with {flags}", page.browser.wait_for(shown), page.browser.text(".fingerprint"))
 
 
 def try_refusals(page: Page) -> None:
