@@ -422,8 +422,13 @@ def try_table(page: Page) -> None:
     )
     page.equal("a filter of two words", ["first.txt", "second.txt"], sorted(page.browser.texts(names)))
     page.equal("how many there are", "2 of 4", page.browser.text(".county-table .listed"))
+    for flags in (["--no-sources"], []):
+        page.browser.click("#no-sources")
+        fingerprint = page.printed("fingerprint", *flags, TOWN[0])
+        shown = f"document.querySelector('.counties code[title=\"{fingerprint}\"]')"
+        page.holds(f"the table is judged again with {flags}", page.browser.wait_for(shown), page.browser.text(".many"))
+    page.browser.wait_for("document.querySelector('.many .actions button')")
     manifest = page.room / "wanted.manifest"
-    fingerprint = page.printed("fingerprint", TOWN[0])
     manifest.write_text(f"# tigercanon form 1\n{fingerprint}  first.txt\n{'a' * 64}  second.txt\n{'b' * 64}  broken.txt\n")
     page.browser.give([manifest])
     page.holds("compared", page.browser.wait_for("document.querySelector('.verified')"), page.browser.text("main"))
