@@ -10,6 +10,7 @@ import threading
 import time
 from contextlib import suppress
 from pathlib import Path
+from typing import Mapping
 
 import pytest
 from dev.testing import ROOT, await_that
@@ -44,10 +45,10 @@ def assert_the_rest_is_done() -> None:
     assert listed("m") == WANTED
 
 
-def waiting(*words: str) -> Process:
+def waiting(*words: str, env: Mapping[str, str] = {}) -> Process:
     """Returns a run that waits for the zip, when all others are done."""
     put("waits")
-    run = begin("fingerprint", *words, "-o", "m", "in")
+    run = begin("fingerprint", *words, "-o", "m", "in", env=env)
     assert await_that(lambda: listed("m").count("\n") == 10)
     return run
 
@@ -84,6 +85,18 @@ def test_at_any_moment(archive: Path) -> None:
         assert text.startswith(HEAD) and set(text.splitlines()) <= set(WANTED.splitlines()) and text.endswith("\n")
     assert_the_rest_is_done()
     assert count_of_lines("calls") <= len(COUNTIES) + 2 * 12
+
+
+def test_a_signal_that_does_not_wake_the_main_thread(archive: Path) -> None:
+    """Another thread gets it here, as if it came in the moment before the main thread begins to wait. It isn't lost."""
+    kills = "while not os.path.exists('go'): time.sleep(0.05)\n    signal.pthread_kill(threading.get_ident(), signal.SIGTERM)"
+    starts = "threading.Thread(target=kill, daemon=True).start()"
+    put("early/sitecustomize.py", f"import os, signal, threading, time\ndef kill():\n    {kills}\n{starts}\n".encode())
+    run = waiting(env={"PYTHONPATH": "early"})
+    put("go")
+    assert run.wait(5) == -signal.SIGTERM
+    assert end(run).lines == ["stopped by TERM: 9 of 10 counties done"]
+    assert_nothing_is_left(archive)
 
 
 @pytest.mark.parametrize("number", SIGNALS[:3])

@@ -7,7 +7,7 @@ import signal
 import sys
 import threading
 import traceback
-from concurrent.futures import ThreadPoolExecutor
+from concurrent.futures import ThreadPoolExecutor, wait
 from typing import Any, Callable, Sequence
 
 from . import explanations, listing, runs, tables
@@ -269,7 +269,10 @@ def run(arguments: Sequence[str]) -> int:
             signal.signal(number, Stop(console, resources))
     try:
         options = parser().parse_args(list(arguments))
-        return ThreadPoolExecutor(1).submit(perform, options, console, resources).result()
+        future = ThreadPoolExecutor(1).submit(perform, options, console, resources)
+        while wait([future], PATIENCE).not_done:  # a signal in the moment before a wait is handled after it
+            pass
+        return future.result()
     except Failure as failure:
         console.report(str(failure))
     except BrokenPipeError:
