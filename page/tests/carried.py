@@ -46,7 +46,7 @@ def item_of_tie(tie: Tie) -> list[Any]:
 
 
 def open_page(page: Page, path: Path) -> bool:
-    page.browser.driver.get(path.as_uri())
+    page.browser.go(path.as_uri())
     return page.browser.wait_for(COMPARED)
 
 
@@ -82,7 +82,7 @@ def try_saved_comparison(page: Page) -> None:
         page.browser.evaluate("Array.from(document.querySelectorAll('.sets .name bdi'), ({ title }) => title)"),
     )
     wanted, shown = items(page), page.browser.text(".verdict")
-    page.browser.driver.execute_script("Array.from(document.querySelectorAll('.sets button')).at(-1).click()")
+    page.browser.execute("Array.from(document.querySelectorAll('.sets button')).at(-1).click()")
     saved = page.room / "saved.html"
     saved.write_bytes(page.browser.downloaded("first-second.html"))
     page.holds("the saved page compares them", open_page(page, saved), page.browser.text("main"))

@@ -59,7 +59,7 @@ def try_masks(page: Page) -> None:
     file = EXAMPLES / "two-maps/first.txt"
     for flags in (["no-sources"], ["no-sources", "no-reserved"], ["no-reserved"], []):
         for box in ("no-sources", "no-reserved"):
-            page.browser.driver.execute_script("document.getElementById(arguments[0]).checked = arguments[1]", box, box in flags)
+            page.browser.execute("document.getElementById(arguments[0]).checked = arguments[1]", box, box in flags)
         page.show([file])
         wanted = page.printed("fingerprint", *(f"--{flag}" for flag in flags), file)
         page.equal(
@@ -195,11 +195,16 @@ def try_network(page: Page) -> None:
     page.equal("requests", [], page.browser.requests)
     page.equal("the browser's log", [], page.browser.log)
     page.equal("what is kept", [0, 0, ""], page.browser.evaluate("[localStorage.length, sessionStorage.length, document.cookie]"))
+    Counting.calls = 0
     server = http.server.HTTPServer(("127.0.0.1", 0), Counting)
     threading.Thread(target=server.serve_forever, daemon=True).start()
     address = f"http://127.0.0.1:{server.server_port}/"
-    page.equal("asking the network", ["refused", "refused"], page.browser.driver.execute_async_script(REACH_OUT, address))
+    page.equal("asking the network", ["refused", "refused"], page.browser.execute_async(REACH_OUT, address))
     page.equal("calls of a server", 0, Counting.calls)
+    page.browser.go(address)
+    page.browser.collect()
+    page.holds("what is refused is in the log", page.browser.log)
+    page.holds("another page's request is seen", address in page.browser.requests, page.browser.requests)
     server.shutdown()
 
 
@@ -222,4 +227,5 @@ def try_names(page: Page) -> None:
         page.holds("an announcement", page.browser.wait_for("document.getElementById('announced').textContent"))
 
 
-CASES = (try_one, try_masks, try_refusals, try_same, try_different, try_names, try_large, try_network)
+IN_FIREFOX = (try_one, try_masks, try_refusals, try_same, try_different, try_names, try_network)
+CASES = (try_large, *IN_FIREFOX)

@@ -9,7 +9,7 @@ import sys
 import tempfile
 from pathlib import Path
 
-from browser import Browser
+from browser import Chromium
 from dev.testing import ROOT
 from PIL import Image
 
@@ -20,11 +20,11 @@ WIDTH, HEIGHT, COLOURS = 1280, 800, 96
 
 def main(page: Path) -> None:
     with tempfile.TemporaryDirectory() as room:
-        browser = Browser(Path(room), WIDTH, HEIGHT)
+        browser = Chromium(Path(room), WIDTH, HEIGHT)
         try:
             browser.open(page)
             # Whether the engine is proved isn't what the picture shows.
-            browser.driver.execute_script("document.getElementById('unproved').hidden = true")
+            browser.execute("document.getElementById('unproved').hidden = true")
             browser.give([TOWN / "first.txt", TOWN / "second.txt"])
             browser.wait_for("document.querySelector('.differences li')")
             browser.wait_for("document.querySelector('.compared').dataset.numbered")

@@ -39,7 +39,7 @@ def media(page: Page, medium: str = "", scheme: str = "light") -> None:
 
 def on_paper(page: Page, name: str) -> None:
     """The page as it is printed from a dark screen: no buttons, and dark ink on white paper."""
-    page.browser.driver.execute_script(PRINTED)
+    page.browser.execute(PRINTED)
     media(page, "print", "dark")
     resize(page, (718, 1000))
     page.equal(f"buttons of {name} on paper", [], page.browser.evaluate(VISIBLE_BUTTONS))
@@ -55,7 +55,7 @@ def on_paper(page: Page, name: str) -> None:
 
 def off_paper(page: Page) -> None:
     media(page)
-    page.browser.driver.execute_script("dispatchEvent(new Event('afterprint'))")
+    page.browser.execute("dispatchEvent(new Event('afterprint'))")
     page.equal("back on the screen", False, page.browser.evaluate("document.documentElement.classList.contains('printing')"))
 
 
@@ -124,7 +124,7 @@ def try_phone(page: Page) -> None:
             page.browser.evaluate("Math.max(document.documentElement.scrollWidth, innerWidth)"),
         )
     page.browser.command("Emulation.setTouchEmulationEnabled", enabled=True)
-    page.browser.driver.execute_script("document.querySelector('.map').scrollIntoView({ block: 'center' })")
+    page.browser.execute("document.querySelector('.map').scrollIntoView({ block: 'center' })")
     before = page.browser.evaluate("scrollY")
     drag(page, [(190, 480)], lambda step: [(190, 480 - 12 * step)])
     page.holds(
@@ -133,7 +133,7 @@ def try_phone(page: Page) -> None:
         [before, page.browser.evaluate("scrollY")],
     )
     page.equal("a hint", "Two fingers move the map", page.browser.text(".tip"))
-    page.browser.driver.execute_script("document.querySelector('.map').scrollIntoView({ block: 'center' })")
+    page.browser.execute("document.querySelector('.map').scrollIntoView({ block: 'center' })")
     rulers = page.browser.texts(".rulers div")
     drag(page, [(150, 420), (230, 420)], lambda step: [(150 - 8 * step, 420), (230 + 8 * step, 420)])
     page.holds("two fingers zoom it", page.browser.texts(".rulers div") != rulers, rulers)
@@ -221,7 +221,7 @@ def try_readers(page: Page) -> None:
     other.write_bytes((EXAMPLES / "autauga-renumbered/all.txt").read_bytes())
     for files, verdict in ((TOWN, "Different maps"), ([EXAMPLES / "autauga/all.txt", other], "Same map")):
         page.browser.start_again()
-        page.browser.driver.execute_script(LIVE)
+        page.browser.execute(LIVE)
         page.browser.give(files)
         page.browser.wait_for(VERDICT)
         page.browser.wait_for(f"window.said.some((text) => text.includes('{verdict}'))")

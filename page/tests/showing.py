@@ -107,7 +107,7 @@ def try_values(page: Page) -> None:
 
 def search(page: Page, text: str) -> list[str]:
     """The names in the list with these words."""
-    page.browser.driver.execute_script(
+    page.browser.execute(
         "const [text] = arguments, box = document.getElementById('filter'); document.querySelector('.listed').textContent = ''; box.value = text; box.dispatchEvent(new Event('input'))",
         text,
     )
@@ -146,11 +146,11 @@ return count;
 def coloured(page: Page, name: str) -> int:
     """How many pixels of the map have a colour of the page's style."""
     page.browser.wait_for(DRAWN)
-    return int(page.browser.driver.execute_script(COLOURED, name))
+    return int(page.browser.execute(COLOURED, name))
 
 
 def switch(page: Page, label: str) -> None:
-    page.browser.driver.execute_script("document.querySelector(`.kinds input[aria-label^='${arguments[0]}']`).click()", label)
+    page.browser.execute("document.querySelector(`.kinds input[aria-label^='${arguments[0]}']`).click()", label)
     page.browser.wait_for(DRAWN)
 
 
@@ -243,7 +243,7 @@ def try_click(page: Page) -> None:
     resize(page, LAPTOP)
     page.show(TOWN[:1])
     page.browser.wait_for(DRAWN)
-    page.browser.driver.execute_script("document.querySelector('.map').focus()")
+    page.browser.execute("document.querySelector('.map').focus()")
     press(page, "Enter")
     page.holds("a card of one county", page.browser.wait_for(CARD), page.browser.text("main"))
     page.holds("its fields", "CFCC" in page.browser.text(".place-card"), page.browser.text(".place-card"))
@@ -347,7 +347,7 @@ def try_keyboard(page: Page) -> None:
         ),
     )
     focused = "[...document.querySelectorAll('.differences li')].indexOf(document.activeElement.parentElement)"
-    page.browser.driver.execute_script("document.querySelector('.differences button[tabindex=\"0\"]').focus()")
+    page.browser.execute("document.querySelector('.differences button[tabindex=\"0\"]').focus()")
     found = []
     for key in ("ArrowDown", "ArrowDown", "ArrowUp", "End", "ArrowDown", "Home", "ArrowUp"):
         press(page, key)
@@ -361,7 +361,7 @@ def try_keyboard(page: Page) -> None:
     )
     press(page, "Escape")
     page.equal("back in the list", [0, True], page.browser.evaluate(f"[{focused}, {CLOSED}]"))
-    page.browser.driver.execute_script("document.querySelector('.map').focus()")
+    page.browser.execute("document.querySelector('.map').focus()")
     press(page, "Enter")
     page.holds(
         "a chain of the map", page.browser.wait_for("document.activeElement.closest('.place-card')"), page.browser.text(".chart")
@@ -374,7 +374,7 @@ def try_exchange(page: Page) -> None:
     """First and second can be exchanged."""
     show_town(page)
     counts = page.browser.texts(".kinds td:not(:first-child)")
-    page.browser.driver.execute_script(
+    page.browser.execute(
         "[...document.querySelectorAll('.sets button')].find((each) => each.innerText.includes('Exchange')).click()"
     )
     page.browser.wait_for("document.querySelector('.sets .name')?.innerText === 'second.txt'")
@@ -411,13 +411,13 @@ def try_table(page: Page) -> None:
     heads = ".counties thead button"
     found = []
     for column in (0, 0, 1):
-        page.browser.driver.execute_script("document.querySelectorAll(arguments[0])[arguments[1]].click()", heads, column)
+        page.browser.execute("document.querySelectorAll(arguments[0])[arguments[1]].click()", heads, column)
         found.append(page.browser.texts(names))
     page.equal("by name", ["all.txt", "broken.txt", "first.txt", "second.txt"], found[0])
     page.equal("by name, the other way round", ["second.txt", "first.txt", "broken.txt", "all.txt"], found[1])
     page.equal("by result", "broken.txt", found[2][-1])
     page.equal("the sorted column", ["Result"], page.browser.texts(".counties [aria-sort='ascending']"))
-    page.browser.driver.execute_script(
+    page.browser.execute(
         "const box = document.getElementById('county-filter'); box.value = 'accepted s'; box.dispatchEvent(new Event('input'))"
     )
     page.equal("a filter of two words", ["first.txt", "second.txt"], sorted(page.browser.texts(names)))
