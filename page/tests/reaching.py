@@ -9,10 +9,11 @@ from typing import Callable
 from in_browser import EXAMPLES, RESULT, VERDICT, Page
 from showing import DRAWN, LAPTOP, LISTED, PHONE, TOWN, coloured, resize, search, show_town
 
-LEAST_CONTRAST = 3.0
+LEAST_CONTRAST, LEAST_OF_TEXT = 3.0, 4.5
 
 
 PRINTED = "dispatchEvent(new Event('beforeprint'))"
+BROKEN_NAMES = "[...document.querySelectorAll('.counties tbody th button')].filter((each) => each.offsetHeight > 30).map((each) => each.innerText)"
 VISIBLE_BUTTONS = "[...document.querySelectorAll('button')].filter((each) => each.offsetParent && !each.closest('.differences, .counties')).map((each) => each.innerText)"
 
 
@@ -83,6 +84,8 @@ def try_printing(page: Page) -> None:
     on_paper(page, "one county")
     bottom = page.browser.evaluate("document.querySelector('.chart').getBoundingClientRect().bottom + scrollY")
     page.holds("one county and its map on one sheet", bottom < 950, bottom)
+    edges = page.browser.evaluate("['.map', '.key'].map((each) => document.querySelector(each).getBoundingClientRect())")
+    page.holds("the key is below the map", edges[0]["bottom"] <= edges[1]["top"], edges)
     off_paper(page)
     media(page)
 
@@ -123,6 +126,7 @@ def try_phone(page: Page) -> None:
             390,
             page.browser.evaluate("Math.max(document.documentElement.scrollWidth, innerWidth)"),
         )
+        page.equal("broken names", [], page.browser.evaluate(BROKEN_NAMES))
     page.browser.command("Emulation.setTouchEmulationEnabled", enabled=True)
     page.browser.execute("document.querySelector('.map').scrollIntoView({ block: 'center' })")
     before = page.browser.evaluate("scrollY")
@@ -183,6 +187,7 @@ def try_contrast(page: Page) -> None:
         "map-other",
         "map-landmark",
     ]
+    show_town(page)
     for scheme in ("light", "dark"):
         media(page, "", scheme)
         styles = page.browser.evaluate(
@@ -193,8 +198,9 @@ def try_contrast(page: Page) -> None:
         for name, colour in zip(names, styles):
             least = min(contrast(colour, each) for each in (behind if name == "edge" else behind[:1]))
             page.holds(f"the contrast of {name}, {scheme}", least >= LEAST_CONTRAST, f"{least:.2f}")
+        hint = page.browser.evaluate("getComputedStyle(document.querySelector('.filter input'), '::placeholder').color")
+        page.holds(f"the contrast of the filter's hint, {scheme}", contrast(hint, behind[0]) >= LEAST_OF_TEXT, [hint, behind[0]])
     media(page)
-    show_town(page)
     edge = page.browser.evaluate(
         "['.filter input', '.side .actions button:not(.main)', '.chart', '.differences'].map((each) => getComputedStyle(document.querySelector(each)).borderTopColor)"
     )
