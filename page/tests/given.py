@@ -204,7 +204,7 @@ def try_gone(page: Page) -> None:
         (3, ".counties .link", ""),
     ):
         page.browser.start_again()
-        page.browser.driver.execute_script(STOPPED_AT, shown)
+        page.browser.execute(STOPPED_AT, shown)
         page.browser.give(files[:count])
         page.browser.wait_for("document.body.dataset.stopped")
         page.equal(f"what goes on of {count}", "0 workers", page.browser.evaluate("document.body.dataset.stopped"))
@@ -214,7 +214,7 @@ def try_gone(page: Page) -> None:
         page.equal(f"what is shown of {count}", "", page.browser.text("#results"))
     boxes = "['checked', 'disabled'].map((is) => document.getElementById('no-sources')[is])"
     page.equal("the flag of a manifest that is gone", [False, False], page.browser.evaluate(boxes))
-    page.browser.driver.execute_script("globalThis.Worker = OwnWorker")
+    page.browser.execute("globalThis.Worker = OwnWorker")
 
 
 def archive(page: Page) -> Path:
