@@ -10,15 +10,16 @@ use Rattle.county_chart.specs.declared.directed_chain.DirectedChain.{DirectedCha
 use Rattle.record_groups.specs.CountyGroups.{type_6_by_chain}
 use Rattle.record_groups.specs.TypeOneOrder.{ones_cmp}
 use Rattle.tl_number.specs.ChoiceSearch.{chosen_county}
+use Rattle.tl_number.specs.declared.alike_ranges.AlikeChain.{AlikeChain}
 use Rattle.tl_number.specs.declared.choice_search.Tie.{Tie}
 
 -- the further address ranges of a chain, in its direction
 abbrev pub ranges_towards : County → DirectedChain → List Ranges
 ranges_towards county directed = ranges_of (directed_chain county directed)
 
--- the two chains of each pair have the same ones
-abbrev pub AreAlike : County → List (DirectedChain × DirectedChain) → Type 0
-AreAlike county pairs = AllByRecursion (λ pair. ranges_towards county pair.0 ≡ ranges_towards county pair.1) pairs
+-- each chain has the same ones as its representative
+abbrev pub AreAlike : County → List AlikeChain → Type 0
+AreAlike county pairs = AllByRecursion (λ pair. ranges_towards county pair.chain ≡ ranges_towards county pair.representative) pairs
 
 -- both choices have the same records of type 1, and the first of their chains the same ones of type 6
 pub record AreTied (county : County) (tie : Tie) : Type 0 where

@@ -9,26 +9,30 @@ ghost use Rattle.record_groups.specs.CountyGroups.{type_6_by_chain};
 ghost use Rattle.tl_number.specs.AlikeRanges.{AreAlike, ranges_towards};
 ghost use Rattle.tl_number.specs.ChoiceSearch.{IsChosen, LeavesChoices, chosen_county};
 
+use crate::choice_search::ComparedCounty;
 use crate::kept_places::open_chains;
 use crate::numbered_arrangement::NumberedArrangement;
-use arranged_county::Classes;
 use county_chart::{Chart, DirectedChain, Same, are_same};
 use std::alloc::{AllocError, Global};
 use tl_profile::ShapeOrder;
 
-/// Directed chains, each with its representative: the first one with the same further address ranges.
-pub(crate) type AlikeChains = Vec<(DirectedChain, DirectedChain)>;
+/// A directed chain, and its representative: the first one with the same further address ranges.
+#[derive(Clone, Copy, Drop)]
+pub(crate) struct AlikeChain {
+    chain: DirectedChain,
+    representative: DirectedChain,
+}
 
 /// Returns the first representative with the same further address ranges as a chain, or the chain itself if there is none.
 fn find_representative<C: Chart>(
     chart: &C,
-    alike: &[(DirectedChain, DirectedChain)],
+    alike: &[AlikeChain],
     directed: DirectedChain,
 ) -> DirectedChain
     ensures { ranges_towards (C.county chart.now) directed ≡ ranges_towards (C.county chart.now) result }
 {
     for pair in alike {
-        let known = pair.1;
+        let known = pair.representative;
         if are_same(&known.ranges(chart), &directed.ranges(chart)) {
             return known;
         }
@@ -39,14 +43,17 @@ fn find_representative<C: Chart>(
 /// Adds a directed chain with its representative.
 fn add_alike<C: Chart>(
     chart: &C,
-    alike: &mut AlikeChains,
+    alike: &mut Vec<AlikeChain>,
     directed: DirectedChain,
 ) -> Result<(), AllocError>
     requires { AreAlike (C.county chart.now) alike.old.items }
     ensures { OnOk result (AreAlike (C.county chart.now) alike.new.items) }
 {
     let representative = find_representative(chart, alike, directed);
-    alike.push((directed, representative))?;
+    alike.push(AlikeChain {
+        chain: directed,
+        representative,
+    })?;
     Ok(())
 }
 
@@ -55,7 +62,7 @@ pub(crate) fn alike_chains<C: Chart>(
     alloc: Global,
     chart: &C,
     shape_order: &ShapeOrder,
-) -> Result<AlikeChains, AllocError>
+) -> Result<Vec<AlikeChain>, AllocError>
     ensures { IfOk result (λ alike. AreAlike (C.county chart.now) alike.items) }
 {
     let chains = open_chains(alloc, shape_order)?;
@@ -82,61 +89,53 @@ pub(crate) fn alike_chains<C: Chart>(
     Ok(alike)
 }
 
-/// Returns the representative that is known of a directed chain, or the chain itself.
-fn representative_of<C: Chart>(
-    _chart: &C,
-    alike: &[(DirectedChain, DirectedChain)],
-    directed: DirectedChain,
-) -> DirectedChain
-    requires { AreAlike (C.county _chart.now) alike.now }
-    ensures { ranges_towards (C.county _chart.now) directed ≡ ranges_towards (C.county _chart.now) result }
-{
-    for pair in alike {
-        let known = pair.0;
-        if known.is_same(directed) {
-            return pair.1;
+impl<C: Chart> ComparedCounty<'_, '_, C> {
+    /// Returns the representative that is known of a directed chain, or the chain itself.
+    fn representative_of(&self, directed: DirectedChain) -> DirectedChain
+        requires { AreAlike (classed_county self.now.classes.now) self.now.alike.now }
+        ensures { ranges_towards (classed_county self.now.classes.now) directed ≡ ranges_towards (classed_county self.now.classes.now) result }
+    {
+        for pair in self.alike {
+            let known = pair.chain;
+            if known.is_same(directed) {
+                return pair.representative;
+            }
         }
+        directed
     }
-    directed
-}
 
-/// Checks whether two directed chains are the same, or have the same representative, and so the same further address ranges.
-fn are_alike<C: Chart>(
-    chart: &C,
-    alike: &[(DirectedChain, DirectedChain)],
-    one: DirectedChain,
-    other: DirectedChain,
-) -> bool
-    requires { AreAlike (C.county chart.now) alike.now }
-    ensures { IsTrue result → ranges_towards (C.county chart.now) one ≡ ranges_towards (C.county chart.now) other }
-{
-    one.is_same(other)
-        || representative_of(chart, alike, one).is_same(representative_of(chart, alike, other))
-}
+    /// Checks whether two directed chains are the same, or have the same representative, and so the same further address ranges.
+    fn are_alike(&self, one: DirectedChain, other: DirectedChain) -> bool
+        requires { AreAlike (classed_county self.now.classes.now) self.now.alike.now }
+        ensures { IsTrue result → ranges_towards (classed_county self.now.classes.now) one ≡ ranges_towards (classed_county self.now.classes.now) other }
+    {
+        one.is_same(other)
+            || self
+                .representative_of(one)
+                .is_same(self.representative_of(other))
+    }
 
-/// Returns a number of places, from the first on, where two choices have chains with the same further address ranges.
-pub(crate) fn count_alike<C: Chart>(
-    classes: &Classes<'_, C>,
-    shape_order: &ShapeOrder,
-    alike: &[(DirectedChain, DirectedChain)],
-    one: &NumberedArrangement,
-    other: &NumberedArrangement,
-) -> usize
-    requires known { LeavesChoices (classed_county classes.now) shape_order.now }
-    requires alike { AreAlike (classed_county classes.now) alike.now }
-    requires one { IsChosen shape_order.now one.now }
-    requires other { IsChosen shape_order.now other.now }
-    ensures { take result (type_6_by_chain (chosen_county (classed_county classes.now) one.now.number))
-        ≡ take result (type_6_by_chain (chosen_county (classed_county classes.now) other.now.number)) }
-{
-    let chart = classes.chart();
-    let chains = one.chains.as_slice();
-    let others = other.chains.as_slice();
-    for place in 0..chains.len() {
-        let same = are_alike(chart, alike, chains[place], others[place]);
-        if !same {
-            return place;
+    /// Returns a number of places, from the first on, where two choices have chains with the same further address ranges.
+    pub(crate) fn count_alike(
+        &self,
+        one: &NumberedArrangement,
+        other: &NumberedArrangement,
+    ) -> usize
+        requires known { LeavesChoices (classed_county self.now.classes.now) self.now.shape_order.now }
+        requires alike { AreAlike (classed_county self.now.classes.now) self.now.alike.now }
+        requires one { IsChosen self.now.shape_order.now one.now }
+        requires other { IsChosen self.now.shape_order.now other.now }
+        ensures { take result (type_6_by_chain (chosen_county (classed_county self.now.classes.now) one.now.number))
+            ≡ take result (type_6_by_chain (chosen_county (classed_county self.now.classes.now) other.now.number)) }
+    {
+        let chains = one.chains.as_slice();
+        let others = other.chains.as_slice();
+        for place in 0..chains.len() {
+            let same = self.are_alike(chains[place], others[place]);
+            if !same {
+                return place;
+            }
         }
+        chains.len()
     }
-    chains.len()
 }

@@ -3,7 +3,7 @@ use Rattle.tl_number.proofs.Choices.ChoiceSteps.{of_each}
 use Rattle.tl_number.proofs.Landmarks.BodiesFirst.{same_landmarks}
 use Rattle.tl_number.proofs.Names.ContentFirst.{same_type_5}
 use Rattle.tl_number.proofs.Texts.SamePoints.{twos_of_numbers}
-use Rattle.tl_number.proofs.choice_search.compare_with_arranged.Goals as goal
+use Rattle.tl_number.proofs.choice_search.ComparedCounty.compare_with_arranged.Goals as goal
 
 pub compare_arranged-ordering-requires-clause-ones : goal.compare_arranged-ordering-requires-clause-ones
 compare_arranged-ordering-requires-clause-ones g c =
@@ -12,13 +12,13 @@ compare_arranged-ordering-requires-clause-ones g c =
 pub compare_arranged-ordering-requires-clause-twos : goal.compare_arranged-ordering-requires-clause-twos
 compare_arranged-ordering-requires-clause-twos g c =
     ap type_2_by_chain c.requires.first
-    ∙ twos_of_numbers (g.C.Chart.county c.args.classes.now.chart.now) (g.met.C.Chart.is_county c.args.classes.now.chart.now) c.requires.known.sides c.args.tie.one c.args.tie.other
+    ∙ twos_of_numbers (g.C.Chart.county c.args.self.now.classes.now.chart.now) (g.met.C.Chart.is_county c.args.self.now.classes.now.chart.now) c.requires.known.sides c.args.tie.one c.args.tie.other
     ∙ sym (ap type_2_by_chain c.in-Ok.ensures)
 
 pub compare_arranged-ordering-requires-clause-fives : goal.compare_arranged-ordering-requires-clause-fives
 compare_arranged-ordering-requires-clause-fives g c =
-    let county = g.C.Chart.county c.args.classes.now.chart.now in
-    let is = g.met.C.Chart.is_county c.args.classes.now.chart.now in
+    let county = g.C.Chart.county c.args.self.now.classes.now.chart.now in
+    let is = g.met.C.Chart.is_county c.args.self.now.classes.now.chart.now in
     ap type_5_by_name c.requires.first
     ∙ same_type_5 county is (numbered_choice county c.args.tie.one) (numbered_choice county c.args.tie.other)
     (numbered_is_choice county is c.args.tie.one).arranges (numbered_is_choice county is c.args.tie.other).arranges
@@ -26,8 +26,8 @@ compare_arranged-ordering-requires-clause-fives g c =
 
 pub compare_arranged-ordering-requires-clause-sevens : goal.compare_arranged-ordering-requires-clause-sevens
 compare_arranged-ordering-requires-clause-sevens g c =
-    let county = g.C.Chart.county c.args.classes.now.chart.now in
-    let is = g.met.C.Chart.is_county c.args.classes.now.chart.now in
+    let county = g.C.Chart.county c.args.self.now.classes.now.chart.now in
+    let is = g.met.C.Chart.is_county c.args.self.now.classes.now.chart.now in
     ap type_7_by_landmark c.requires.first
     ∙ ap (map packed_sevens) (same_landmarks county is (numbered_choice county c.args.tie.one) (numbered_choice county c.args.tie.other)
     (numbered_is_choice county is c.args.tie.one).arranges (numbered_is_choice county is c.args.tie.other).arranges)
@@ -35,10 +35,10 @@ compare_arranged-ordering-requires-clause-sevens g c =
 
 pub compare_arranged-ordering-requires-clause-same : goal.compare_arranged-ordering-requires-clause-same
 compare_arranged-ordering-requires-clause-same g c =
-    let county = g.C.Chart.county c.args.classes.now.chart.now in
+    let county = g.C.Chart.county c.args.self.now.classes.now.chart.now in
     subst (λ a. AreSame a (arranged_county c.in-Ok.second)) (sym c.requires.first)
     (subst (AreSame (chosen_county county c.args.tie.one)) (sym c.in-Ok.ensures)
-    (choices_same county (g.met.C.Chart.is_county c.args.classes.now.chart.now) c.requires.known.sides c.args.tie.one c.args.tie.other))
+    (choices_same county (g.met.C.Chart.is_county c.args.self.now.classes.now.chart.now) c.requires.known.sides c.args.tie.one c.args.tie.other))
 
 pub compare_arranged-ordering-requires-clause-sixes : goal.compare_arranged-ordering-requires-clause-sixes
 compare_arranged-ordering-requires-clause-sixes g c =
@@ -52,7 +52,7 @@ returns-in-Ok-clause-ordering g c =
 
 pub returns-in-Ok-clause-lesser : goal.returns-in-Ok-clause-lesser
 returns-in-Ok-clause-lesser g c =
-    let county = g.C.Chart.county c.args.classes.now.chart.now in
+    let county = g.C.Chart.county c.args.self.now.classes.now.chart.now in
     let one = c.args.tie.one in
     let other = c.args.tie.other in
     let o = c.compare_arranged-ordering.result in

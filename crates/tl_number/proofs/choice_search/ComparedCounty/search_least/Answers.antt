@@ -3,11 +3,11 @@ use Rattle.canonical_form.proofs.Views.ChainPlaces.{all_at}
 use Rattle.tl_number.specs.LeastOnes.{IsLeastAmong}
 use Rattle.tl_number.proofs.Choices.ChoiceSteps.{greater_from, lesser_least, not_greater_from}
 use Rattle.tl_number.proofs.Choices.LeastNumbers.{first_among}
-use Rattle.tl_number.proofs.choice_search.search_least.Goals as goal
+use Rattle.tl_number.proofs.choice_search.ComparedCounty.search_least.Goals as goal
 
 pub loop-place-init : goal.loop-place-init
 loop-place-init g c =
-    let county = g.C.Chart.county c.args.county.now.classes.now.chart.now in
+    let county = g.C.Chart.county c.args.self.now.classes.now.chart.now in
     let numbers = c.args.numbers.now in
     record {
       chosen = c.in_ok-least.ensures.chosen;
@@ -21,7 +21,7 @@ loop-place-init g c =
 
 pub loop-place-preserved-then-is_le : goal.loop-place-preserved-then-is_le
 loop-place-preserved-then-is_le g c =
-    let county = g.C.Chart.county c.args.county.now.classes.now.chart.now in
+    let county = g.C.Chart.county c.args.self.now.classes.now.chart.now in
     let numbers = c.args.numbers.now in
     let place = c.loop-place.place in
     let old = c.loop-place.least.number in
@@ -42,7 +42,7 @@ loop-place-preserved-then-is_le g c =
 
 pub loop-place-preserved : goal.loop-place-preserved
 loop-place-preserved g c =
-    let county = g.C.Chart.county c.args.county.now.classes.now.chart.now in
+    let county = g.C.Chart.county c.args.self.now.classes.now.chart.now in
     let numbers = c.args.numbers.now in
     let place = c.loop-place.place in
     let old = c.loop-place.least.number in
@@ -54,12 +54,12 @@ loop-place-preserved g c =
     let same : lesser_choice county old next ≡ next = ap (λ b. cond b next old) gives_way in
     let number : next ≡ c.swap.new.x.number = sym (ap (λ choice. choice.number) c.swap.ensures.x_after) in
     record {
-      chosen = subst (IsChosen c.args.shape_order.now) (sym c.swap.ensures.x_after) c.choose_again.ensures.chosen;
+      chosen = subst (IsChosen c.args.self.now.shape_order.now) (sym c.swap.ensures.x_after) c.choose_again.ensures.chosen;
       least = subst (IsLeastAmong county (take (place + 1) numbers)) (same ∙ number)
           (lesser_least county numbers place old next there c.loop-place.invariant.least);
       tied = subst (λ n. AllByRecursion (λ m. ones_cmp county n m ≡ Equal) numbers) number
           (all_at (λ n. AllByRecursion (λ m. ones_cmp county n m ≡ Equal) numbers) numbers place next c.requires.ones there);
-      other = subst (IsChosen c.args.shape_order.now) (sym c.swap.ensures.y_after) c.loop-place.invariant.chosen;
+      other = subst (IsChosen c.args.self.now.shape_order.now) (sym c.swap.ensures.y_after) c.loop-place.invariant.chosen;
       arranged = subst (λ n. IfSome c.compare_ties.new.arranged (λ view. arranged_county view ≡ chosen_county county n)) (same ∙ number)
           c.in_ok-ordering.ensures.arranged;
     }

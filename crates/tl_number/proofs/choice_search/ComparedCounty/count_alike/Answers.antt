@@ -1,19 +1,18 @@
-use Rattle.tl_number.proofs.Common.{DirectedChain, ap, arith, false, get_or, length, rules, slice_get, slice_get-get_or, subst, sym, true, ◌<◌, ◌∙◌, ◌≡◌}
+use Rattle.tl_number.proofs.Common.{DirectedChain, ap, arith, false, get_or, length, rules, slice_get, slice_get-get_or, sym, true, ◌<◌, ◌∙◌, ◌≡◌}
 use Rattle.tl_number.proofs.Choices.AlikeRanges.{sixes_next}
 use Rattle.tl_number.proofs.Ties.OrderedCounty.{OrderedCounty, count_in, directed_in}
-use Rattle.tl_number.specs.AlikeRanges.{ranges_towards}
-use Rattle.tl_number.proofs.alike_ranges.count_alike.Given.{Over}
-use Rattle.tl_number.proofs.alike_ranges.count_alike.Goals.{Start}
-use Rattle.tl_number.proofs.alike_ranges.count_alike.Goals as goal
+use Rattle.tl_number.proofs.choice_search.ComparedCounty.count_alike.Given.{Over}
+use Rattle.tl_number.proofs.choice_search.ComparedCounty.count_alike.Goals.{Start}
+use Rattle.tl_number.proofs.choice_search.ComparedCounty.count_alike.Goals as goal
 
 -- the county whose choices are compared
 abbrev ordered : (g : Over) (c : Start g) → OrderedCounty
 ordered g c = record {
-  county = g.C.Chart.county c.args.classes.now.chart.now;
-  shapes = c.args.shape_order.now;
+  county = g.C.Chart.county c.args.self.now.classes.now.chart.now;
+  shapes = c.args.self.now.shape_order.now;
   known = c.requires.known;
-  is = g.met.C.Chart.is_county c.args.classes.now.chart.now;
-  within = g.met.C.Chart.within_limits c.args.classes.now.chart.now;
+  is = g.met.C.Chart.is_county c.args.self.now.classes.now.chart.now;
+  within = g.met.C.Chart.within_limits c.args.self.now.classes.now.chart.now;
 }
 
 pub bounds-others-place : goal.bounds-others-place
@@ -45,6 +44,5 @@ loop-place-preserved g c =
     sixes_next o n k place (get_or chains place none) (get_or others place none)
     (sym (ap (λ them. slice_get them place) one_is) ∙ slice_get-get_or chains place none there)
     (sym (ap (λ them. slice_get them place) other_is) ∙ slice_get-get_or others place none there_too)
-    (subst (λ county. ranges_towards county (get_or chains place none) ≡ ranges_towards county (get_or others place none))
-    c.chart-chart.ensures (c.are_alike-same.ensures holds))
+    (c.are_alike-same.ensures holds)
     c.loop-place.invariant
