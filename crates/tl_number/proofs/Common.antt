@@ -129,7 +129,7 @@ pub use Rattle.std.specs.Cmp.Lexicographic.{slice_cmp}
 pub use Rattle.std.specs.List.{AllByRecursion, AllPairs, cons_option, insert, list_any, range_with_len}
 pub use Rattle.std.specs.Option.{option_and_then, option_cmp, option_flatten}
 pub use Rattle.std.specs.Ordering.{is_le, on, ordering_reverse, ordering_then}
-pub use Rattle.std.specs.Prelude.{MatchResult, ⊤}
+pub use Rattle.std.specs.Prelude.{⊤}
 pub use Rattle.tl_layout.specs.Bytes.{IsText}
 pub use Rattle.tl_layout.specs.Columns.{joined}
 pub use Rattle.tl_layout.specs.Coordinates.{Coordinates}

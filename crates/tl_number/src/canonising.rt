@@ -1,6 +1,6 @@
 //! Making the canonical county.
 
-ghost use Rattle.std.specs.Prelude.{Err, IfOk, MatchResult, Ok, ◌≡◌};
+ghost use Rattle.std.specs.Prelude.{IfOk, ◌≡◌};
 ghost use Rattle.county_chart.specs.Profile.{IsInProfile};
 ghost use Rattle.county_chart.specs.Renumbering.{Carries};
 ghost use Rattle.county_chart.specs.ShapeOrder.{IsShapeOrder};
@@ -10,7 +10,7 @@ ghost use Rattle.canonical_form.specs.Tidy.{IsLeastChoice};
 ghost use Rattle.arranged_county.specs.Views.{arranged_county, arrangement_in, source_of};
 
 use crate::least_choice::least_arrangement;
-use arranged_county::{CanonCounty, CanonCountyIn, arrange, with_evidence};
+use arranged_county::{CanonCounty, CanonCountyIn, arrange, both, with_evidence};
 use county_chart::{Chart, CountyIn};
 use renamings::Renaming;
 use std::alloc::{AllocError, Global};
@@ -61,13 +61,6 @@ pub fn canonise_alone<C: Chart + Drop>(
     canonise_in_order(alloc, chart, &order)
 }
 
-/// Pairs a value with another one, or passes on the error of the other.
-fn paired<A: Drop, B: Drop>(first: A, second: Result<B, AllocError>) -> Result<(A, B), AllocError>
-    ensures { MatchResult second (λ other. result ≡ Ok (first, other)) (λ error. result ≡ Err error) }
-{
-    Ok((first, second?))
-}
-
 /// Makes the canonical county of an admitted county, and the renaming that carries the admitted county onto it.
 ///
 /// # Errors
@@ -86,7 +79,7 @@ pub fn canonise<C: Chart + Drop>(
 {
     let canon = canonise_alone(alloc, admitted)?;
     let renaming = canon.renaming(alloc);
-    paired(canon, renaming)
+    both(canon, renaming)
 }
 
 /// Makes the canonical county of an admitted county in an arena, and the renaming that carries the admitted county onto it.
