@@ -13,13 +13,10 @@ ghost use Rattle.arranged_county.specs.LandmarkItems.{link_under};
 
 use crate::numbers::Interner;
 use crate::renumbering::{new_key, new_land};
-use county_chart::{Chart, PolygonKey, are_in_order, sort_by_keys, split_group};
+use county_chart::{Chart, LinkKey, PolygonKey, are_in_order, sort_by_keys, split_group};
 use ordered_lists::bring_close;
 use std::alloc::{AllocError, Global};
 use tl_layout::Rec8;
-
-/// The fields of a link in the order of comparison: LAND, POLYID, CENID, FILE.
-type LinkKey = (u64, (u64, ([u8; 5], [u8; 5])));
 
 /// The new numbers of polygons, and the landmarks of a county in the order of their new numbers.
 #[derive(Drop)]
