@@ -14,14 +14,6 @@ use county_chart::{Chart, Listed, PolygonKey};
 use ordered_lists::place_of;
 use tl_layout::{Body1, Body5, Body7, BodyI, BodyP, Point, Ranges, Rec8, Side};
 
-/// Returns the number at a place, of `_count` places. Places count from 0, numbers from 1.
-fn number_of_place(_count: usize, place: usize) -> u64
-    requires { place < _count }
-    ensures { Some result ≡ slice_get (up_to _count) place }
-{
-    place as u64 + 1
-}
-
 /// Returns the place of a number, counted from 0, or `None` if it isn't one of them.
 pub(crate) fn place_of_number(count: usize, number: u64) -> Option<usize>
     ensures found { IfSome result (λ place. slice_get (up_to count) place ≡ Some number) }
@@ -45,7 +37,7 @@ impl<C: Chart, S: Evidence> Chart for Arranged<C, S> {
     }
 
     fn tlid_there(&self, place: usize) -> u64 {
-        number_of_place(self.arrangement.as_slice().len(), place)
+        place as u64 + 1
     }
 
     fn chain_place(&self, tlid: u64) -> Option<usize> {
@@ -57,7 +49,7 @@ impl<C: Chart, S: Evidence> Chart for Arranged<C, S> {
     }
 
     fn feat_there(&self, place: usize) -> u32 {
-        number_of_place(self.names.feats.len(), place) as u32
+        place as u32 + 1
     }
 
     fn name_place(&self, feat: u32) -> Option<usize> {
@@ -81,7 +73,7 @@ impl<C: Chart, S: Evidence> Chart for Arranged<C, S> {
     }
 
     fn land_there(&self, place: usize) -> u64 {
-        number_of_place(self.landmarks.places.as_slice().len(), place)
+        place as u64 + 1
     }
 
     fn landmark_place(&self, land: u64) -> Option<usize> {
@@ -93,7 +85,7 @@ impl<C: Chart, S: Evidence> Chart for Arranged<C, S> {
     }
 
     fn node_there(&self, place: usize) -> u64 {
-        number_of_place(self.nodes.numbers.len(), place)
+        place as u64 + 1
     }
 
     fn node_place(&self, node: u64) -> Option<usize> {

@@ -1,5 +1,5 @@
 -- The numbers from 1.
-use Rattle.arranged_county.proofs.Common.{Some, all_among, among-get, among_known, ap, arith, contains, false, false_from_ne_true, inl, inr, lt-ltb, ltb-true, nat_cmp, nat_keys, range_with_len, slice_get, suc, sym, times, true, up_to, zero, ℕ, ◌+◌, ◌-◌, ◌<◌, ◌∙◌, ◌≡◌, ◌≤◌, ◌⊎◌}
+use Rattle.arranged_county.proofs.Common.{List, Some, all_among, among-get, among_known, ap, arith, contains, false, false_from_ne_true, inl, inr, lt-ltb, ltb-true, nat_cmp, nat_keys, range_with_len, slice_get, suc, sym, times, true, up_to, zero, ℕ, ◌+◌, ◌-◌, ◌<◌, ◌∙◌, ◌≡◌, ◌≤◌, ◌⊎◌}
 use Rattle.ordered_lists.proofs.Lists.Members.{known_is_among}
 use Rattle.ordered_lists.proofs.Lists.Ranges.{range_bounds}
 
@@ -10,6 +10,10 @@ get_range a (suc n) (suc p) h = get_range (a + 1) n p (omega (arith, h)) ∙ ap 
 
 pub get_up_to : (n p : ℕ) → p < n → slice_get (up_to n) p ≡ Some (p + 1)
 get_up_to n p h = get_range 1 n p h ∙ ap Some (let t : 1 + p ≡ p + 1 = omega arith in t)
+
+-- the number at a place, if numbers count from 1
+pub number_there : (numbers : List ℕ) (n p : ℕ) → numbers ≡ up_to n → p < n → Some (p + 1) ≡ slice_get numbers p
+number_there numbers n p e h = sym (get_up_to n p h) ∙ ap (λ ns. slice_get ns p) (sym e)
 
 pub known_up_to : (n k : ℕ) → 0 < k → k ≤ n → contains nat_cmp k (up_to n) ≡ true
 known_up_to n k low high =
@@ -25,8 +29,3 @@ unknown_up_to n k h = false_from_ne_true (contains nat_cmp k (up_to n)) (λ e. o
     out : (k ≡ 0) ⊎ (n < k) → (1 ≤ k) × (k < 1 + n) → ⊥
     out (inl z) b = let low = b.0 in omega (arith, z, low)
     out (inr g) b = let high = b.1 in omega (arith, g, high)
-
-pub within_up_to : (n p k : ℕ) → Some k ≡ slice_get (up_to n) p → k ≤ n
-within_up_to n p k e =
-    let bounds = all_among (λ j. (1 ≤ j) × (j < 1 + n)) k (up_to n) (range_bounds 1 n) (among-get (up_to n) p k (sym e)) in
-    let high = bounds.1 in omega (arith, high)

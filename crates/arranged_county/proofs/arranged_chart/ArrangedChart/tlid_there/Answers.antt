@@ -1,14 +1,13 @@
-use Rattle.arranged_county.proofs.Common.{ap, arith, chains_arranged_by, length, slice_get, sym, tlids_arranged_by, up_to, ◌∙◌}
+use Rattle.arranged_county.proofs.Common.{arith, arranged_by, chains_arranged_by, length, tlids, tlids_arranged_by}
+use Rattle.arranged_county.proofs.Views.ViewNumbers.{number_there}
 use Rattle.arranged_county.proofs.arranged_chart.ArrangedChart.tlid_there.Goals as goal
 
-pub number_of_place-requires : goal.number_of_place-requires
-number_of_place-requires g c =
-    let counted = chains_arranged_by (g.C.Chart.county c.args.self.now.chart) c.args.self.now.arrangement.items (g.met.C.Chart.is_county c.args.self.now.chart) c.args.self.now.whole in
-    omega (arith, c.requires, ap length c.as_slice.ensures.value, counted)
-
+-- the TLIDs count from 1
 pub returns : goal.returns
 returns g c =
-    c.number_of_place.ensures ∙ ap (λ n. slice_get (up_to n) c.args.place) (ap length c.as_slice.ensures.value)
-    ∙ ap (λ numbers. slice_get numbers c.args.place) (sym (tlids_arranged_by
-    (g.C.Chart.county c.args.self.now.chart) c.args.self.now.arrangement.items
-    (g.met.C.Chart.is_county c.args.self.now.chart) c.args.self.now.whole))
+    let view = c.args.self.now in
+    let county = g.C.Chart.county view.chart in
+    let is = g.met.C.Chart.is_county view.chart in
+    let counted = chains_arranged_by county view.arrangement.items is view.whole in
+    number_there (tlids (arranged_by county view.arrangement.items)) (length view.arrangement.items) c.args.place
+    (tlids_arranged_by county view.arrangement.items is view.whole) (omega (arith, c.requires, counted))
