@@ -1,5 +1,6 @@
 -- The records of type 6 of two choices, from the first chain on whose ranges differ.
-use Rattle.tl_number.proofs.Common.{DirectedChain, List, Ranges, Record, Some, [], ap, chosen_county, directed_chain, drop, groups_cmp, kept_entry, map, nat_list_cmp_total, numbered_from, option_map, ordering_then, packed_sixes, refl, slice_get, slice_get-map, spelling_of, suc, sym, take, tied_itself, type_6_by_chain, zero, ℕ, ◌+◌, ◌∙◌, ◌∷◌, ◌≡◌}
+use Rattle.tl_number.proofs.Common.{County, DirectedChain, IsWithinLimits, List, Ranges, Record, Some, [], ap, arith, chosen_county, directed_chain, drop, few_chains, groups_cmp, kept_entry, length, length-map, map, most_records, nat_list_cmp_total, numbered_from, option_map, ordering_then, packed_sixes, refl, slice_get, slice_get-map, spelling_of, suc, sym, take, tied_itself, type_6_by_chain, zero, ℕ, ◌+◌, ◌<◌, ◌^◌, ◌∙◌, ◌∷◌, ◌≡◌}
+use Rattle.std.proofs.lemmas.List.{length-drop}
 use Rattle.tl_number.proofs.Ties.OrderedCounty.{OrderedCounty, chains_at, chains_numbered, directed_in, new_in, read_in, stated}
 use Rattle.tl_number.specs.AlikeRanges.{ranges_towards}
 use Rattle.canonical_form.specs.Arrangement.{arranged}
@@ -30,6 +31,17 @@ rest_decides record_of (suc count) (group ∷ groups) (other ∷ others) e =
     let rest : take count groups ≡ take count others = cc in
     rest_decides record_of count groups others rest ∙ same_first record_of group groups others
     ∙ ap (λ g. groups_cmp record_of (group ∷ groups) (g ∷ others)) first
+
+-- the groups from a place on are at places that fit
+pub few_from : (county : County) → IsWithinLimits most_records county → (first group : ℕ) → group < length (drop first (type_6_by_chain county))
+    → first + group < 2 ^ 32
+few_from county within first group there = omega (
+  arith,
+  few_chains county within,
+  length-drop first (type_6_by_chain county),
+  length-map county.chains packed_sixes,
+  there,
+)
 
 module _ (c : OrderedCounty) where
   -- the records of type 6 of a choice, chain by chain
