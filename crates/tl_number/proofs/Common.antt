@@ -157,10 +157,11 @@ pub use Rattle.tl_layout.specs.declared.type_p.BodyP.{BodyP}
 pub use Rattle.tl_number.specs.BroughtKeys.{brings, fixed_keys, has_new, met_before}
 pub use Rattle.tl_number.specs.ChoiceSearch.{IsChosen, LeavesChoices, chosen_county, lesser_choice, numbered_arrangement}
 pub use Rattle.tl_number.specs.CountyParts.{HoldsPart, IsPicked, feats_along, part_of, part_with, places_among}
-pub use Rattle.tl_number.specs.KeptPlaces.{AreSearched, IsSearchAt, link_keys, link_keys_at}
+pub use Rattle.tl_number.specs.KeptLandmarks.{LandmarkName, first_name, has_name, keeps_landmark, kept_landmarks, kept_lands, landmark_name_cmp, link_keys_at, moves_polygons, name_if_linked, names_linked, opened_polygons}
+pub use Rattle.tl_number.specs.KeptPlaces.{AreSearched, IsSearchAt}
 pub use Rattle.tl_number.specs.KeysAlong.{first_open, is_open, keys_along, newly_seen, open_among, open_keys, place_in}
 pub use Rattle.tl_number.specs.NamesAlong.{chain_feats, feats_in_order}
-pub use Rattle.tl_number.specs.SmallCounty.{is_kept, is_linked, kept_tlids, keys_at_open, wanted_feats, wanted_nodes, wanted_polygons}
+pub use Rattle.tl_number.specs.SmallCounty.{is_kept, kept_tlids, keys_at_open, wanted_feats, wanted_nodes, wanted_polygons}
 pub use Rattle.tl_number.specs.declared.part_tables.PartTables.{PartTables}
 pub use Rattle.tl_shape.specs.Chain.{Chain}
 pub use Rattle.tl_shape.specs.PointOrder.{points_cmp}

@@ -10,6 +10,7 @@ pub mod SearchSteps
 pub mod WantedNames
 pub mod ListsAlike
 pub mod SmallPolygons
+pub mod KeptLandmarks
 pub mod PartChoices
 pub mod CountyParts
 pub mod PartTables
@@ -19,4 +20,5 @@ pub mod KeptParts
 pub mod SmallRecords
 pub mod SmallCounty
 pub mod SmallKeys
+pub mod SmallLandmarks
 pub mod SmallOrder

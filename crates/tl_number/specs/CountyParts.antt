@@ -1,12 +1,12 @@
--- Parts of a county: some of its chains, with their names and polygons, and all of its landmarks or none; and tables for them.
-use Rattle.std.specs.Prelude.{Bool, List, [], cond, filter, flat_map, length, option_to_list, slice_get, ℕ, ◌≡◌}
+-- Parts of a county: some of its chains, with their names and polygons, and some of its landmarks; and tables for them.
+use Rattle.std.specs.Prelude.{Bool, List, filter, flat_map, length, option_to_list, slice_get, ℕ, ◌≡◌}
 use Rattle.std.specs.List.{list_any, range_with_len}
 use Rattle.std.specs.Ordering.{nat_cmp}
 use Rattle.std.specs.declared.cmp.Ordering.{Ordering}
 use Rattle.ordered_lists.specs.Orders.{contains}
 use Rattle.ordered_lists.specs.Places.{at_places}
 use Rattle.tl_shape.specs.Chain.{Chain}
-use Rattle.county_chart.specs.CountyRules.{feats, nodes, polygon_keys, polygons_along, tlids}
+use Rattle.county_chart.specs.CountyRules.{feats, lands, nodes, polygon_keys, polygons_along, tlids}
 use Rattle.county_chart.specs.County.{County}
 use Rattle.county_chart.specs.PolygonKeys.{key_cmp}
 use Rattle.canonical_form.specs.WholeArrangements.{AreReadAt}
@@ -17,19 +17,19 @@ use Rattle.tl_number.specs.declared.part_tables.Picked.{Picked}
 abbrev pub feats_along : List (ℕ × Chain) → List ℕ
 feats_along chains = flat_map (λ entry. entry.1.feats) chains
 
--- the chains that pass a test, their names and polygons, and all landmarks with their links or none
-unfoldable pub part_of : County → (ℕ × Chain → Bool) → Bool → County
-part_of county keeps with_landmarks = record {
+-- the chains that pass a test, their names and polygons, and the landmarks with some LANDs, and their links
+unfoldable pub part_of : County → (ℕ × Chain → Bool) → List ℕ → County
+part_of county keeps with_lands = record {
   chains = filter keeps county.chains;
   names = filter (λ name. contains nat_cmp name.0 (feats_along (filter keeps county.chains))) county.names;
   polygons = filter (λ polygon. contains key_cmp polygon.0 (polygons_along (filter keeps county.chains))) county.polygons;
-  landmarks = cond with_landmarks county.landmarks [];
-  links = cond with_landmarks county.links [];
+  landmarks = filter (λ landmark. contains nat_cmp landmark.0 with_lands) county.landmarks;
+  links = filter (λ link. contains nat_cmp link.land with_lands) county.links;
 }
 
 -- the part of a county that tables describe
 abbrev pub part_with : County → PartTables → County
-part_with county tables = part_of county (λ entry. contains nat_cmp entry.0 tables.kept.tlids.items) tables.kept.linked
+part_with county tables = part_of county (λ entry. contains nat_cmp entry.0 tables.kept.tlids.items) tables.kept.lands.items
 
 -- the places of the wanted keys
 abbrev pub places_among : {K : Type 0} → (K → K → Ordering) → List K → List K → List ℕ
@@ -49,4 +49,6 @@ pub record HoldsPart (county : County) (tables : PartTables) : Type 0 where
   pub names : AreReadAt county.names tables.names.places.items (part_with county tables).names
   pub keys : tables.polygons.keys.items ≡ polygon_keys (part_with county tables)
   pub polygons : AreReadAt county.polygons tables.polygons.places.items (part_with county tables).polygons
+  pub lands : tables.landmarks.keys.items ≡ lands (part_with county tables)
+  pub landmarks : AreReadAt county.landmarks tables.landmarks.places.items (part_with county tables).landmarks
   pub nodes : tables.nodes.items ≡ nodes (part_with county tables)

@@ -1,13 +1,11 @@
 -- Searching the kept chains of a county, place by place.
-use Rattle.std.specs.Prelude.{List, flat_map, length, map, ℕ, ◌≡◌}
-use Rattle.std.specs.List.{range_with_len}
+use Rattle.std.specs.Prelude.{List, ℕ, ◌≡◌}
 use Rattle.std.specs.Ordering.{nat_cmp}
 use Rattle.std.specs.declared.cmp.Ordering.{Ordering}
 use Rattle.ordered_lists.specs.Orders.{contains}
-use Rattle.county_chart.specs.ChartWords.{links_at}
-use Rattle.county_chart.specs.County.{County, link_key}
+use Rattle.county_chart.specs.County.{County}
 use Rattle.county_chart.specs.CountyRules.{chain_nodes, chain_polygons}
-use Rattle.county_chart.specs.PolygonKeys.{PolygonKey, key_cmp}
+use Rattle.county_chart.specs.PolygonKeys.{key_cmp}
 use Rattle.county_chart.specs.ShapeOrder.{OrderOfShapes}
 use Rattle.county_chart.specs.declared.open_place.OpenPlace.{OpenPlace}
 use Rattle.tl_number.specs.SmallCounty.{wanted_feats, wanted_nodes, wanted_polygons}
@@ -15,14 +13,6 @@ use Rattle.tl_number.specs.BroughtKeys.{met_before}
 use Rattle.tl_number.specs.KeysAlong.{keys_along}
 use Rattle.tl_number.specs.NamesAlong.{chain_feats}
 use Rattle.tl_number.specs.declared.kept_places.Searches.{Searches}
-
--- the polygons of the landmark at a place
-abbrev pub link_keys_at : County → ℕ → List PolygonKey
-link_keys_at county place = map link_key (links_at county place)
-
--- the polygons of landmarks, landmark by landmark
-abbrev pub link_keys : County → List PolygonKey
-link_keys county = flat_map (link_keys_at county) (range_with_len 0 (length county.landmarks))
 
 -- a search for these keys that is at a place: it has them in any order, and has met the ones that earlier fixed places have
 pub record IsSearchAt {K : Type 0} (cmp : K → K → Ordering) (places : List OpenPlace) (keys : List K) (along : List (List K)) (place : ℕ)

@@ -1,21 +1,21 @@
--- The small county, which decides how choices compare: the chains at open places, the first fixed chain of each key that they have, and
--- all landmarks if open places can move polygons and some landmark has one that first appears at an open place.
-use Rattle.std.specs.Prelude.{Bool, List, [], cond, filter, length, map, ℕ, ◌&&◌, ◌++◌, ◌||◌}
-use Rattle.std.specs.List.{list_any, range_with_len}
+-- The small county, which decides how choices compare: the chains at open places, the first fixed chain of each key that they or the kept
+-- landmarks have, and these landmarks.
+use Rattle.std.specs.Prelude.{Bool, List, filter, flat_map, length, map, ℕ, ◌++◌, ◌||◌}
+use Rattle.std.specs.List.{range_with_len}
 use Rattle.std.specs.Ordering.{nat_cmp}
 use Rattle.ordered_lists.specs.Orders.{contains}
 use Rattle.ordered_lists.specs.Places.{at_places}
 use Rattle.tl_shape.specs.Chain.{Chain}
-use Rattle.county_chart.specs.County.{County, link_key}
+use Rattle.county_chart.specs.County.{County}
 use Rattle.county_chart.specs.CountyRules.{chain_nodes, chain_polygons}
 use Rattle.county_chart.specs.PolygonKeys.{PolygonKey, key_cmp}
 use Rattle.county_chart.specs.ShapeOrder.{OrderOfShapes}
 use Rattle.canonical_form.specs.DirectedChains.{tlid_at}
 use Rattle.record_groups.specs.Groups.{group_at, grouped}
-use Rattle.tl_number.specs.KeysAlong.{first_open, is_open, keys_along, open_among}
+use Rattle.tl_number.specs.KeysAlong.{is_open, keys_along, open_among}
 use Rattle.tl_number.specs.CountyParts.{part_of}
 use Rattle.tl_number.specs.BroughtKeys.{brings}
-use Rattle.tl_number.specs.MovedKeys.{moves_keys}
+use Rattle.tl_number.specs.KeptLandmarks.{kept_landmarks, kept_lands, link_keys_at}
 use Rattle.tl_number.specs.NamesAlong.{chain_feats}
 
 -- the keys of the chains at open places
@@ -23,20 +23,7 @@ abbrev pub keys_at_open : {K : Type 0} → (Chain → List K) → County → Ord
 keys_at_open keys county shapes =
     grouped (map (group_at (keys_along keys county shapes.by_shape)) (open_among shapes.places (length shapes.by_shape)))
 
--- whether some landmark has a polygon of the list
-abbrev pub has_open_link : County → List PolygonKey → Bool
-has_open_link county opened = list_any (λ link. contains key_cmp (link_key link) opened) county.links
-
--- whether open places can move polygons
-abbrev pub moves_polygons : County → OrderOfShapes → Bool
-moves_polygons county shapes = list_any (moves_keys key_cmp (keys_along chain_polygons county shapes.by_shape)) shapes.places
-
--- whether they can, and some landmark has a polygon that first appears at one
-abbrev pub is_linked : County → OrderOfShapes → Bool
-is_linked county shapes = moves_polygons county shapes
-    && has_open_link county (first_open key_cmp shapes.places (keys_along chain_polygons county shapes.by_shape))
-
--- The wanted keys, whose numbers can differ between choices: of chains at open places, and of landmarks if these are compared.
+-- The wanted keys, whose numbers can differ between choices: of chains at open places, and of kept landmarks.
 abbrev pub wanted_nodes : County → OrderOfShapes → List ℕ
 wanted_nodes county shapes = keys_at_open chain_nodes county shapes
 
@@ -45,7 +32,7 @@ wanted_feats county shapes = keys_at_open chain_feats county shapes
 
 abbrev pub wanted_polygons : County → OrderOfShapes → List PolygonKey
 wanted_polygons county shapes =
-    keys_at_open chain_polygons county shapes ++ cond (is_linked county shapes) (map link_key county.links) []
+    keys_at_open chain_polygons county shapes ++ flat_map (link_keys_at county) (kept_landmarks county shapes)
 
 -- whether a place is open, or brings a wanted key
 abbrev pub is_kept : County → OrderOfShapes → ℕ → Bool
@@ -64,4 +51,4 @@ kept_tlids county shapes = map (λ directed. tlid_at county directed.place) (at_
 
 -- the part with the chains that are kept
 unfoldable pub small_county : County → OrderOfShapes → County
-small_county county shapes = part_of county (λ entry. contains nat_cmp entry.0 (kept_tlids county shapes)) (is_linked county shapes)
+small_county county shapes = part_of county (λ entry. contains nat_cmp entry.0 (kept_tlids county shapes)) (kept_lands county shapes)

@@ -1,6 +1,6 @@
 //! A part of a county as a chart. Nothing is copied: each call finds the place in the whole county, and reads it there.
 
-ghost use Rattle.std.specs.Prelude.{cond, get_or, length, slice_get, ◌<◌, ◌≡◌};
+ghost use Rattle.std.specs.Prelude.{get_or, length, slice_get, ◌<◌, ◌≡◌};
 ghost use Rattle.county_chart.specs.ChartWords.{bodies_at, chain_at, links_at, name_at, polygon_at};
 ghost use Rattle.county_chart.specs.CountyRules.{IsCounty, feats, lands, nodes, polygon_keys, tlids};
 ghost use Rattle.county_chart.specs.Limits.{IsWithinLimits};
@@ -24,7 +24,7 @@ pub(crate) trait Shared: Chart + Drop {
         ensures { Self.Chart.county result ≡ Self.Chart.county self.now };
 }
 
-/// A part of a county: some of its chains, with their names and polygons, and all of its landmarks or none.
+/// A part of a county: some of its chains, with their names and polygons, and some of its landmarks.
 #[derive(Drop)]
 pub(crate) struct CountyPart<'a, C: Chart> {
     chart: &'a C,
@@ -35,6 +35,8 @@ pub(crate) struct CountyPart<'a, C: Chart> {
     ghost names: { AreReadAt (C.county chart.now).names tables.now.names.places.items (part_with (C.county chart.now) tables.now).names },
     ghost keys: { tables.now.polygons.keys.items ≡ polygon_keys (part_with (C.county chart.now) tables.now) },
     ghost polygons: { AreReadAt (C.county chart.now).polygons tables.now.polygons.places.items (part_with (C.county chart.now) tables.now).polygons },
+    ghost lands: { tables.now.landmarks.keys.items ≡ lands (part_with (C.county chart.now) tables.now) },
+    ghost landmarks: { AreReadAt (C.county chart.now).landmarks tables.now.landmarks.places.items (part_with (C.county chart.now) tables.now).landmarks },
     ghost nodes: { tables.now.nodes.items ≡ nodes (part_with (C.county chart.now) tables.now) },
     ghost is_county: { IsCounty (part_with (C.county chart.now) tables.now) } by { IsCounty-prop (part_with (C.county chart.now) tables.now) },
     ghost within_limits: { IsWithinLimits most_records (part_with (C.county chart.now) tables.now) } by { IsWithinLimits-prop most_records (part_with (C.county chart.now) tables.now) },
@@ -48,13 +50,6 @@ fn place_there(places: &[u32], place: usize, end: usize) -> usize
         Some(there) => *there as usize,
         None => end,
     }
-}
-
-/// Returns `one` if landmarks are compared, and `other` if they aren't.
-fn if_linked(linked: bool, one: usize, other: usize) -> usize
-    ensures { result ≡ cond linked one other }
-{
-    if linked { one } else { other }
 }
 
 impl<'a, C: Chart> CountyPart<'a, C> {
@@ -104,7 +99,11 @@ impl<'a, C: Chart> CountyPart<'a, C> {
         ensures bodies { bodies_at (C.county self.now.chart.now) result ≡ bodies_at (part_with (C.county self.now.chart.now) self.now.tables.now) place }
         ensures links { links_at (C.county self.now.chart.now) result ≡ links_at (part_with (C.county self.now.chart.now) self.now.tables.now) place }
     {
-        if_linked(self.tables.kept.linked, place, self.chart.landmark_count())
+        place_there(
+            &self.tables.landmarks.places,
+            place,
+            self.chart.landmark_count(),
+        )
     }
 }
 
@@ -159,19 +158,15 @@ impl<'a, C: Chart> Chart for CountyPart<'a, C> {
     }
 
     fn landmark_count(&self) -> usize {
-        if_linked(self.tables.kept.linked, self.chart.landmark_count(), 0)
+        self.tables.landmarks.keys.len()
     }
 
     fn land_there(&self, place: usize) -> u64 {
-        self.chart.land_there(self.landmark(place))
+        self.tables.landmarks.keys[place]
     }
 
     fn landmark_place(&self, land: u64) -> Option<usize> {
-        if self.tables.kept.linked {
-            self.chart.landmark_place(land)
-        } else {
-            None
-        }
+        place_of(self.tables.landmarks.keys.as_slice(), land)
     }
 
     fn node_count(&self) -> usize {

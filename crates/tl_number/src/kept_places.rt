@@ -1,109 +1,54 @@
 //! The kept chains: comparing only them compares the choices of a county.
 //!
 //! Choices can differ at open places, and in the numbers of nodes, polygons and names that chains at open places have. These keys are
-//! wanted. The chains at open places are kept, and for each wanted key the first chain at a fixed place that has it. If open places can
-//! move polygons, and some landmark has one that first appears at an open place, the polygons of all landmarks are wanted too.
+//! wanted. The chains at open places are kept, and for each wanted key the first chain at a fixed place that has it. The polygons
+//! of kept landmarks are wanted too.
 
-ghost use Rattle.std.specs.List.{list_any};
-ghost use Rattle.std.specs.Prelude.{IfOk, OnOk, [], cond, length, ◌++◌, ◌+◌, ◌<◌, ◌||◌, ◌≡◌};
+ghost use Rattle.std.specs.Prelude.{IfOk, OnOk, flat_map, length, ◌++◌, ◌+◌, ◌<◌, ◌||◌, ◌≡◌};
 ghost use Rattle.canonical_form.specs.DirectedChains.{HasChainsOf};
 ghost use Rattle.canonical_form.specs.Growth.{first_seen, first_seen_after};
-ghost use Rattle.canonical_form.specs.MovedChains.{AreWithin};
 ghost use Rattle.county_chart.specs.CountyRules.{chain_polygons};
 ghost use Rattle.county_chart.specs.PolygonKeys.{key_cmp};
-ghost use Rattle.ordered_lists.specs.Orders.{contains};
 ghost use Rattle.ordered_lists.specs.Places.{at_places};
 ghost use Rattle.record_groups.specs.Groups.{grouped};
 ghost use Rattle.tl_number.specs.ChoiceSearch.{LeavesChoices};
-ghost use Rattle.tl_number.specs.KeptPlaces.{AreSearched, link_keys};
+ghost use Rattle.tl_number.specs.KeptLandmarks.{kept_landmarks, kept_lands, link_keys_at};
+ghost use Rattle.tl_number.specs.KeptPlaces.{AreSearched};
 ghost use Rattle.tl_number.specs.KeysAlong.{keys_along, open_among};
-ghost use Rattle.tl_number.specs.SmallCounty.{is_kept, is_linked, kept_tlids};
+ghost use Rattle.tl_number.specs.SmallCounty.{is_kept, kept_tlids};
 
+use crate::kept_landmarks::{LinkKeys, kept_landmarks};
 use crate::key_groups::{FeatKeys, NodeKeys, PolygonKeys};
 use crate::key_search::{KeySearch, search_place};
-use crate::moved_keys::any_moves_keys;
-use crate::open_keys::{has_key, is_open_at, keys_of, see_along};
-use arranged_county::{Interner, if_done};
-use county_chart::{Chart, DirectedChain, Listed, PolygonKey};
+use crate::open_keys::{is_open_at, keys_of};
+use crate::part_tables::keys_at;
+use arranged_county::Interner;
+use county_chart::{Chart, DirectedChain, Lands, PolygonKey};
 use std::alloc::{AllocError, Global};
 use tl_profile::ShapeOrder;
 
-/// The kept chains of a county.
+/// The kept chains and landmarks of a county.
 #[derive(Drop)]
-pub(crate) struct KeptChains {
-    /// Their TLIDs, in the order of shapes.
+pub(crate) struct Kept {
+    /// The TLIDs of the chains, in the order of shapes.
     pub(crate) tlids: Vec<u64>,
-    /// Whether landmarks are compared too.
-    pub(crate) linked: bool,
+    /// The LANDs of the landmarks, ascending.
+    pub(crate) lands: Vec<u64>,
 }
 
-/// The polygons of the landmark at a place.
-#[derive(Drop)]
-struct LinkKeys<'a, C: Chart> {
-    chart: &'a C,
-    place: usize,
-}
-
-impl<C: Chart> Listed for LinkKeys<'_, C> {
-    ghost use Rattle.tl_number.specs.KeptPlaces.{link_keys_at};
-
-    type Item = PolygonKey;
-
-    ghost items = { λ l. link_keys_at (C.county l.chart.now) l.place };
-
-    fn count(&self) -> usize {
-        self.chart.link_count_at(self.place)
-    }
-
-    fn item(&self, place: usize) -> PolygonKey {
-        let link = self.chart.landmark_link_there(self.place, place);
-        (link.cenid(), link.polyid())
-    }
-}
-
-/// Sees the polygons of all landmarks.
-fn see_links<C: Chart>(chart: &C, polygons: &mut Interner<PolygonKey>) -> Result<(), AllocError>
-    ensures { OnOk result (polygons.new ≡ first_seen_after key_cmp polygons.old (link_keys (C.county chart.now))) }
+/// Sees the polygons of the landmarks at these places.
+fn see_links<C: Chart>(
+    chart: &C,
+    landmarks: &[u32],
+    polygons: &mut Interner<PolygonKey>,
+) -> Result<(), AllocError>
+    ensures { OnOk result (polygons.new ≡ first_seen_after key_cmp polygons.old (flat_map (link_keys_at (C.county chart.now)) landmarks.now)) }
 {
-    for place in 0..chart.landmark_count() {
+    for landmark in landmarks {
+        let place = *landmark as usize;
         polygons.see_all(&LinkKeys { chart, place })?;
     }
     Ok(())
-}
-
-/// Returns the polygons of all landmarks.
-fn linked_polygons<C: Chart>(alloc: Global, chart: &C) -> Result<Interner<PolygonKey>, AllocError>
-    ensures { IfOk result (λ polygons. polygons ≡ first_seen key_cmp (link_keys (C.county chart.now))) }
-{
-    let mut polygons = Interner::new(alloc);
-    let seen = see_links(chart, &mut polygons);
-    if_done(polygons, seen)
-}
-
-fn has_any(keys: &Interner<PolygonKey>, others: &[PolygonKey]) -> bool
-    ensures { result ≡ list_any (λ key. contains key_cmp key keys.now) others.now }
-{
-    others.iter().any(|key| has_key(keys, *key))
-}
-
-/// Checks whether open places can move polygons, and some landmark has one that first appears at an open place.
-fn has_open_links<C: Chart>(
-    alloc: Global,
-    chart: &C,
-    shape_order: &ShapeOrder,
-) -> Result<bool, AllocError>
-    requires { AreWithin (length shape_order.now.by_shape) shape_order.now.places }
-    ensures { IfOk result (λ linked. linked ≡ is_linked (C.county chart.now) shape_order.now) }
-{
-    let places = shape_order.open_places();
-    let polygons = PolygonKeys(chart, shape_order.by_shape());
-    let moves = any_moves_keys(alloc, places, &polygons)?;
-    if !moves {
-        return Ok(false);
-    }
-    let (_, opened) = see_along(alloc, places, &polygons)?;
-    let links = linked_polygons(alloc, chart)?;
-    Ok(has_any(&links, &opened))
 }
 
 /// Returns the chains at open places.
@@ -125,32 +70,18 @@ pub(crate) fn open_chains(
     Ok(chains)
 }
 
-/// Sees the polygons of all landmarks, if these are compared.
-fn see_if_linked<C: Chart>(
-    chart: &C,
-    polygons: &mut Interner<PolygonKey>,
-    linked: bool,
-) -> Result<(), AllocError>
-    ensures { OnOk result (polygons.new ≡ first_seen_after key_cmp polygons.old (cond linked (link_keys (C.county chart.now)) [])) }
-{
-    if linked {
-        see_links(chart, polygons)?;
-    }
-    Ok(())
-}
-
-/// Returns the wanted polygons: those on the sides of these chains, and the polygons of landmarks if landmarks are compared.
+/// Returns the wanted polygons: those on the sides of these chains, and those of the landmarks at these places.
 fn wanted_polygons<C: Chart>(
     alloc: Global,
     chart: &C,
-    linked: bool,
+    landmarks: &[u32],
     chains: &[DirectedChain],
 ) -> Result<Interner<PolygonKey>, AllocError>
     ensures { IfOk result (λ wanted. wanted ≡ first_seen key_cmp (grouped (keys_along chain_polygons (C.county chart.now) chains.now)
-        ++ cond linked (link_keys (C.county chart.now)) [])) }
+        ++ flat_map (link_keys_at (C.county chart.now)) landmarks.now)) }
 {
     let mut polygons = keys_of(alloc, &PolygonKeys(chart, chains))?;
-    see_if_linked(chart, &mut polygons, linked)?;
+    see_links(chart, landmarks, &mut polygons)?;
     Ok(polygons)
 }
 
@@ -167,14 +98,14 @@ fn searches_for<C: Chart>(
     alloc: Global,
     chart: &C,
     shape_order: &ShapeOrder,
-    linked: bool,
+    landmarks: &[u32],
 ) -> Result<Searches, AllocError>
-    requires { linked ≡ is_linked (C.county chart.now) shape_order.now }
+    requires { landmarks.now ≡ kept_landmarks (C.county chart.now) shape_order.now }
     ensures { IfOk result (AreSearched (C.county chart.now) shape_order.now 0) }
 {
     let chains = open_chains(alloc, shape_order)?;
     let nodes = keys_of(alloc, &NodeKeys(chart, &chains))?;
-    let polygons = wanted_polygons(alloc, chart, linked, &chains)?;
+    let polygons = wanted_polygons(alloc, chart, landmarks, &chains)?;
     let names = keys_of(alloc, &FeatKeys(chart, &chains))?;
     Ok(Searches {
         nodes: KeySearch::new(alloc, nodes),
@@ -239,27 +170,40 @@ fn kept_along<C: Chart>(
     Ok(tlids)
 }
 
-/// Returns the kept chains of a county, given the order of its chains by their shapes.
+/// Returns the TLIDs of the chains that are kept, given the places of the kept landmarks.
+fn kept_chains<C: Chart>(
+    alloc: Global,
+    chart: &C,
+    shape_order: &ShapeOrder,
+    landmarks: &[u32],
+) -> Result<Vec<u64>, AllocError>
+    requires known { LeavesChoices (C.county chart.now) shape_order.now }
+    requires landmarks { landmarks.now ≡ kept_landmarks (C.county chart.now) shape_order.now }
+    ensures { IfOk result (λ tlids. tlids.items ≡ kept_tlids (C.county chart.now) shape_order.now) }
+{
+    let mut searches = searches_for(alloc, chart, shape_order, landmarks)?;
+    let tlids = kept_along(alloc, chart, shape_order, &mut searches);
+    // Trick: one call for the prover, which otherwise reads the drop of each search.
+    drop(searches);
+    tlids
+}
+
+/// Returns the kept chains and landmarks of a county, given the order of its chains by their shapes.
 ///
 /// # Errors
 ///
 /// `AllocError` if an allocation failed.
-pub(crate) fn kept_chains<C: Chart>(
+pub(crate) fn kept_parts<C: Chart>(
     alloc: Global,
     chart: &C,
     shape_order: &ShapeOrder,
-) -> Result<KeptChains, AllocError>
+) -> Result<Kept, AllocError>
     requires { LeavesChoices (C.county chart.now) shape_order.now }
     ensures tlids { IfOk result (λ kept. kept.tlids.items ≡ kept_tlids (C.county chart.now) shape_order.now) }
-    ensures linked { IfOk result (λ kept. kept.linked ≡ is_linked (C.county chart.now) shape_order.now) }
+    ensures lands { IfOk result (λ kept. kept.lands.items ≡ kept_lands (C.county chart.now) shape_order.now) }
 {
-    let linked = has_open_links(alloc, chart, shape_order)?;
-    let mut searches = searches_for(alloc, chart, shape_order, linked)?;
-    let tlids = kept_along(alloc, chart, shape_order, &mut searches);
-    // Trick: one call for the prover, which otherwise reads the drop of each search.
-    drop(searches);
-    Ok(KeptChains {
-        tlids: tlids?,
-        linked,
-    })
+    let landmarks = kept_landmarks(alloc, chart, shape_order)?;
+    let tlids = kept_chains(alloc, chart, shape_order, &landmarks)?;
+    let lands = keys_at(alloc, &Lands(chart), &landmarks)?;
+    Ok(Kept { tlids, lands })
 }

@@ -31,7 +31,7 @@ pub(crate) trait KeyGroups {
         ensures { OnOk result (keys.new.items ≡ group_at (groups self.now) place) };
 }
 
-fn push_if_some<K: Drop>(keys: &mut Vec<K>, key: Option<K>) -> Result<(), AllocError>
+pub(crate) fn push_if_some<K: Drop>(keys: &mut Vec<K>, key: Option<K>) -> Result<(), AllocError>
     ensures { OnOk result (keys.new.items ≡ keys.old.items ++ option_to_list key) }
 {
     if let Some(key) = key {

@@ -13,6 +13,7 @@ mod ascending_order;
 mod canonising;
 mod choice_search;
 mod county_part;
+mod kept_landmarks;
 mod kept_places;
 mod key_groups;
 mod key_search;

@@ -1,10 +1,10 @@
-//! Tables that describe a part of a county: some of its chains, with their names and polygons, and all of its landmarks or none.
+//! Tables that describe a part of a county: some of its chains, with their names and polygons, and some of its landmarks.
 
 ghost use Rattle.std.specs.Prelude.{IfOk, false, length, map, option_to_list, ◌<◌, ◌^◌, ◌≡◌};
 ghost use Rattle.std.specs.List.{list_any};
 ghost use Rattle.std.specs.Ordering.{nat_cmp};
 ghost use Rattle.canonical_form.specs.Growth.{first_seen};
-ghost use Rattle.county_chart.specs.CountyRules.{AllKeysContained, chain_nodes, chain_polygons, feats, polygon_keys, polygons_along, tlids as all_tlids};
+ghost use Rattle.county_chart.specs.CountyRules.{AllKeysContained, chain_nodes, chain_polygons, feats, polygon_keys, polygons_along};
 ghost use Rattle.county_chart.specs.PolygonKeys.{key_cmp};
 ghost use Rattle.ordered_lists.specs.Orders.{contains, distinct};
 ghost use Rattle.ordered_lists.specs.Places.{at_places};
@@ -13,11 +13,11 @@ ghost use Rattle.tl_number.specs.CountyParts.{HoldsPart, IsPicked, places_among}
 ghost use Rattle.tl_number.specs.KeysAlong.{keys_along};
 ghost use Rattle.tl_number.specs.NamesAlong.{chain_feats};
 
-use crate::kept_places::KeptChains;
+use crate::kept_places::Kept;
 use crate::key_groups::{FeatKeys, KeyGroups, NodeKeys, PolygonKeys};
 use crate::open_keys::{has_key, keys_of};
 use arranged_county::{Interner, NumericKey, both, if_done, marks_for};
-use county_chart::{Chart, DirectedChain, Feats, Listed, PolygonKey, Polygons, Tlids};
+use county_chart::{Chart, DirectedChain, Feats, Lands, Listed, PolygonKey, Polygons, Tlids};
 use ordered_lists::{Key, sort_distinct};
 use std::alloc::{AllocError, Global};
 use std::hash::Hash;
@@ -32,10 +32,11 @@ pub(crate) struct Picked<K: Drop> {
 /// Tables that describe a part of a county.
 #[derive(Drop)]
 pub(crate) struct PartTables {
-    pub(crate) kept: KeptChains,
+    pub(crate) kept: Kept,
     pub(crate) chains: Picked<u64>,
     pub(crate) names: Picked<u32>,
     pub(crate) polygons: Picked<PolygonKey>,
+    pub(crate) landmarks: Picked<u64>,
     /// The nodes at the ends of its chains, ascending.
     pub(crate) nodes: Vec<u64>,
 }
@@ -49,7 +50,7 @@ fn is_among<K: Key + Hash + NumericKey>(keys: &Interner<K>, key: Option<K>) -> b
     }
 }
 
-fn keys_at<L: Listed>(alloc: Global, all: &L, places: &[u32]) -> Result<Vec<L::Item>, AllocError>
+pub(crate) fn keys_at<L: Listed>(alloc: Global, all: &L, places: &[u32]) -> Result<Vec<L::Item>, AllocError>
 where
     L::Item: Drop,
     ensures { IfOk result (λ keys. keys.items ≡ at_places (L.items all.now) places.now) }
@@ -101,14 +102,19 @@ fn pick_named<K: Key + Hash + NumericKey, L: Listed<Item = K>, G: KeyGroups<Item
     pick(alloc, all, &wanted)
 }
 
-/// Returns the chains with these TLIDs, which may be in any order.
-fn chains_with<C: Chart>(alloc: Global, chart: &C, tlids: &[u64]) -> Result<Picked<u64>, AllocError>
-    ensures { IfOk result (IsPicked nat_cmp (first_seen nat_cmp tlids.now) (all_tlids (C.county chart.now))) }
+/// Picks these numbers of a list. They may be in any order.
+fn pick_these<L: Listed<Item = u64>>(
+    alloc: Global,
+    all: &L,
+    these: &[u64],
+) -> Result<Picked<u64>, AllocError>
+    requires { length (L.items all.now) < 2 ^ 32 }
+    ensures { IfOk result (IsPicked nat_cmp (first_seen nat_cmp these.now) (L.items all.now)) }
 {
-    let mut wanted = Interner::with_marks(alloc, marks_for(tlids.len()))?;
-    let seen = wanted.see_all(&tlids);
+    let mut wanted = Interner::with_marks(alloc, marks_for(these.len()))?;
+    let seen = wanted.see_all(&these);
     let wanted = if_done(wanted, seen)?;
-    pick(alloc, &Tlids(chart), &wanted)
+    pick(alloc, all, &wanted)
 }
 
 /// Returns the chains at places, in the directions that they have in the county.
@@ -159,13 +165,14 @@ fn names_and_polygons<C: Chart>(
 pub(crate) fn part_tables<C: Chart>(
     alloc: Global,
     chart: &C,
-    kept: KeptChains,
+    kept: Kept,
 ) -> Result<PartTables, AllocError>
     requires { AllKeysContained (polygons_along (C.county chart.now).chains) (polygon_keys (C.county chart.now)) }
     ensures kept { IfOk result (λ tables. tables.kept ≡ kept) }
     ensures holds { IfOk result (HoldsPart (C.county chart.now)) }
 {
-    let chains = chains_with(alloc, chart, &kept.tlids)?;
+    let chains = pick_these(alloc, &Tlids(chart), &kept.tlids)?;
+    let landmarks = pick_these(alloc, &Lands(chart), &kept.lands)?;
     let there = chains_at(alloc, &chains.places)?;
     let nodes = nodes_of(alloc, chart, &there)?;
     let (names, polygons) = names_and_polygons(alloc, chart, &there)?;
@@ -174,6 +181,7 @@ pub(crate) fn part_tables<C: Chart>(
         chains,
         names,
         polygons,
+        landmarks,
         nodes,
     })
 }

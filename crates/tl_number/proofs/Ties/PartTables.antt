@@ -1,8 +1,10 @@
 -- The tables of a part of a county hold its keys, and the places of its entries in the county.
-use Rattle.tl_number.proofs.Common.{AreReadAt, Body7, Bool, Chain, County, DirectedChain, HoldsPart, IfSome, IsKeyOrder, IsPicked, List, Option, Ordering, PartTables, PolygonKey, Some, [], ap, append-nil, ap₂, arith, at_places, bodies_at, chain_feats, chain_nodes, chain_polygons, cond, contains, contains_alike, distinct, distinct-in_order, distinct_same, entry_keys, entry_values, false, feats, feats_along, filter, first_seen, flat_map, from_first_seen, get_or, grouped, in_order-strict, key_cmp, key_keys, keys_along, lands, length, length-map, links_at, links_with, list_any, map, map-map, nat_cmp, nat_keys, nodes_along, option_map, option_to_list, part_with, places_among, polygon_keys, polygons_along, range_with_len, refl, slice_get, slice_get-map, slice_get_past, slice_get_within, subst, suc, sym, tlids, to_first_seen, true, turned_if, unwrap_or, zero, ℕ, ◌++◌, ◌<◌, ◌||◌, ◌∙◌, ◌∷◌, ◌≡◌}
+use Rattle.tl_number.proofs.Common.{AreReadAt, Body7, Bool, Chain, County, DirectedChain, Fields8, HoldsPart, IfSome, IsKeyOrder, IsPicked, List, None, Option, Ordering, PartTables, PolygonKey, Some, [], all_among, all_everywhere, all_map, among-get, ap, append-nil, ap₂, arith, at_places, bodies_at, chain_feats, chain_nodes, chain_polygons, contains, contains_alike, distinct, distinct-in_order, distinct_same, entry_keys, entry_values, eqb-true, false, feats, feats_along, filter, first_seen, flat_map, from_first_seen, get_or, grouped, in_order-strict, key_cmp, key_keys, keys_along, lands, length, length-map, links_at, links_with, list_any, map, map-map, nat_cmp, nat_keys, nodes_along, option_map, option_to_list, part_with, places_among, polygon_keys, polygons_along, range_with_len, refl, slice_get, slice_get-map, slice_get_past, slice_get_within, subst, suc, sym, tlids, to_first_seen, true, turned_if, unwrap_or, zero, ℕ, ◌++◌, ◌<◌, ◌==◌, ◌||◌, ◌∙◌, ◌∷◌, ◌≡◌}
+use Rattle.arranged_county.proofs.Names.NameOrder.{filter_map_all}
+use Rattle.tl_number.proofs.Ties.CountyParts.{all_pass}
+use Rattle.tl_number.proofs.Ties.PartChoices.{filter_narrower}
 use Rattle.tl_number.proofs.Ties.Places.{marked_read}
 use Rattle.tl_number.specs.CountyParts.{part_of}
-use Rattle.arranged_county.proofs.Names.NameOrder.{filter_map_all}
 
 -- what is read at places is read at one of them
 read_there : {X : Type 0} (xs : List X) (places : List ℕ) (ys : List X) → AreReadAt xs places ys → (place : ℕ)
@@ -85,10 +87,13 @@ pub tables_hold : (county : County) (tables : PartTables) (chains : List Directe
     → tables.nodes.items ≡ distinct nat_cmp (first_seen nat_cmp (grouped (keys_along chain_nodes county chains)))
     → IsPicked nat_cmp (first_seen nat_cmp (grouped (keys_along chain_feats county chains))) (feats county) tables.names
     → IsPicked key_cmp (first_seen key_cmp (grouped (keys_along chain_polygons county chains))) (polygon_keys county) tables.polygons
+    → IsPicked nat_cmp (first_seen nat_cmp tables.kept.lands.items) (lands county) tables.landmarks
     → HoldsPart county tables
 unfolding part_of
-tables_hold county tables chains picked there nodes names polygons =
+tables_hold county tables chains picked there nodes names polygons landmarks =
     let used : List ℕ = tables.kept.tlids.items in
+    let used_lands : List ℕ = tables.kept.lands.items in
+    let same_lands = λ (k : ℕ). seen_known nat_keys used_lands k in
     let kept : List (ℕ × Chain) = filter (λ entry. contains nat_cmp entry.0 used) county.chains in
     let read : AreReadAt county.chains tables.chains.places.items kept =
     subst (λ places. AreReadAt county.chains places kept) (sym picked.places)
@@ -107,57 +112,52 @@ tables_hold county tables chains picked there nodes names polygons =
       keys = polygons.keys ∙ picked_keys key_cmp _ (polygons_along kept) same_sides county.polygons;
       polygons = subst (λ places. AreReadAt county.polygons places (filter (λ polygon. contains key_cmp polygon.0 (polygons_along kept)) county.polygons))
           (sym polygons.places) (picked_read key_cmp _ (polygons_along kept) same_sides county.polygons);
+      lands = landmarks.keys ∙ picked_keys nat_cmp (first_seen nat_cmp used_lands) used_lands same_lands county.landmarks;
+      landmarks = subst (λ places. AreReadAt county.landmarks places (filter (λ landmark. contains nat_cmp landmark.0 used_lands) county.landmarks))
+          (sym landmarks.places) (picked_read nat_cmp (first_seen nat_cmp used_lands) used_lands same_lands county.landmarks);
       nodes = nodes ∙ distinct_same nat_keys (first_seen nat_cmp (grouped (keys_along chain_nodes county chains))) (nodes_along kept)
           (λ k. seen_known nat_keys (grouped (keys_along chain_nodes county chains)) k ∙ ap (contains nat_cmp k) along_nodes);
     }
 
--- A part has all landmarks and links of the county, or none.
-module _ (county : County) (tables : PartTables) where
-  pub part_lands : lands (part_with county tables) ≡ cond tables.kept.linked (lands county) []
+-- A landmark of a part is read at its place in the county, or past the end, with all its links.
+module _ (county : County) (tables : PartTables) (read : AreReadAt county.landmarks tables.landmarks.places.items (part_with county tables).landmarks)
+    (place there : ℕ) (is : there ≡ get_or tables.landmarks.places.items place (length county.landmarks)) where
+  landmark_read : slice_get county.landmarks there ≡ slice_get (part_with county tables).landmarks place
+  landmark_read = ap (slice_get county.landmarks) is
+      ∙ read_there county.landmarks tables.landmarks.places.items (part_with county tables).landmarks read place
+
+  field_read : {X : Type 0} (f : ℕ × List Body7 → X)
+      → slice_get (map f county.landmarks) there ≡ slice_get (map f (part_with county tables).landmarks) place
+  field_read f = slice_get-map f county.landmarks there ∙ ap (option_map f) landmark_read
+      ∙ sym (slice_get-map f (part_with county tables).landmarks place)
+
+  pub land_read : slice_get (lands county) there ≡ slice_get (lands (part_with county tables)) place
+  land_read = field_read (λ entry. entry.0)
+
+  pub bodies_read : bodies_at county there ≡ bodies_at (part_with county tables) place
+  bodies_read = ap (λ o. unwrap_or o []) (field_read (λ entry. entry.1))
+
+  pub links_read : links_at county there ≡ links_at (part_with county tables) place
   unfolding part_of
-  part_lands = go tables.kept.linked
+  links_read = ap (links_with county.links) land_read ∙ go (slice_get (lands (part_with county tables)) place) refl
     where
-      go : (b : Bool) → map (λ (entry : ℕ × List Body7). entry.0) (cond b county.landmarks []) ≡ cond b (lands county) []
-      go true = refl
-      go false = refl
+      keeps : ℕ → Bool
+      keeps land = contains nat_cmp land tables.kept.lands.items
 
-  pub part_land_count : {count : ℕ} → count ≡ cond tables.kept.linked (length county.landmarks) 0 → count ≡ length (part_with county tables).landmarks
-  unfolding part_of
-  part_land_count is = is ∙ go tables.kept.linked
-    where
-      go : (b : Bool) → cond b (length county.landmarks) 0 ≡ length (cond b county.landmarks [])
-      go true = refl
-      go false = refl
+      part_landmarks : List (ℕ × List Body7)
+      part_landmarks = filter (λ (e : ℕ × List Body7). keeps e.0) county.landmarks
 
-  -- A landmark is read at its place in the county, or past the end
-  module _ (place there : ℕ) (is : there ≡ cond tables.kept.linked place (length county.landmarks)) where
-    landmark_read : slice_get county.landmarks there ≡ slice_get (part_with county tables).landmarks place
-    unfolding part_of
-    landmark_read = ap (slice_get county.landmarks) is ∙ go tables.kept.linked
-      where
-        go : (b : Bool) → slice_get county.landmarks (cond b place (length county.landmarks)) ≡ slice_get (cond b county.landmarks []) place
-        go true = refl
-        go false = slice_get_past county.landmarks (length county.landmarks) (omega arith)
+      kept : (land : ℕ) → slice_get (lands (part_with county tables)) place ≡ Some land → keeps land ≡ true
+      kept land e = all_among (λ k. keeps k ≡ true) land (lands (part_with county tables))
+          (all_map (λ k. keeps k ≡ true) (λ (e : ℕ × List Body7). e.0) part_landmarks (all_pass (λ (e : ℕ × List Body7). keeps e.0) county.landmarks))
+          (among-get (lands (part_with county tables)) place land e)
 
-    field_read : {X : Type 0} (f : ℕ × List Body7 → X)
-        → slice_get (map f county.landmarks) there ≡ slice_get (map f (part_with county tables).landmarks) place
-    field_read f = slice_get-map f county.landmarks there ∙ ap (option_map f) landmark_read
-        ∙ sym (slice_get-map f (part_with county tables).landmarks place)
-
-    pub land_read : slice_get (lands county) there ≡ slice_get (lands (part_with county tables)) place
-    land_read = field_read (λ entry. entry.0)
-
-    pub bodies_read : bodies_at county there ≡ bodies_at (part_with county tables) place
-    bodies_read = ap (λ o. unwrap_or o []) (field_read (λ entry. entry.1))
-
-    pub links_read : links_at county there ≡ links_at (part_with county tables) place
-    unfolding part_of
-    links_read = ap (links_with county.links) land_read ∙ go tables.kept.linked
-      where
-        go : (b : Bool) → links_with county.links (slice_get (map (λ (entry : ℕ × List Body7). entry.0) (cond b county.landmarks [])) place)
-            ≡ links_with (cond b county.links []) (slice_get (map (λ (entry : ℕ × List Body7). entry.0) (cond b county.landmarks [])) place)
-        go true = refl
-        go false = refl
+      go : (o : Option ℕ) → slice_get (lands (part_with county tables)) place ≡ o
+          → links_with county.links o ≡ links_with (filter (λ (link : Fields8). keeps link.land) county.links) o
+      go None e = refl
+      go (Some land) e = sym (filter_narrower (λ (link : Fields8). keeps link.land) (λ (link : Fields8). link.land == land) county.links
+          (all_everywhere (λ (link : Fields8). (link.land == land) ≡ true → keeps link.land ≡ true)
+          (λ link f. ap keeps (eqb-true link.land land f) ∙ kept land e) county.links))
 
 -- ---- what the calls of a part need
 

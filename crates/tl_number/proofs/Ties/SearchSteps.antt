@@ -1,10 +1,9 @@
 -- Finding the open keys and the kept chains, step by step.
-use Rattle.tl_number.specs.SmallCounty.{has_open_link}
-use Rattle.tl_number.proofs.Common.{Bool, Chain, County, Fields8, IsCounty, IsKeyOrder, IsPermutation, IsPermutation-map, IsPermutation-refl, IsSearchAt, List, OpenPlace, Option, OrderOfShapes, Ordering, PolygonKey, Some, [], among_any, among_known, any_among, ap, append-nil, append_assoc, ap₂, arith, at_places, brings, chain_polygons, cond, cons_option, contains, contains_alike, directed_chain, drop, drop_more, false, false≢true, filter, filter-append, first_open, first_seen, first_seen_after, fixed_keys, flat_map, from_first_seen, get_or, group_at, grouped, has_new, is_open, key_cmp, key_keys, keys_along, keys_at_open, known_is_among, length, link_key, link_keys, links_at, list_any, lt-ltb, ltb-true, map, map-append, map-at_places, map-id, met_before, nat_lt, newly_seen, not, open_among, open_keys, option_to_list, permuted, range_with_len, refl, seen_append, slice_get, subst, sym, times, times-append, times-filter, times-permutation, to_first_seen, true, unwrap_or, unwrap_or-slice_get, ℕ, ◌&&◌, ◌++◌, ◌+◌, ◌<◌, ◌||◌, ◌∙◌, ◌∷◌, ◌≡◌}
-use Rattle.tl_number.proofs.Ties.Keys.{fixed_more, groups_at, newly_append, seen_newly}
-use Rattle.tl_number.proofs.Ties.PartTables.{seen_known}
+use Rattle.tl_number.proofs.Common.{Bool, Chain, County, IsKeyOrder, IsSearchAt, List, OpenPlace, Option, OrderOfShapes, Ordering, Some, [], ap, append-nil, append_assoc, ap₂, arith, at_places, brings, cond, cons_option, contains, contains_alike, directed_chain, drop, drop_more, false, filter, filter-append, first_seen, first_seen_after, fixed_keys, flat_map, from_first_seen, get_or, group_at, grouped, has_new, is_open, keys_along, keys_at_open, length, list_any, map-at_places, map-id, met_before, nat_lt, newly_seen, not, open_among, open_keys, option_to_list, range_with_len, refl, seen_append, slice_get, sym, times, times-filter, to_first_seen, true, unwrap_or, unwrap_or-slice_get, ℕ, ◌&&◌, ◌++◌, ◌+◌, ◌<◌, ◌∙◌, ◌∷◌, ◌≡◌}
 use Rattle.std.proofs.lemmas.List.Elements.{filter_map-append}
 use Rattle.std.proofs.lemmas.List.FromFn.{filter_of_map_range_with_len_more}
+use Rattle.tl_number.proofs.Ties.Keys.{fixed_more, groups_at, newly_append, seen_newly}
+use Rattle.tl_number.proofs.Ties.PartTables.{seen_known}
 
 -- the elements from a place on, the first of them apart
 pub one_dropped : {Y : Type 0} (ys : List Y) (i : ℕ) (y : Y) → i < length ys → y ≡ get_or ys i y → drop i ys ≡ y ∷ drop (i + 1) ys
@@ -122,22 +121,6 @@ module _ {X : Type 0} (xs : List X) (test : ℕ → Bool) where
 -- ---- searching keys
 
 module _ {K : Type 0} {cmp : K → K → Ordering} (o : IsKeyOrder cmp) where
-  -- two lists have a key in common
-  common_key : (xs ys : List K) → list_any (λ x. contains cmp x ys) xs ≡ true → list_any (λ y. contains cmp y xs) ys ≡ true
-  common_key xs ys e =
-      let found = any_among (λ x. contains cmp x ys) xs e in
-      among_any (λ y. contains cmp y xs) found.0 ys (known_is_among o found.0 ys (ltb-true 0 (times cmp found.0 ys) found.2))
-      (lt-ltb 0 (times cmp found.0 xs) (among_known o found.0 xs found.1))
-
-  pub in_common : (xs ys : List K) → list_any (λ x. contains cmp x ys) xs ≡ list_any (λ y. contains cmp y xs) ys
-  in_common xs ys = go (list_any (λ x. contains cmp x ys) xs) (list_any (λ y. contains cmp y xs) ys) (common_key xs ys) (common_key ys xs)
-    where
-      go : (b c : Bool) → (b ≡ true → c ≡ true) → (c ≡ true → b ≡ true) → b ≡ c
-      go true true f g = refl
-      go true false f g = absurd (false≢true (f refl))
-      go false true f g = absurd (false≢true (g refl))
-      go false false f g = refl
-
   module _ {places : List OpenPlace} {keys : List K} {along : List (List K)} where
     -- a search begins with nothing met
     pub search_starts : (seen : List K) {wanted met : List K} → wanted ≡ first_seen cmp seen
@@ -163,52 +146,6 @@ module _ {K : Type 0} {cmp : K → K → Ordering} (o : IsKeyOrder cmp) where
         same = λ k. ap (contains cmp k) w ∙ at.same k;
         before = m ∙ (λ i. met_before cmp (p i) (sym w i) (a i) (place + 1));
       }
-
--- ---- landmarks
-
--- landmark by landmark, the links give the polygons of all links
-link_keys_mapped : (f : ℕ → List Fields8) (places : List ℕ)
-    → map link_key (flat_map (λ place. map (λ (link : Fields8). link) (f place)) places) ≡ flat_map (λ place. map link_key (f place)) places
-link_keys_mapped f [] = refl
-link_keys_mapped f (p ∷ ps) = map-append link_key (map (λ (link : Fields8). link) (f p)) (flat_map (λ place. map (λ (link : Fields8). link) (f place)) ps)
-    ∙ ap₂ (λ xs ys. xs ++ ys) (ap (map link_key) (map-id (f p))) (link_keys_mapped f ps)
-
-link_keys_there : (county : County) (is : IsCounty county) → IsPermutation (link_keys county) (map link_key county.links)
-link_keys_there county is =
-    let places : List ℕ = range_with_len 0 (length county.landmarks) in
-    let all : List Fields8 = flat_map (λ place. map (λ (link : Fields8). link) (links_at county place)) places in
-    subst (λ ks. IsPermutation ks (map link_key county.links)) (link_keys_mapped (links_at county) places)
-    (IsPermutation-map link_key all county.links
-    (subst (IsPermutation all) (map-id county.links) (permuted county is (λ link. link) places (IsPermutation-refl places))))
-
--- so the same keys are wanted
-pub linked_alike : (county : County) (is : IsCounty county) (linked : Bool) (keys : List PolygonKey) (k : PolygonKey)
-    → contains key_cmp k (keys ++ cond linked (link_keys county) []) ≡ contains key_cmp k (keys ++ cond linked (map link_key county.links) [])
-linked_alike county is linked keys k = ap (nat_lt 0)
-    (times-append key_keys k keys (cond linked (link_keys county) [])
-    ∙ ap (λ n. times key_cmp k keys + n) (go linked)
-    ∙ sym (times-append key_keys k keys (cond linked (map link_key county.links) [])))
-  where
-    go : (b : Bool) → times key_cmp k (cond b (link_keys county) []) ≡ times key_cmp k (cond b (map link_key county.links) [])
-    go true = sym (times-permutation key_keys k (link_keys county) (map link_key county.links) (link_keys_there county is))
-    go false = refl
-
-any_mapped : {X Y : Type 0} (f : X → Y) (test : Y → Bool) (xs : List X) → list_any test (map f xs) ≡ list_any (λ x. test (f x)) xs
-any_mapped f test [] = refl
-any_mapped f test (x ∷ xs) = ap (λ b. test (f x) || b) (any_mapped f test xs)
-
--- whether one of the polygons of landmarks first appears at an open place
-pub linked_if_any : (county : County) (shapes : OrderOfShapes) (is : IsCounty county) (links opened : List PolygonKey)
-    → links ≡ first_seen key_cmp (link_keys county) → opened ≡ first_open key_cmp shapes.places (keys_along chain_polygons county shapes.by_shape)
-    → list_any (λ k. contains key_cmp k links) opened
-    ≡ has_open_link county (first_open key_cmp shapes.places (keys_along chain_polygons county shapes.by_shape))
-linked_if_any county shapes is links opened seen first =
-    let opens : List PolygonKey = first_open key_cmp shapes.places (keys_along chain_polygons county shapes.by_shape) in
-    (λ i. list_any (λ k. contains key_cmp k (seen i)) (first i))
-    ∙ (λ i. list_any (λ k. seen_known key_keys (link_keys county) k i) opens)
-    ∙ (λ i. list_any (λ k. linked_alike county is true [] k i) opens)
-    ∙ in_common key_keys opens (map link_key county.links)
-    ∙ any_mapped link_key (λ k. contains key_cmp k opens) county.links
 
 -- the keys of the chains at open places
 pub keys_open : {K : Type 0} (keys : Chain → List K) (county : County) (shapes : OrderOfShapes)

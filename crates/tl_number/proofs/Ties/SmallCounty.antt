@@ -1,10 +1,12 @@
 -- The small county is a county within limits, and each of its choices has the chains that the county's choice has at kept places.
-use Rattle.tl_number.proofs.Common.{AllByRecursion, AllKeysContained, Among, AreWhole, Bool, Chain, County, DirectedChain, HasChainsOf, IsApart, IsCounty, IsShapeOrder, IsTrue, IsWithinLimits, Known, LeavesChoices, List, Option, OrderOfShapes, PolygonKey, Some, [], all_among, all_weaker, among-get, among-map, among-pieces, among-turned, among-unmap, among-unpieces, among_known, among_right, ap, apart_from_sorted, append-nil, arith, arrangement_apart, arrangement_ascend, arrangement_known, arrangement_of, arrangement_of_number, arrangement_there, ascending, at_places, brings, cases_Bool, chain_nodes, chain_polygons, chains, choices, cond, contains, contains-among, directed_chain, directed_shape, each_from, entries_of, false, filter, flat_map, group_at, inl, inr, is_either_way, is_kept, is_linked, is_open, kept_tlids, key_cmp, key_keys, keys_along, keys_at_open, known-permutation, known_is_among, length, length-map, link_key, lt-ltb, map, map-at_places, map-map, most_choices, most_records, nat_cmp, nat_keys, numbered_arrangement, numbered_choice, numbered_is_choice, one_chain, one_entry, one_here, open_places, option_map, option_to_list, or_left, or_parts, or_right, places_within, points_cmp, points_keys, polygon_keys, polygons-unturned, polygons_along, range_with_len, refl, shapes_arrange, shapes_ascending, shapes_of_order, slice_get, slice_get-get_or, slice_get-map, some_at, subst, sym, times, tlid_at, tlids, to_filter, true, turned_directed, turned_if, unwrap_or, wanted_nodes, wanted_polygons, ℕ, ◌++◌, ◌+◌, ◌<◌, ◌∙◌, ◌∷◌, ◌≡◌, ◌≤◌, ◌⊎◌}
+use Rattle.tl_number.proofs.Common.{AllByRecursion, AllKeysContained, Among, AreWhole, Bool, Chain, County, DirectedChain, Fields8, HasChainsOf, IsApart, IsCounty, IsShapeOrder, IsTrue, IsWithinLimits, Known, LeavesChoices, List, Option, OrderOfShapes, PolygonKey, Some, [], all_among, all_weaker, among-get, among-map, among-pieces, among-turned, among-unmap, among-unpieces, among_known, ap, apart_from_sorted, append-nil, arith, arrangement_apart, arrangement_ascend, arrangement_known, arrangement_of, arrangement_of_number, arrangement_there, ascending, at_places, brings, cases_Bool, chain_nodes, chain_polygons, chains, choices, contains, contains-among, directed_chain, directed_shape, each_from, entries_of, false, filter, flat_map, group_at, inl, inr, is_either_way, is_kept, is_open, kept_lands, kept_tlids, key_cmp, key_keys, keys_along, known-permutation, known_is_among, length, length-map, link_key, lt-ltb, map, map-at_places, map-map, most_choices, most_records, nat_cmp, nat_keys, numbered_arrangement, numbered_choice, numbered_is_choice, one_chain, one_entry, one_here, open_places, option_map, option_to_list, or_left, or_parts, or_right, places_within, points_cmp, points_keys, polygon_keys, polygons-unturned, polygons_along, range_with_len, refl, shapes_arrange, shapes_ascending, shapes_of_order, slice_get, slice_get-get_or, slice_get-map, some_at, subst, sym, times, tlid_at, tlids, to_filter, true, turned_directed, turned_if, unwrap_or, wanted_nodes, wanted_polygons, ℕ, ◌++◌, ◌+◌, ◌<◌, ◌∙◌, ◌∷◌, ◌≡◌, ◌≤◌, ◌⊎◌}
 use Rattle.tl_number.proofs.Ties.CountyParts.{all_pass, part_is, part_sides, part_within}
+use Rattle.tl_number.proofs.Ties.KeptLandmarks.{link_wanted}
+use Rattle.tl_number.proofs.Ties.Keys.{fixed_before}
+use Rattle.tl_number.proofs.Ties.ListsAlike.{among_filtered}
+use Rattle.tl_number.proofs.Ties.OrderedCounty.{link_on_side}
 use Rattle.tl_number.proofs.Ties.PartChoices.{KeepsOpen, ascending_ordered, choice_flags, choice_part, choices_part, entries_part, keeps_open}
 use Rattle.tl_number.proofs.Ties.Places.{AreMarked, marked_alike, marked_keys, pieces_places}
-use Rattle.tl_number.proofs.Ties.Keys.{fixed_before}
-use Rattle.tl_number.proofs.Ties.OrderedCounty.{link_on_side}
 use Rattle.tl_number.specs.CountyParts.{part_of}
 use Rattle.tl_number.specs.SmallCounty.{kept_places, small_county}
 
@@ -142,29 +144,28 @@ module _ (county : County) (shapes : OrderOfShapes) (known : LeavesChoices count
           (subst (Among k) (sides_at first.first other.0 own.0 own.1) (known_is_among key_keys k (group_at along first.first) first.here)))
 
   -- So all polygons of kept landmarks are on kept chains.
-  pub links_on_sides : is_linked county shapes ≡ true → AllByRecursion (λ link. IsTrue (contains key_cmp (link_key link)
-      (polygons_along (filter (λ entry. keeps entry.0) county.chains)))) county.links
-  links_on_sides e = each_from (λ link. IsTrue (contains key_cmp (link_key link) (polygons_along kept_chains))) county.links
-      (λ link m. lt-ltb 0 (times key_cmp (link_key link) (polygons_along kept_chains)) (on_sides (link_key link)
-      (lt-ltb 0 (times key_cmp (link_key link) (wanted_polygons county shapes)) (among_known key_keys (link_key link) (wanted_polygons county shapes)
-      (subst (λ b. Among (link_key link) (keys_at_open chain_polygons county shapes ++ cond b (map link_key county.links) [])) (sym e)
-      (among_right (link_key link) (keys_at_open chain_polygons county shapes) (map link_key county.links) (among-map link_key link county.links m)))))
-      (link_on_side county is known.sides link m)))
+  pub links_on_sides : AllByRecursion (λ link. IsTrue (contains key_cmp (link_key link) (polygons_along (filter (λ entry. keeps entry.0) county.chains))))
+      (filter (λ link. contains nat_cmp link.land (kept_lands county shapes)) county.links)
+  links_on_sides = each_from (λ link. IsTrue (contains key_cmp (link_key link) (polygons_along kept_chains)))
+      (filter (λ link. contains nat_cmp link.land (kept_lands county shapes)) county.links)
+      (λ link m. (let found = among_filtered (λ (l : Fields8). contains nat_cmp l.land (kept_lands county shapes)) link county.links m in
+      lt-ltb 0 (times key_cmp (link_key link) (polygons_along kept_chains)) (on_sides (link_key link)
+      (link_wanted county shapes link found.0 found.1) (link_on_side county is known.sides link found.0))))
 
   -- The small county is a county,
   pub small_is : IsCounty small
   unfolding small_county
-  small_is = part_is county (λ entry. keeps entry.0) (is_linked county shapes) is links_on_sides
+  small_is = part_is county (λ entry. keeps entry.0) (kept_lands county shapes) is links_on_sides
 
   -- all its polygons are on sides,
   pub small_sides : AllKeysContained (polygons_along small.chains) (polygon_keys small)
   unfolding small_county
-  small_sides = part_sides county (λ entry. keeps entry.0) (is_linked county shapes) is
+  small_sides = part_sides county (λ entry. keeps entry.0) (kept_lands county shapes) is
 
   -- it's within limits,
   pub small_within : IsWithinLimits most_records county → IsWithinLimits most_records small
   unfolding small_county
-  small_within within = part_within county (λ entry. keeps entry.0) (is_linked county shapes) most_records within
+  small_within within = part_within county (λ entry. keeps entry.0) (kept_lands county shapes) most_records within
 
   -- it leaves as many choices,
   pub small_choices : choices small ≡ choices county

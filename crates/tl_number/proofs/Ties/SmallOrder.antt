@@ -1,22 +1,24 @@
 -- Two choices are in one order in a county and in its small county.
-use Rattle.tl_number.proofs.Common.{AllByRecursion, Among, Bool, County, DirectedChain, Eight, Equal, Fields8, Five, IsLeastBelow, IsPermutation-sym, IsShapeOrder, IsTotalOrder, Known, LeavesChoices, List, OrderOfShapes, PolygonKey, Two, [], all_weaker, along_shapes, among-map, among_any, among_known, and_cases, ap, arranged, chain_polygons, choices, choices_cmp, cond, contains, counted_choices, directed_cmp, false, false_from_ne_true, false≢true, feats, first_open, groups_cmp, in_order, in_order-in_order, in_order-is_permutation, inl, inr, is_either_way, is_gt, is_kept, is_linked, is_open, kept_tlids, key_cmp, key_keys, keys_along, keys_at_open, known-left, known-right, link_key, lt-ltb, map, name_under, nat_cmp, nat_cmp_total, nat_keys, on_total, open_places, or_left, or_parts, or_right, ordering_then, packed, place_in, points_along, points_cmp, points_keys, polygon_under, polygons_along, refl, same_groups, slice_cmp, subst, sym, text_of, texts_in_order, then_total, times, true, type_2_by_chain, type_5_by_name, type_8_together, types_1_to_4_cmp, types_5_to_7_cmp, types_8_to_p_cmp, wanted_feats, wanted_nodes, wanted_polygons, ℕ, ◌+◌, ◌<◌, ◌∙◌, ◌≡◌, ◌⊎◌}
+use Rattle.tl_number.proofs.Common.{AllByRecursion, Among, Bool, County, DirectedChain, Eight, Equal, Fields8, Five, IsLeastBelow, IsPermutation-sym, IsShapeOrder, IsTotalOrder, Known, LeavesChoices, List, OrderOfShapes, PolygonKey, Two, all_weaker, along_shapes, ap, arranged, chain_polygons, choices, choices_cmp, contains, counted_choices, directed_cmp, false, feats, filter, groups_cmp, in_order, in_order-in_order, in_order-is_permutation, inl, inr, is_either_way, is_gt, is_kept, is_open, keeps_landmark, kept_lands, kept_tlids, key_cmp, key_keys, keys_at_open, known-left, link_key, lt-ltb, map, moves_polygons, name_under, nat_cmp, nat_cmp_total, nat_keys, on_total, open_places, opened_polygons, or_left, or_parts, or_right, ordering_then, packed, place_in, points_along, points_cmp, points_keys, polygon_under, polygons_along, refl, same_groups, slice_cmp, subst, sym, text_of, texts_in_order, then_total, times, type_2_by_chain, type_5_by_name, type_8_together, types_1_to_4_cmp, types_5_to_7_cmp, types_8_to_p_cmp, wanted_feats, wanted_nodes, wanted_polygons, ℕ, ◌+◌, ◌<◌, ◌∙◌, ◌≡◌, ◌⊎◌}
 use Rattle.record_groups.specs.TypeOneOrder.{ones_cmp}
-use Rattle.tl_number.specs.LeastOnes.{HaveLeast, HaveSameOnes}
 use Rattle.tl_number.proofs.Choices.LeastOnes.{by_ones}
-use Rattle.tl_number.proofs.Ties.KeyKinds.{AreSeenAlike, name_kind, node_kind, numbered_alike, opened_in, polygon_kind, polygon_number, seen_alike, seen_in, unopened_stays}
-use Rattle.tl_number.proofs.Ties.OrderedCounty.{IsKeptPart, OrderedCounty, arranges_in, choice, link_on_side, new_in, one_map, order_in, stated, whole_in}
-use Rattle.tl_number.proofs.Ties.SmallCounty.{small_chains, small_choices, small_is, small_leaves, small_within}
-use Rattle.tl_number.proofs.Ties.SmallKeys.{AreWanted, fours_small, topologies_small}
-use Rattle.tl_number.proofs.Ties.SmallPolygons.{eights_tie, linked_alike, polygon_records_small, sevens_tie}
-use Rattle.tl_number.proofs.Ties.SmallRecords.{ones_small, sixes_small}
-use Rattle.tl_number.proofs.Ties.WantedNames.{names_alike, part_contents}
 use Rattle.tl_number.proofs.Names.ContentFirst.{same_type_5}
 use Rattle.tl_number.proofs.Texts.SamePoints.{twos_of_numbers}
+use Rattle.tl_number.proofs.Ties.KeptLandmarks.{landmark_kept, link_closed, link_wanted}
+use Rattle.tl_number.proofs.Ties.KeyKinds.{AreSeenAlike, name_kind, node_kind, numbered_alike, opened_in, polygon_kind, polygon_number, seen_alike, seen_in, unopened_stays}
 use Rattle.tl_number.proofs.Ties.ListsAlike.{value_filtered}
+use Rattle.tl_number.proofs.Ties.OrderedCounty.{IsKeptPart, OrderedCounty, arranges_in, choice, link_on_side, new_in, one_map, order_in, stated, whole_in}
 use Rattle.tl_number.proofs.Ties.Ranks.{reordered_all}
-use Rattle.tl_number.specs.CountyParts.{part_of}
+use Rattle.tl_number.proofs.Ties.SmallCounty.{small_chains, small_choices, small_is, small_leaves, small_within}
+use Rattle.tl_number.proofs.Ties.SmallKeys.{AreWanted, fours_small, topologies_small}
+use Rattle.tl_number.proofs.Ties.SmallLandmarks.{links_alike, sevens_tie}
+use Rattle.tl_number.proofs.Ties.SmallPolygons.{polygon_records_small}
+use Rattle.tl_number.proofs.Ties.SmallRecords.{ones_small, sixes_small}
 use Rattle.tl_number.proofs.Ties.StillKeys.{seen_still}
-use Rattle.tl_number.specs.SmallCounty.{has_open_link, moves_polygons, small_county}
+use Rattle.tl_number.proofs.Ties.WantedNames.{names_alike, part_contents}
+use Rattle.tl_number.specs.CountyParts.{part_of}
+use Rattle.tl_number.specs.LeastOnes.{HaveLeast, HaveSameOnes}
+use Rattle.tl_number.specs.SmallCounty.{small_county}
 
 -- the chains in the directions of their shapes, put in order, their open places, and how many choices these leave
 abbrev pub own_order : County → OrderOfShapes
@@ -67,11 +69,12 @@ module _ (c : OrderedCounty) (n k : ℕ) where
   fives_tie = same_groups Five (type_5_by_name (choice c n)) (type_5_by_name (choice c k))
       (same_type_5 c.county c.is (order_in c n) (order_in c k) (arranges_in c n) (arranges_in c k))
 
--- a small county has all landmarks with their links, or none
-landmarks_kept : (county : County) (shapes : OrderOfShapes) (b : Bool) → is_linked county shapes ≡ b
-    → ((small_county county shapes).landmarks ≡ cond b county.landmarks []) × ((small_county county shapes).links ≡ cond b county.links [])
+-- a small county has the kept landmarks with their links
+landmarks_kept : (county : County) (shapes : OrderOfShapes)
+    → ((small_county county shapes).landmarks ≡ filter (λ e. contains nat_cmp e.0 (kept_lands county shapes)) county.landmarks)
+    × ((small_county county shapes).links ≡ filter (λ link. contains nat_cmp link.land (kept_lands county shapes)) county.links)
 unfolding small_county part_of
-landmarks_kept county shapes b e = ((λ i. cond (e i) county.landmarks []), (λ i. cond (e i) county.links []))
+landmarks_kept county shapes = (refl, refl)
 
 -- its polygons keep their content
 contents_kept : (county : County) (shapes : OrderOfShapes) (key : PolygonKey) → Known key_cmp (polygons_along (small_county county shapes).chains) key
@@ -85,7 +88,7 @@ contents_kept county shapes key known =
 names_kept : (county : County) (shapes : OrderOfShapes) (k : ℕ) → Known nat_cmp (feats (small_county county shapes)) k
     → name_under (small_county county shapes) k ≡ name_under county k
 unfolding small_county
-names_kept county shapes = part_contents county (λ entry. contains nat_cmp entry.0 (kept_tlids county shapes)) (is_linked county shapes)
+names_kept county shapes = part_contents county (λ entry. contains nat_cmp entry.0 (kept_tlids county shapes)) (kept_lands county shapes)
 
 -- A county and its small county, with an order of its own.
 module _ (whole : OrderedCounty) (order : OrderOfShapes) (small_known : LeavesChoices (small_county whole.county whole.shapes) order) where
@@ -149,41 +152,26 @@ module _ (whole : OrderedCounty) (order : OrderOfShapes) (small_known : LeavesCh
     kept = λ place e. or_right (is_open whole.shapes.places place) _ (or_right _ _ (or_right _ _ e));
   }
 
-  -- Links compare alike. If the small county has landmarks, the polygons of all links are wanted.
-  wanted_links : is_linked whole.county whole.shapes ≡ true → (link : Fields8) → Among link whole.county.links
-      → contains key_cmp (link_key link) (wanted_polygons whole.county whole.shapes) ≡ true
-  wanted_links linked link there = lt-ltb 0 (times key_cmp (link_key link) (wanted_polygons whole.county whole.shapes))
-      (known-right key_keys (link_key link) (keys_at_open chain_polygons whole.county whole.shapes) _
-      (subst (λ b. Known key_cmp (cond b (map link_key whole.county.links) []) (link_key link)) (sym linked)
-      (among_known key_keys (link_key link) (map link_key whole.county.links) (among-map link_key link whole.county.links there))))
-
-  -- otherwise no link has a polygon whose number differs: open places move no polygons, or none that a link has first appears at one
-  closed_links : is_linked whole.county whole.shapes ≡ false → (n k : ℕ) (link : Fields8) → Among link whole.county.links
+  -- No link of another landmark has a polygon whose number differs: open places move no polygons, or none that the landmark has first appears
+  -- at one.
+  closed_links : (n k : ℕ) (link : Fields8) → Among link whole.county.links → contains nat_cmp link.land (kept_lands whole.county whole.shapes) ≡ false
       → polygon_number (new_in whole n) (link_key link) ≡ polygon_number (new_in whole k) (link_key link)
-  closed_links unlinked n k link there =
+  closed_links n k link there out =
       let known = link_on_side whole.county whole.is whole.known.sides link there in
       polygon_kind.number_is whole n (link_key link) (polygon_kind.listed whole n (link_key link) known)
-      ∙ ap (λ p. 1 + p) (stays (and_cases (moves_polygons whole.county whole.shapes) (has_open_link whole.county opened) unlinked))
+      ∙ ap (λ p. 1 + p) (stays (link_closed whole.county whole.shapes whole.is link there out))
       ∙ sym (polygon_kind.number_is whole k (link_key link) (polygon_kind.listed whole k (link_key link) known))
     where
-      opened : List PolygonKey
-      opened = first_open key_cmp whole.shapes.places (keys_along chain_polygons whole.county whole.shapes.by_shape)
-
-      stays : (moves_polygons whole.county whole.shapes ≡ false) ⊎ (has_open_link whole.county opened ≡ false)
+      stays : (moves_polygons whole.county whole.shapes ≡ false) ⊎ (contains key_cmp (link_key link) (opened_polygons whole.county whole.shapes) ≡ false)
           → place_in key_cmp (seen_in key_cmp chain_polygons whole n) (link_key link) ≡ place_in key_cmp (seen_in key_cmp chain_polygons whole k) (link_key link)
       stays (inl still) = ap (λ keys. place_in key_cmp keys (link_key link)) (seen_still polygon_kind whole still n k)
-      stays (inr closed) = unopened_stays polygon_kind whole n k (link_key link) (false_from_ne_true (contains key_cmp (link_key link) opened)
-          (λ e. false≢true (sym closed ∙ among_any (λ (l : Fields8). contains key_cmp (link_key l) opened) link whole.county.links there e)))
+      stays (inr closed) = unopened_stays polygon_kind whole n k (link_key link) closed
 
   links_small : (n k : ℕ) → groups_cmp Eight (type_8_together (choice whole n)) (type_8_together (choice whole k))
       ≡ groups_cmp Eight (type_8_together (choice small n)) (type_8_together (choice small k))
-  links_small n k = go (is_linked whole.county whole.shapes) refl
-    where
-      go : (b : Bool) → is_linked whole.county whole.shapes ≡ b → groups_cmp Eight (type_8_together (choice whole n)) (type_8_together (choice whole k))
-          ≡ groups_cmp Eight (type_8_together (choice small n)) (type_8_together (choice small k))
-      go true e = let kept = landmarks_kept whole.county whole.shapes true e in linked_alike polygons kept.0 kept.1 (wanted_links e) n k
-      go false e = sym (eights_tie whole n k (closed_links e n k))
-          ∙ eights_tie small n k (λ link there. absurd (subst (Among link) (landmarks_kept whole.county whole.shapes false e).1 there))
+  links_small = let kept = landmarks_kept whole.county whole.shapes in
+      links_alike polygons (λ land. contains nat_cmp land (kept_lands whole.county whole.shapes)) (keeps_landmark whole.county whole.shapes)
+      (landmark_kept whole.county whole.shapes whole.is) kept.0 kept.1 (link_wanted whole.county whole.shapes) closed_links
 
   -- So two choices are in one order.
   same_order : (n k : ℕ) → choices_cmp small.county n k ≡ choices_cmp whole.county n k

@@ -1,11 +1,11 @@
 -- The numbers of names in two choices compare alike in a county and in its small county.
 use Rattle.tl_number.proofs.Common.{Body5, Bool, Chain, County, DirectedChain, IsApart, IsInOrder, IsPermutation, Known, List, None, Option, Some, all_known, ap, apart-filter, apart-permutation, apart-permutation_of, apart_from_sorted, append-nil, ap₂, chain_feats, contains, directed_chain, feats, feats_along, feats_along_arrangement, feats_of, filter, filter-mapped, first_seen, flat_map, flat_map_agree, grouped, grouped_map, in_order-filter, in_order-permutation, keys_along, length, length_permutation, ltb-true, name_body_cmp, name_under, nat_cmp, nat_keys, option_cmp, option_to_list, ordering_then, place_in, rank_of, ranked_there, refl, subst, sym, times, true, wanted_feats, ℕ, ◌∙◌, ◌≡◌}
+use Rattle.tl_number.proofs.Lists.OrderPlaces.{in_order-among}
 use Rattle.tl_number.proofs.Names.NamePlaces.{feat_cmp, feat_keys, feats_ordered, feats_permuted, name_stays}
 use Rattle.tl_number.proofs.Ties.KeyKinds.{AreNumberedAlike, AreSeenAlike, name_kind, numbered_alike, seen_in}
+use Rattle.tl_number.proofs.Ties.ListsAlike.{value_filtered}
 use Rattle.tl_number.proofs.Ties.OrderedCounty.{OrderedCounty, directed_in, whole_in}
 use Rattle.tl_number.proofs.Ties.Ranks.{AreReordered, before_alike, in_filtered, masked_by, masked_from_stay, next_cmp, places_alike, to_filtered}
-use Rattle.tl_number.proofs.Lists.OrderPlaces.{in_order-among}
-use Rattle.tl_number.proofs.Ties.ListsAlike.{value_filtered}
 use Rattle.tl_number.specs.CountyParts.{part_of}
 
 -- the FEATs of all chains, one after another, are those along the arrangement
@@ -112,11 +112,11 @@ module _ (whole small : OrderedCounty) (alike : AreSeenAlike name_kind (wanted_f
       (λ n m. names_masked whole wanted n m (alike.reordered n m)) (λ n m. names_masked small wanted n m (alike.small_reordered n m)) same_names
 
 -- A name of a part of a county has its content of the county.
-pub part_contents : (county : County) (keeps : ℕ × Chain → Bool) (with_landmarks : Bool) (k : ℕ)
-    → Known nat_cmp (feats (part_of county keeps with_landmarks)) k
-    → name_under (part_of county keeps with_landmarks) k ≡ name_under county k
+pub part_contents : (county : County) (keeps : ℕ × Chain → Bool) (with_lands : List ℕ) (k : ℕ)
+    → Known nat_cmp (feats (part_of county keeps with_lands)) k
+    → name_under (part_of county keeps with_lands) k ≡ name_under county k
 unfolding part_of
-part_contents county keeps with_landmarks k h =
+part_contents county keeps with_lands k h =
     let used : ℕ → Bool = λ feat. contains nat_cmp feat (feats_along (filter keeps county.chains)) in
     value_filtered nat_keys used county.names k (in_filtered nat_keys used (feats county) k
     (subst (λ ks. Known nat_cmp ks k) (sym (filter-mapped used (λ (name : ℕ × Body5). name.0) county.names)) h)).1
