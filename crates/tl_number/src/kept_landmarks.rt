@@ -4,18 +4,17 @@
 //! first appears at an open place. Landmarks are kept by CFCC and LANAME, which all landmarks with the same contents share.
 
 ghost use Rattle.std.specs.List.{list_any, range_with_len};
-ghost use Rattle.std.specs.Prelude.{IfOk, OnOk, filter, length, ◌++◌, ◌<◌, ◌^◌, ◌≡◌};
+ghost use Rattle.std.specs.Prelude.{IfOk, OnOk, filter, length, option_to_list, ◌++◌, ◌<◌, ◌^◌, ◌≡◌};
 ghost use Rattle.canonical_form.specs.MovedChains.{AreWithin};
 ghost use Rattle.county_chart.specs.ChartWords.{bodies_at};
 ghost use Rattle.county_chart.specs.PolygonKeys.{key_cmp};
 ghost use Rattle.ordered_lists.specs.Orders.{IsInOrder, contains};
-ghost use Rattle.canonical_form.specs.Growth.{first_seen};
 ghost use Rattle.tl_number.specs.KeptLandmarks.{first_name, has_name, kept_landmarks, landmark_name_cmp, link_keys_at, moves_polygons, name_if_linked, names_linked, opened_polygons};
 
 use crate::key_groups::{PolygonKeys, push_if_some};
 use crate::moved_keys::any_moves_keys;
-use crate::open_keys::{has_key, see_along};
-use arranged_county::{Interner, if_done, marks_for};
+use crate::open_keys::{has_key, interned, see_along};
+use arranged_county::Interner;
 use county_chart::{Chart, Listed, PolygonKey, push_all};
 use ordered_lists::{place_of, sort_distinct};
 use std::alloc::{AllocError, Global};
@@ -147,14 +146,12 @@ fn opened<C: Chart>(
     alloc: Global,
     chart: &C,
     shape_order: &ShapeOrder,
-) -> Result<Interner<PolygonKey>, AllocError>
-    ensures { IfOk result (λ polygons. polygons ≡ first_seen key_cmp (opened_polygons (C.county chart.now) shape_order.now)) }
+) -> Result<Vec<PolygonKey>, AllocError>
+    ensures { IfOk result (λ polygons. polygons.items ≡ opened_polygons (C.county chart.now) shape_order.now) }
 {
     let groups = PolygonKeys(chart, shape_order.by_shape());
-    let (_, opened) = see_along(alloc, shape_order.open_places(), &groups)?;
-    let mut polygons = Interner::with_marks(alloc, marks_for(opened.len()))?;
-    let seen = polygons.see_all(&opened.as_slice());
-    if_done(polygons, seen)
+    let (_, polygons) = see_along(alloc, shape_order.open_places(), &groups)?;
+    Ok(polygons)
 }
 
 /// Returns the places of the landmarks with the name of one that has a polygon which first appears at an open place.
@@ -168,7 +165,8 @@ fn places_opened<C: Chart>(
         ≡ filter (λ place. has_name (names_linked (C.county chart.now) (opened_polygons (C.county chart.now) shape_order.now)) (bodies_at (C.county chart.now) place))
         (range_with_len 0 (length (C.county chart.now).landmarks))) }
 {
-    let polygons = opened(alloc, chart, shape_order)?;
+    let keys = opened(alloc, chart, shape_order)?;
+    let polygons = interned(alloc, &keys)?;
     let mut names = names_with(alloc, chart, &polygons)?;
     sort_distinct(&mut names);
     places_named(alloc, chart, &names)

@@ -34,6 +34,18 @@ pub(crate) fn has_key<K: Key + Hash + NumericKey>(keys: &Interner<K>, key: K) ->
     keys.place(key).is_some()
 }
 
+/// Returns these keys in the order of their first appearance.
+pub(crate) fn interned<K: Key + Hash + NumericKey>(
+    alloc: Global,
+    keys: &[K],
+) -> Result<Interner<K>, AllocError>
+    ensures { IfOk result (λ seen. seen ≡ first_seen K.cmp keys.now) }
+{
+    let mut all = Interner::with_marks(alloc, marks_for(keys.len()))?;
+    let seen = all.see_all(&keys);
+    if_done(all, seen)
+}
+
 /// Sees a key. If it is new and its place is open, it's put after the open keys.
 fn see_key<K: Key + Hash + NumericKey>(
     all: &mut Interner<K>,

@@ -15,8 +15,8 @@ ghost use Rattle.tl_number.specs.NamesAlong.{chain_feats};
 
 use crate::kept_places::Kept;
 use crate::key_groups::{FeatKeys, KeyGroups, NodeKeys, PolygonKeys};
-use crate::open_keys::{has_key, keys_of};
-use arranged_county::{Interner, NumericKey, both, if_done, marks_for};
+use crate::open_keys::{has_key, interned, keys_of};
+use arranged_county::{Interner, NumericKey, both};
 use county_chart::{Chart, DirectedChain, Feats, Lands, Listed, PolygonKey, Polygons, Tlids};
 use ordered_lists::{Key, sort_distinct};
 use std::alloc::{AllocError, Global};
@@ -111,9 +111,7 @@ fn pick_these<L: Listed<Item = u64>>(
     requires { length (L.items all.now) < 2 ^ 32 }
     ensures { IfOk result (IsPicked nat_cmp (first_seen nat_cmp these.now) (L.items all.now)) }
 {
-    let mut wanted = Interner::with_marks(alloc, marks_for(these.len()))?;
-    let seen = wanted.see_all(&these);
-    let wanted = if_done(wanted, seen)?;
+    let wanted = interned(alloc, these)?;
     pick(alloc, all, &wanted)
 }
 

@@ -1,5 +1,7 @@
 -- Landmarks are kept by their contents, all polygons of kept ones are wanted, and no other landmark has a polygon that choices can move.
-use Rattle.tl_number.proofs.Common.{Among, Body7, Bool, County, Fields8, IsCounty, IsKeyOrder, IsTrue, LandmarkName, List, OrderOfShapes, PolygonKey, Some, [], all_among, among-map, among-pieces, among-unmap, among_any, among_known, among_right, and_cases, ap, apart_from_sorted, arith, at_places, bodies_at, bytes_keys, chain_polygons, cond, contains, contains-among, false, false_from_ne_true, false≢true, filter, first_name, flat_map, has_name, inl, inr, kept_landmarks, kept_lands, key_cmp, key_keys, keys_at_open, known_is_among, landmark_name_cmp, lands, length, length-map, link_key, link_keys_at, links_at, links_with, list_any, lt-ltb, ltb-true, moves_polygons, name_if_linked, names_linked, nat_cmp, nat_keys, opened_polygons, option_map, option_to_list, or_left, range_with_len, refl, slice_get, slice_get-get_or, slice_get-map, subst, sym, times, to_filter, true, unwrap_or, wanted_polygons, ℕ, ◌<◌, ◌==◌, ◌∙◌, ◌∷◌, ◌≡◌, ◌≤◌, ◌⊎◌}
+use Rattle.tl_number.proofs.Ties.PartTables.{seen_known}
+use Rattle.ordered_lists.proofs.Lists.Distinct.{known-distinct, known_from_distinct}
+use Rattle.tl_number.proofs.Common.{Among, Body7, Bool, County, Fields8, IsCounty, IsKeyOrder, IsTrue, LandmarkName, List, OrderOfShapes, PolygonKey, Some, [], all_among, among-map, among-pieces, among-unmap, among_any, among_known, among_right, and_cases, ap, apart_from_sorted, arith, at_places, bodies_at, bytes_keys, chain_polygons, cond, contains, contains-among, contains_alike, distinct, false, false_from_ne_true, false≢true, filter, first_name, first_seen, flat_map, has_name, inl, inr, kept_landmarks, kept_lands, key_cmp, key_keys, keys_at_open, known_is_among, landmark_name_cmp, lands, length, length-map, link_key, link_keys_at, links_at, links_with, list_any, lt-ltb, ltb-true, moves_polygons, name_if_linked, names_linked, nat_cmp, nat_keys, opened_polygons, option_map, option_to_list, or_left, range_with_len, refl, slice_get, slice_get-get_or, slice_get-map, subst, sym, times, to_filter, true, unwrap_or, wanted_polygons, ℕ, ◌&&◌, ◌<◌, ◌==◌, ◌∙◌, ◌∷◌, ◌≡◌, ◌≤◌, ◌⊎◌}
 use Rattle.ordered_lists.proofs.ByKey.KeyOrders.{pair_keys}
 use Rattle.ordered_lists.proofs.Lists.Members.{in_filter_map}
 use Rattle.std.proofs.lemmas.Bool.{eq-eqb}
@@ -99,3 +101,41 @@ module _ (county : County) (shapes : OrderOfShapes) where
           → (moves_polygons county shapes ≡ false) ⊎ (contains key_cmp (link_key link) opened ≡ false)
       go (inl still) = inl still
       go (inr none) = inr (false_from_ne_true (contains key_cmp (link_key link) opened) (λ e. false≢true (sym none ∙ has_own e)))
+
+-- ---- what the functions find
+
+-- names are the same in any order, of polygons in any order
+pub names_found : (county : County) (opened polygons : List PolygonKey) (names : List LandmarkName) → polygons ≡ first_seen key_cmp opened
+    → names ≡ distinct landmark_name_cmp (names_linked county polygons)
+    → (bodies : List Body7) → has_name names bodies ≡ has_name (names_linked county opened) bodies
+names_found county opened polygons names seen put bodies = λ i. list_any (λ name. same name i) (option_to_list (first_name bodies))
+  where
+    linked : names_linked county polygons ≡ names_linked county opened
+    linked = ap (names_linked county) seen
+        ∙ (λ i. flat_map (λ place. cond (list_any (λ key. seen_known key_keys opened key i) (link_keys_at county place))
+        (option_to_list (first_name (bodies_at county place))) []) (range_with_len 0 (length county.landmarks)))
+
+    same : (name : LandmarkName) → contains landmark_name_cmp name names ≡ contains landmark_name_cmp name (names_linked county opened)
+    same name = ap (contains landmark_name_cmp name) put
+        ∙ contains_alike landmark_name_keys (distinct landmark_name_cmp (names_linked county polygons)) (names_linked county polygons) name
+        (known_from_distinct landmark_name_keys (names_linked county polygons) name) (known-distinct landmark_name_keys (names_linked county polygons) name)
+        ∙ ap (contains landmark_name_cmp name) linked
+
+module _ (county : County) (shapes : OrderOfShapes) where
+  -- if open places can't move polygons, no landmark is kept,
+  pub none_kept : moves_polygons county shapes ≡ false → kept_landmarks county shapes ≡ []
+  unfolding keeps_landmark
+  none_kept still = (λ i. filter (λ place. still i && has_name (names_linked county (opened_polygons county shapes)) (bodies_at county place))
+      (range_with_len 0 (length county.landmarks))) ∙ none (range_with_len 0 (length county.landmarks))
+    where
+      none : (places : List ℕ) → filter (λ place. false) places ≡ []
+      none [] = refl
+      none (place ∷ places) = none places
+
+  -- else those with one of the names
+  pub named_kept : moves_polygons county shapes ≡ true
+      → filter (λ place. has_name (names_linked county (opened_polygons county shapes)) (bodies_at county place)) (range_with_len 0 (length county.landmarks))
+      ≡ kept_landmarks county shapes
+  unfolding keeps_landmark
+  named_kept moving = λ i. filter (λ place. sym moving i && has_name (names_linked county (opened_polygons county shapes)) (bodies_at county place))
+      (range_with_len 0 (length county.landmarks))

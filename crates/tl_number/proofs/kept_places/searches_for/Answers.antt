@@ -1,5 +1,5 @@
-use Rattle.tl_number.proofs.Common.{[], ap, chain_feats, chain_nodes, chain_polygons, cond, contains, grouped, key_cmp, key_keys, keys_along, link_key, map, nat_cmp, nat_keys, ◌++◌, ◌∙◌}
-use Rattle.tl_number.proofs.Ties.SearchSteps.{keys_open, linked_alike, search_starts}
+use Rattle.tl_number.proofs.Common.{ap, chain_feats, chain_nodes, chain_polygons, contains, flat_map, grouped, key_cmp, key_keys, keys_along, link_keys_at, nat_cmp, nat_keys, ◌++◌, ◌∙◌}
+use Rattle.tl_number.proofs.Ties.SearchSteps.{keys_open, search_starts}
 use Rattle.tl_number.proofs.kept_places.searches_for.Goals as goal
 
 pub returns : goal.returns
@@ -10,13 +10,11 @@ returns g c =
     let sides = ap (λ chains. grouped (keys_along chain_polygons county chains)) (c.deref-2.ensures.value ∙ c.in_ok-chains.ensures)
     ∙ keys_open chain_polygons county shapes in
     let feats = ap (λ chains. grouped (keys_along chain_feats county chains)) (c.deref-3.ensures.value ∙ c.in_ok-chains.ensures) ∙ keys_open chain_feats county shapes in
-    let along = grouped (keys_along chain_polygons county c.deref-2.result.now) in
     record {
       nodes = search_starts nat_keys _ (c.new.ensures.wanted ∙ c.in_ok-nodes.ensures) (λ k. ap (contains nat_cmp k) nodes)
           c.new.ensures.met;
       polygons = search_starts key_keys _ (c.new-2.ensures.wanted ∙ c.in_ok-polygons.ensures)
-          (λ k. linked_alike county (g.met.C.Chart.is_county c.args.chart.now) c.args.linked along k
-          ∙ ap (contains key_cmp k) (λ i. sides i ++ cond (c.requires i) (map link_key county.links) []))
+          (λ k. ap (contains key_cmp k) (λ i. sides i ++ flat_map (link_keys_at county) (c.requires i)))
           c.new-2.ensures.met;
       names = search_starts nat_keys _ (c.new-3.ensures.wanted ∙ c.in_ok-names.ensures) (λ k. ap (contains nat_cmp k) feats)
           c.new-3.ensures.met;

@@ -34,8 +34,8 @@ is_small : (g : Over) (c : In_ok-tables g) → part_with (g.C.Chart.county c.arg
 unfolding small_county
 is_small g c =
     let tlids = ap (λ kept. kept.tlids.items) c.in_ok-tables.ensures.kept ∙ c.in_ok-kept.ensures.tlids in
-    let linked = ap (λ kept. kept.linked) c.in_ok-tables.ensures.kept ∙ c.in_ok-kept.ensures.linked in
-    λ i. part_of (g.C.Chart.county c.args.chart.now) (λ entry. contains nat_cmp entry.0 (tlids i)) (linked i)
+    let lands = ap (λ kept. kept.lands.items) c.in_ok-tables.ensures.kept ∙ c.in_ok-kept.ensures.lands in
+    λ i. part_of (g.C.Chart.county c.args.chart.now) (λ entry. contains nat_cmp entry.0 (tlids i)) (lands i)
 
 pub new-requires-clause-county : goal.new-requires-clause-county
 new-requires-clause-county g c =
