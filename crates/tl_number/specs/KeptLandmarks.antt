@@ -36,8 +36,11 @@ abbrev pub landmark_name_cmp : LandmarkName → LandmarkName → Ordering
 landmark_name_cmp a b = ordering_then (bytes_cmp a.0 b.0) (bytes_cmp a.1 b.1)
 
 -- those of the first of a landmark's contents
+abbrev pub landmark_name : Body7 → LandmarkName
+landmark_name body = (body.cfcc, body.laname)
+
 abbrev pub first_name : List Body7 → Option LandmarkName
-first_name bodies = option_map (λ (body : Body7). (body.cfcc, body.laname)) (slice_get bodies 0)
+first_name bodies = option_map landmark_name (slice_get bodies 0)
 
 -- whether contents have one of these names
 abbrev pub has_name : List LandmarkName → List Body7 → Bool

@@ -4,12 +4,12 @@
 //! first appears at an open place. Landmarks are kept by CFCC and LANAME, which all landmarks with the same contents share.
 
 ghost use Rattle.std.specs.List.{list_any, range_with_len};
-ghost use Rattle.std.specs.Prelude.{IfOk, OnOk, filter, length, option_to_list, ◌++◌, ◌<◌, ◌^◌, ◌≡◌};
+ghost use Rattle.std.specs.Prelude.{IfOk, OnOk, filter, length, option_map, option_to_list, ◌++◌, ◌<◌, ◌^◌, ◌≡◌};
 ghost use Rattle.canonical_form.specs.MovedChains.{AreWithin};
 ghost use Rattle.county_chart.specs.ChartWords.{bodies_at};
 ghost use Rattle.county_chart.specs.PolygonKeys.{key_cmp};
 ghost use Rattle.ordered_lists.specs.Orders.{IsInOrder, contains};
-ghost use Rattle.tl_number.specs.KeptLandmarks.{first_name, has_name, kept_landmarks, landmark_name_cmp, link_keys_at, moves_polygons, name_if_linked, names_linked, opened_polygons};
+ghost use Rattle.tl_number.specs.KeptLandmarks.{first_name, has_name, kept_landmarks, landmark_name, landmark_name_cmp, link_keys_at, moves_polygons, name_if_linked, names_linked, opened_polygons};
 
 use crate::key_groups::{PolygonKeys, push_if_some};
 use crate::moved_keys::any_moves_keys;
@@ -49,7 +49,9 @@ impl<C: Chart> Listed for LinkKeys<'_, C> {
 }
 
 /// Returns CFCC and LANAME of the first of a landmark's contents.
-fn name_of(body: Option<Body7>) -> Option<LandmarkName> {
+fn name_of(body: Option<Body7>) -> Option<LandmarkName>
+    ensures { result ≡ option_map landmark_name body }
+{
     match body {
         Some(body) => Some((body.cfcc(), body.laname())),
         None => None,
@@ -125,6 +127,14 @@ fn is_one_of(names: &[LandmarkName], name: Option<LandmarkName>) -> bool
     }
 }
 
+/// Checks whether the landmark at a place has one of these names.
+fn is_named<C: Chart>(chart: &C, names: &[LandmarkName], place: usize) -> bool
+    requires { IsInOrder landmark_name_cmp names.now }
+    ensures { result ≡ has_name names.now (bodies_at (C.county chart.now) place) }
+{
+    is_one_of(names, name_at(chart, place))
+}
+
 /// Returns the places of the landmarks with one of these names.
 fn places_named<C: Chart>(
     alloc: Global,
@@ -136,9 +146,15 @@ fn places_named<C: Chart>(
     ensures { IfOk result (λ places. places.items
         ≡ filter (λ place. has_name names.now (bodies_at (C.county chart.now) place)) (range_with_len 0 (length (C.county chart.now).landmarks))) }
 {
-    (0..chart.landmark_count() as u32)
-        .filter(|place| is_one_of(names, name_at(chart, *place as usize)))
-        .collect(alloc)
+    let mut places = Vec::new(alloc);
+    for place in 0..chart.landmark_count() {
+        let named = is_named(chart, names, place);
+        if !named {
+            continue;
+        }
+        places.push(place as u32)?;
+    }
+    Ok(places)
 }
 
 /// Returns the polygons that first appear at an open place.

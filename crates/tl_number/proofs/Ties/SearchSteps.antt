@@ -100,13 +100,27 @@ module _ {K : Type 0} {cmp : K → K → Ordering} (o : IsKeyOrder cmp) where
 
 -- ---- walking along places
 
+-- the places that pass, with one place more
+next_place : (test : ℕ → Bool) (place : ℕ)
+    → filter test (range_with_len 0 (place + 1)) ≡ filter test (range_with_len 0 place) ++ cond (test place) (place ∷ []) []
+next_place test place = simp map-id at (filter_of_map_range_with_len_more test (λ i. i) 0 place place (omega arith))
+
+pub place_taken : (test : ℕ → Bool) (place : ℕ) → test place ≡ true
+    → filter test (range_with_len 0 (place + 1)) ≡ filter test (range_with_len 0 place) ++ (place ∷ [])
+place_taken test place passes = next_place test place ∙ ap (λ b. filter test (range_with_len 0 place) ++ cond b (place ∷ []) []) passes
+
+pub place_passed : (test : ℕ → Bool) (place : ℕ) → test place ≡ false
+    → filter test (range_with_len 0 (place + 1)) ≡ filter test (range_with_len 0 place)
+place_passed test place fails = next_place test place ∙ ap (λ b. filter test (range_with_len 0 place) ++ cond b (place ∷ []) []) fails
+    ∙ append-nil (filter test (range_with_len 0 place))
+
 module _ {X : Type 0} (xs : List X) (test : ℕ → Bool) where
   abbrev read_to : ℕ → List X
   read_to place = at_places xs (filter test (range_with_len 0 place))
 
   -- what is read at one more place
   next_read : (place : ℕ) → read_to (place + 1) ≡ read_to place ++ at_places xs (cond (test place) (place ∷ []) [])
-  next_read place = ap (at_places xs) (simp map-id at (filter_of_map_range_with_len_more test (λ i. i) 0 place place (omega arith)))
+  next_read place = ap (at_places xs) (next_place test place)
       ∙ filter_map-append (slice_get xs) (filter test (range_with_len 0 place)) (cond (test place) (place ∷ []) [])
 
   -- if it passes, and if it doesn't

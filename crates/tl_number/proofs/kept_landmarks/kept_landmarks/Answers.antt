@@ -23,7 +23,7 @@ returns-then-not-moves g c =
     let still : c.in_ok-moves.moves ≡ false = search rules in
     let same : c.in_ok-moves.moves ≡ moves_polygons county shapes =
     c.in_ok-moves.ensures ∙ (λ i. list_any (moves_keys key_cmp (keys_along chain_polygons county (c.by_shape.ensures i))) (c.open_places.ensures i)) in
-    sym (none_kept county shapes (sym same ∙ still))
+    c.new.ensures.items ∙ sym (none_kept county shapes (sym same ∙ still))
 
 pub returns : goal.returns
 returns g c =

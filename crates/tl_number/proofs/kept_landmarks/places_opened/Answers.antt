@@ -4,7 +4,7 @@ use Rattle.tl_number.proofs.kept_landmarks.places_opened.Goals as goal
 
 pub places_named-requires-clause-in_order : goal.places_named-requires-clause-in_order
 places_named-requires-clause-in_order g c =
-    subst (IsInOrder landmark_name_cmp) (sym (c.deref-2.ensures.value ∙ c.sort_distinct.ensures)) (distinct-in_order landmark_name_keys _)
+    subst (IsInOrder landmark_name_cmp) (sym (c.deref-2.ensures.value ∙ c.sort_distinct.ensures)) (distinct-in_order landmark_name_keys c.in_ok-names.names.items)
 
 pub returns : goal.returns
 returns g c =

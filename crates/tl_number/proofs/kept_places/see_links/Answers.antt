@@ -7,7 +7,7 @@ loop-landmark-preserved g c =
     let own = link_keys_at (g.C.Chart.county c.args.chart.now) in
     let landmarks = c.args.landmarks.now in
     let i = c.loop-landmark.landmark-index in
-    seen_more key_cmp _ (flat_map own (drop (i + 1) landmarks)) (flat_map own (drop i landmarks)) c.loop-landmark.polygons c.see_all.new _
+    seen_more key_cmp _ (flat_map own (drop (i + 1) landmarks)) (flat_map own (drop i landmarks)) c.loop-landmark.polygons _ _
     (ap (flat_map own) (drop_more landmarks i _ c.loop-landmark-test.true)) c.in_ok-see_all.ensures c.loop-landmark.invariant
 
 pub returns : goal.returns
