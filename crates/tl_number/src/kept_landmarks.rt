@@ -9,7 +9,7 @@ ghost use Rattle.canonical_form.specs.MovedChains.{AreWithin};
 ghost use Rattle.county_chart.specs.ChartWords.{bodies_at};
 ghost use Rattle.county_chart.specs.PolygonKeys.{key_cmp};
 ghost use Rattle.ordered_lists.specs.Orders.{IsInOrder, contains};
-ghost use Rattle.tl_number.specs.KeptLandmarks.{first_name, has_name, kept_landmarks, landmark_name, landmark_name_cmp, link_keys_at, moves_polygons, name_if_linked, names_linked, opened_polygons};
+ghost use Rattle.tl_number.specs.KeptLandmarks.{first_name, has_name, kept_landmarks, landmark_name, landmark_name_cmp, link_keys_at, name_if_linked, names_linked, opened_polygons};
 
 use crate::key_groups::{PolygonKeys, push_if_some};
 use crate::moved_keys::any_moves_keys;

@@ -50,7 +50,11 @@ fn is_among<K: Key + Hash + NumericKey>(keys: &Interner<K>, key: Option<K>) -> b
     }
 }
 
-pub(crate) fn keys_at<L: Listed>(alloc: Global, all: &L, places: &[u32]) -> Result<Vec<L::Item>, AllocError>
+pub(crate) fn keys_at<L: Listed>(
+    alloc: Global,
+    all: &L,
+    places: &[u32],
+) -> Result<Vec<L::Item>, AllocError>
 where
     L::Item: Drop,
     ensures { IfOk result (λ keys. keys.items ≡ at_places (L.items all.now) places.now) }

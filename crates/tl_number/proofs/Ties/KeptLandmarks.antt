@@ -30,13 +30,15 @@ module _ (county : County) (shapes : OrderOfShapes) where
   landmark_at : (e : ℕ × List Body7) → Among e county.landmarks → (place : ℕ) × IsLandmarkAt place e
   landmark_at e m =
       let at = contains-among e county.landmarks m in
-      let there : slice_get county.landmarks at.0 ≡ Some e = slice_get-get_or county.landmarks at.0 e at.1 ∙ ap Some at.2 in
-      (at.0, record {
-        below = at.1;
-        land = slice_get-map (λ (d : ℕ × List Body7). d.0) county.landmarks at.0 ∙ ap (option_map (λ (d : ℕ × List Body7). d.0)) there;
-        bodies = ap (λ o. unwrap_or o []) (slice_get-map (λ (d : ℕ × List Body7). d.1) county.landmarks at.0
-            ∙ ap (option_map (λ (d : ℕ × List Body7). d.1)) there);
-      })
+      let there : slice_get county.landmarks at.0 ≡ Some e = slice_get-get_or county.landmarks at.0 e at.1 ∙ ap Some at.2 in (
+        at.0,
+        record {
+          below = at.1;
+          land = slice_get-map (λ (d : ℕ × List Body7). d.0) county.landmarks at.0 ∙ ap (option_map (λ (d : ℕ × List Body7). d.0)) there;
+          bodies = ap (λ o. unwrap_or o []) (slice_get-map (λ (d : ℕ × List Body7). d.1) county.landmarks at.0
+              ∙ ap (option_map (λ (d : ℕ × List Body7). d.1)) there);
+        },
+      )
 
   -- A landmark is kept if its contents are.
   pub landmark_kept : IsCounty county → (e : ℕ × List Body7) → Among e county.landmarks

@@ -339,8 +339,7 @@ module _ {whole small : OrderedCounty} {is_in : ℕ → Bool} (polygons : AreWan
       → (e : ℕ × List Body7) × Among e whole.county.landmarks × (link.land ≡ e.0) × (contents link ≡ e.1)
   landmark_of link h =
       let found = among-unmap (λ (e : ℕ × List Body7). e.0) link.land whole.county.landmarks
-      (known_is_among nat_keys link.land (lands whole.county) (land_known whole.county whole.is.closed.link_lands link h)) in
-      (
+      (known_is_among nat_keys link.land (lands whole.county) (land_known whole.county whole.is.closed.link_lands link h)) in (
         found.0,
         found.1,
         found.2,

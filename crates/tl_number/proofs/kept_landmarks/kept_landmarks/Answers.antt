@@ -1,4 +1,4 @@
-use Rattle.tl_number.proofs.Common.{AreWithin, County, IfOk-weaker, DirectedChain, List, OpenPlace, PolygonKey, ap, bodies_at, chain_polygons, directed_chain, false, filter, flat_map, key_cmp, keys_along, length, length-map, moves_polygons, option_to_list, range_with_len, rules, subst, sym, true, ℕ, ◌∙◌, ◌≡◌}
+use Rattle.tl_number.proofs.Common.{AreWithin, County, DirectedChain, IfOk-weaker, List, OpenPlace, PolygonKey, ap, chain_polygons, directed_chain, false, flat_map, key_cmp, keys_along, length, length-map, moves_polygons, option_to_list, rules, subst, sym, true, ℕ, ◌∙◌, ◌≡◌}
 use Rattle.std.specs.List.{list_any}
 use Rattle.tl_number.specs.MovedKeys.{moves_keys}
 use Rattle.tl_number.proofs.Ties.KeptLandmarks.{named_kept, none_kept}

@@ -1,4 +1,4 @@
-use Rattle.tl_number.proofs.Common.{IfOk-weaker, IsInOrder, ap, bodies_at, distinct, distinct-in_order, filter, first_seen, key_cmp, landmark_name_cmp, length, opened_polygons, range_with_len, subst, sym, ◌∙◌, ◌≡◌}
+use Rattle.tl_number.proofs.Common.{IfOk-weaker, IsInOrder, ap, bodies_at, distinct, distinct-in_order, filter, first_seen, key_cmp, landmark_name_cmp, length, opened_polygons, range_with_len, subst, sym, ◌∙◌}
 use Rattle.tl_number.proofs.Ties.KeptLandmarks.{landmark_name_keys, names_found}
 use Rattle.tl_number.proofs.kept_landmarks.places_opened.Goals as goal
 
