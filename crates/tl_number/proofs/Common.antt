@@ -1,5 +1,5 @@
 -- The names from below that the proofs of this crate cite, passed on from one place. Declares nothing.
-pub use Rattle.arranged_county.proofs.Landmarks.LandmarkLinks.{permuted, pieces_next}
+pub use Rattle.arranged_county.proofs.Landmarks.LandmarkLinks.{pieces_next}
 pub use Rattle.arranged_county.proofs.Names.NameOrder.{by_uses}
 pub use Rattle.arranged_county.proofs.Names.NameRanks.{greater, ranked_there, unranked}
 pub use Rattle.arranged_county.proofs.Numbering.SeenLists.{seen_append}
@@ -88,7 +88,7 @@ pub use Rattle.ordered_lists.proofs.Lists.Counted.{all_take, filter-agree}
 pub use Rattle.ordered_lists.proofs.Lists.Elements.{all_append, all_both, all_everywhere, all_filter, all_left, all_map, all_pieces, all_right, all_unmap, all_weaker, flat_map-map, flat_map_agree, map-map, map_agree_all}
 pub use Rattle.ordered_lists.proofs.Lists.EntryLists.{in_order-strict}
 pub use Rattle.ordered_lists.proofs.Lists.InOrder.{in_order-equal, in_order-in_order, in_order-map, in_order-permutation, in_order-unmap, not_greater, strict-map, strict-unmap}
-pub use Rattle.ordered_lists.proofs.Lists.Members.{among-map, among-pieces, among-unmap, among_any, among_known, any_among, contains-among, known_is_among, one_entry}
+pub use Rattle.ordered_lists.proofs.Lists.Members.{among-map, among-pieces, among-unmap, among_any, among_known, contains-among, known_is_among, one_entry}
 pub use Rattle.ordered_lists.proofs.Lists.Permutations.{apart-permutation_of, in_order-is_permutation}
 pub use Rattle.ordered_lists.proofs.Lists.Ranges.{less, range_bounds}
 pub use Rattle.ordered_lists.proofs.Lists.Reordered.{SameElements, contains_alike, distinct_same, from_permutation, times-same, to_filter}
@@ -119,7 +119,7 @@ pub use Rattle.std.proofs.lemmas.List.{drop-map, drop_all, drop_more, length-map
 pub use Rattle.std.proofs.lemmas.List.Elements.{filter-append, filter_passes, recursion_from_All}
 pub use Rattle.std.proofs.lemmas.List.FromFn.{fill_by_all, get_or-range_with_len, length-range_with_len}
 pub use Rattle.std.proofs.lemmas.List.Kept.{AllPairs-filter, IsStrictlySortedBy-filter}
-pub use Rattle.std.proofs.lemmas.List.Sorted.{IsPermutation-map, IsPermutation-refl, IsPermutation-sym, IsPermutation-trans, length_permutation}
+pub use Rattle.std.proofs.lemmas.List.Sorted.{IsPermutation-map, IsPermutation-sym, IsPermutation-trans, length_permutation}
 pub use Rattle.std.proofs.lemmas.List.Sums.{count_by-le-length, length-filter}
 pub use Rattle.std.proofs.lemmas.Map.Lookups.{exact_unsigned}
 pub use Rattle.std.proofs.lemmas.Option.{get_or_from_slice_get, same_Some, slice_get-get_or, slice_get-map, slice_get_past, slice_get_within, unwrap_or-slice_get}
@@ -145,7 +145,7 @@ pub use Rattle.tl_layout.specs.Laws.TypeLaws.{layout_laws}
 pub use Rattle.tl_layout.specs.Limits.{most_records}
 pub use Rattle.tl_layout.specs.Numbers.{IsNumber, IsNumberOrNone}
 pub use Rattle.tl_layout.specs.PolygonSide.{PolygonSide}
-pub use Rattle.tl_layout.specs.RecordTables.{table_1, table_4, table_6, table_8, table_p}
+pub use Rattle.tl_layout.specs.RecordTables.{table_1, table_4, table_6, table_p}
 pub use Rattle.tl_layout.specs.RecordText.{FitsRecord, spelling_of, text_of}
 pub use Rattle.tl_layout.specs.RecordTypes.{FieldsOf, RecordType, Type1, Type4, Type6, Type8, TypeI, TypeP, byte_of, reading_of, record_of, table_of}
 pub use Rattle.tl_layout.specs.declared.ranges.Ranges.{Ranges}
@@ -154,13 +154,13 @@ pub use Rattle.tl_layout.specs.declared.record_type.Record.TheVariants.{Eight, F
 pub use Rattle.tl_layout.specs.declared.type5.Body5.{Body5}
 pub use Rattle.tl_layout.specs.declared.type7.Body7.{Body7}
 pub use Rattle.tl_layout.specs.declared.type_p.BodyP.{BodyP}
-pub use Rattle.tl_number.specs.BroughtKeys.{brings, fixed_keys, has_new, met_before}
 pub use Rattle.tl_number.specs.ChoiceSearch.{IsChosen, LeavesChoices, chosen_county, lesser_choice, numbered_arrangement}
-pub use Rattle.tl_number.specs.CountyParts.{HoldsPart, IsPicked, feats_along, part_of, part_with, places_among}
+pub use Rattle.tl_number.specs.CountyParts.{ArePartKeys, HoldsPart, feats_along, part_of, part_with, places_among}
 pub use Rattle.tl_number.specs.KeptLandmarks.{LandmarkName, first_name, has_name, keeps_landmark, kept_landmarks, kept_lands, landmark_name_cmp, link_keys_at, moves_polygons, name_if_linked, names_linked, opened_polygons}
 pub use Rattle.tl_number.specs.KeptPlaces.{AreSearched, IsSearchAt}
 pub use Rattle.tl_number.specs.KeysAlong.{first_open, is_open, keys_along, newly_seen, open_among, open_keys, place_in}
 pub use Rattle.tl_number.specs.NamesAlong.{chain_feats, feats_in_order}
+pub use Rattle.tl_number.specs.NewKeys.{earlier_keys, fixed_keys, has_new, has_new_at}
 pub use Rattle.tl_number.specs.SmallCounty.{is_kept, kept_tlids, keys_at_open, wanted_feats, wanted_nodes, wanted_polygons}
 pub use Rattle.tl_number.specs.declared.part_tables.PartTables.{PartTables}
 pub use Rattle.tl_shape.specs.Chain.{Chain}

@@ -16,7 +16,7 @@ pub mod CountyParts
 pub mod PartTables
 pub mod ReadKeys
 pub mod Columns
-pub mod KeptParts
+pub mod KeptPieces
 pub mod SmallRecords
 pub mod SmallCounty
 pub mod SmallKeys

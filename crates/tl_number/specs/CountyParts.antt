@@ -11,7 +11,7 @@ use Rattle.county_chart.specs.County.{County}
 use Rattle.county_chart.specs.PolygonKeys.{key_cmp}
 use Rattle.canonical_form.specs.WholeArrangements.{AreReadAt}
 use Rattle.tl_number.specs.declared.part_tables.PartTables.{PartTables}
-use Rattle.tl_number.specs.declared.part_tables.Picked.{Picked}
+use Rattle.tl_number.specs.declared.part_tables.PartKeys.{PartKeys}
 
 -- the FEATs that chains have, one chain after another
 abbrev pub feats_along : List (ℕ × Chain) → List ℕ
@@ -36,10 +36,10 @@ abbrev pub places_among : {K : Type 0} → (K → K → Ordering) → List K →
 places_among cmp wanted keys =
     filter (λ place. list_any (λ key. contains cmp key wanted) (option_to_list (slice_get keys place))) (range_with_len 0 (length keys))
 
--- these are the keys that are picked from a list because they are wanted, and their places
-pub record IsPicked {K : Type 0} (cmp : K → K → Ordering) (wanted all : List K) (picked : Picked K) : Type 0 where
-  pub places : picked.places.items ≡ places_among cmp wanted all
-  pub keys : picked.keys.items ≡ at_places all (places_among cmp wanted all)
+-- these are the keys of a list that are wanted, and their places
+pub record ArePartKeys {K : Type 0} (cmp : K → K → Ordering) (wanted all : List K) (found : PartKeys K) : Type 0 where
+  pub places : found.places.items ≡ places_among cmp wanted all
+  pub keys : found.keys.items ≡ at_places all (places_among cmp wanted all)
 
 -- tables of a county have the keys of its part, and their places in the county
 pub record HoldsPart (county : County) (tables : PartTables) : Type 0 where

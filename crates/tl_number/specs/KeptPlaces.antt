@@ -9,22 +9,22 @@ use Rattle.county_chart.specs.PolygonKeys.{key_cmp}
 use Rattle.county_chart.specs.ShapeOrder.{OrderOfShapes}
 use Rattle.county_chart.specs.declared.open_place.OpenPlace.{OpenPlace}
 use Rattle.tl_number.specs.SmallCounty.{wanted_feats, wanted_nodes, wanted_polygons}
-use Rattle.tl_number.specs.BroughtKeys.{met_before}
+use Rattle.tl_number.specs.NewKeys.{earlier_keys}
 use Rattle.tl_number.specs.KeysAlong.{keys_along}
 use Rattle.tl_number.specs.NamesAlong.{chain_feats}
 use Rattle.tl_number.specs.declared.kept_places.Searches.{Searches}
 
--- a search for these keys that is at a place: it has them in any order, and has met the ones that earlier fixed places have
+-- a search for these keys that is at a place: it has them in any order, and the ones that fixed places before have
 pub record IsSearchAt {K : Type 0} (cmp : K → K → Ordering) (places : List OpenPlace) (keys : List K) (along : List (List K)) (place : ℕ)
-    (wanted met : List K) : Type 0 where
+    (wanted earlier : List K) : Type 0 where
   pub same : (key : K) → contains cmp key wanted ≡ contains cmp key keys
-  pub before : met ≡ met_before cmp places wanted along place
+  pub before : earlier ≡ earlier_keys cmp places wanted along place
 
 -- the searches for nodes, polygons and names whose numbers can differ between choices
 pub record AreSearched (county : County) (shapes : OrderOfShapes) (place : ℕ) (searches : Searches) : Type 0 where
   pub nodes : IsSearchAt nat_cmp shapes.places (wanted_nodes county shapes) (keys_along chain_nodes county shapes.by_shape) place
-      searches.nodes.wanted searches.nodes.met
+      searches.nodes.wanted searches.nodes.earlier
   pub polygons : IsSearchAt key_cmp shapes.places (wanted_polygons county shapes) (keys_along chain_polygons county shapes.by_shape) place
-      searches.polygons.wanted searches.polygons.met
+      searches.polygons.wanted searches.polygons.earlier
   pub names : IsSearchAt nat_cmp shapes.places (wanted_feats county shapes) (keys_along chain_feats county shapes.by_shape) place
-      searches.names.wanted searches.names.met
+      searches.names.wanted searches.names.earlier

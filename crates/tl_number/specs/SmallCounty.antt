@@ -14,7 +14,7 @@ use Rattle.canonical_form.specs.DirectedChains.{tlid_at}
 use Rattle.record_groups.specs.Groups.{group_at, grouped}
 use Rattle.tl_number.specs.KeysAlong.{is_open, keys_along, open_among}
 use Rattle.tl_number.specs.CountyParts.{part_of}
-use Rattle.tl_number.specs.BroughtKeys.{brings}
+use Rattle.tl_number.specs.NewKeys.{has_new_at}
 use Rattle.tl_number.specs.KeptLandmarks.{kept_landmarks, kept_lands, link_keys_at}
 use Rattle.tl_number.specs.NamesAlong.{chain_feats}
 
@@ -34,12 +34,12 @@ abbrev pub wanted_polygons : County → OrderOfShapes → List PolygonKey
 wanted_polygons county shapes =
     keys_at_open chain_polygons county shapes ++ flat_map (link_keys_at county) (kept_landmarks county shapes)
 
--- whether a place is open, or brings a wanted key
+-- whether a place is open, or has a new key
 abbrev pub is_kept : County → OrderOfShapes → ℕ → Bool
 is_kept county shapes place = is_open shapes.places place
-    || (brings nat_cmp shapes.places (wanted_nodes county shapes) (keys_along chain_nodes county shapes.by_shape) place
-    || (brings key_cmp shapes.places (wanted_polygons county shapes) (keys_along chain_polygons county shapes.by_shape) place
-    || brings nat_cmp shapes.places (wanted_feats county shapes) (keys_along chain_feats county shapes.by_shape) place))
+    || (has_new_at nat_cmp shapes.places (wanted_nodes county shapes) (keys_along chain_nodes county shapes.by_shape) place
+    || (has_new_at key_cmp shapes.places (wanted_polygons county shapes) (keys_along chain_polygons county shapes.by_shape) place
+    || has_new_at nat_cmp shapes.places (wanted_feats county shapes) (keys_along chain_feats county shapes.by_shape) place))
 
 -- the places whose chains are kept
 abbrev pub kept_places : County → OrderOfShapes → List ℕ

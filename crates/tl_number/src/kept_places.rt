@@ -114,7 +114,7 @@ fn searches_for<C: Chart>(
     })
 }
 
-/// Checks whether a chain is kept: its place is open, or it brings a wanted node, polygon or name.
+/// Checks whether a chain is kept: its place is open, or has a new node, polygon or name.
 fn any_of(at_open: bool, node: bool, polygon: bool, name: bool) -> bool
     ensures { result ≡ (at_open || (node || (polygon || name))) }
 {
@@ -193,7 +193,7 @@ fn kept_chains<C: Chart>(
 /// # Errors
 ///
 /// `AllocError` if an allocation failed.
-pub(crate) fn kept_parts<C: Chart>(
+pub(crate) fn find_kept<C: Chart>(
     alloc: Global,
     chart: &C,
     shape_order: &ShapeOrder,

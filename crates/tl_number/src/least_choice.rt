@@ -1,7 +1,7 @@
 //! The choice with the least text.
 //!
-//! Two choices compare as they do in the small county. It has the chains that choices can move, the chains that bring their nodes,
-//! polygons and names, and the landmarks that can differ. So the least choice is looked for there.
+//! Two choices compare as they do in the small county. It has the chains that choices can move, the first other ones with their
+//! nodes, polygons and names, and the landmarks that can differ. So the least choice is looked for there.
 
 ghost use Rattle.std.specs.Prelude.{IfOk, length, ◌<◌, ◌≤◌};
 ghost use Rattle.county_chart.specs.CountyRules.{AllKeysContained, polygon_keys, polygons_along};
@@ -16,7 +16,7 @@ ghost use Rattle.canonical_form.specs.WholeArrangements.{NamesEachOnce};
 
 use crate::choice_search::least_among_choices;
 use crate::county_part::{CountyPart, Shared};
-use crate::kept_places::kept_parts;
+use crate::kept_places::find_kept;
 use crate::numbered_arrangement::NumberedArrangement;
 use crate::part_tables::part_tables;
 use crate::type_1_choices::least_by_type_1;
@@ -51,7 +51,7 @@ fn least_number<C: Chart>(
     if least.len() == 1 {
         return Ok(least[0]);
     }
-    let kept = kept_parts(alloc, chart, shape_order)?;
+    let kept = find_kept(alloc, chart, shape_order)?;
     let tables = part_tables(alloc, chart, kept)?;
     let found = least_in_part(alloc, &CountyPart::new(chart, &tables), least);
     // Trick: one call for the prover, which otherwise reads the drop of each table.

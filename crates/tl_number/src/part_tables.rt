@@ -9,7 +9,7 @@ ghost use Rattle.county_chart.specs.PolygonKeys.{key_cmp};
 ghost use Rattle.ordered_lists.specs.Orders.{contains, distinct};
 ghost use Rattle.ordered_lists.specs.Places.{at_places};
 ghost use Rattle.record_groups.specs.Groups.{grouped};
-ghost use Rattle.tl_number.specs.CountyParts.{HoldsPart, IsPicked, places_among};
+ghost use Rattle.tl_number.specs.CountyParts.{ArePartKeys, HoldsPart, places_among};
 ghost use Rattle.tl_number.specs.KeysAlong.{keys_along};
 ghost use Rattle.tl_number.specs.NamesAlong.{chain_feats};
 
@@ -22,9 +22,9 @@ use ordered_lists::{Key, sort_distinct};
 use std::alloc::{AllocError, Global};
 use std::hash::Hash;
 
-/// The picked entries of a list under keys: their keys, ascending, and their places in the list.
+/// The keys of the part in a list, ascending, and their places in the list.
 #[derive(Drop)]
-pub(crate) struct Picked<K: Drop> {
+pub(crate) struct PartKeys<K: Drop> {
     pub(crate) keys: Vec<K>,
     pub(crate) places: Vec<u32>,
 }
@@ -33,10 +33,10 @@ pub(crate) struct Picked<K: Drop> {
 #[derive(Drop)]
 pub(crate) struct PartTables {
     pub(crate) kept: Kept,
-    pub(crate) chains: Picked<u64>,
-    pub(crate) names: Picked<u32>,
-    pub(crate) polygons: Picked<PolygonKey>,
-    pub(crate) landmarks: Picked<u64>,
+    pub(crate) chains: PartKeys<u64>,
+    pub(crate) names: PartKeys<u32>,
+    pub(crate) polygons: PartKeys<PolygonKey>,
+    pub(crate) landmarks: PartKeys<u64>,
     /// The nodes at the ends of its chains, ascending.
     pub(crate) nodes: Vec<u64>,
 }
@@ -79,44 +79,44 @@ fn places_of<K: Key + Hash + NumericKey, L: Listed<Item = K>>(
         .collect(alloc)
 }
 
-/// Picks the wanted keys of a list, with their places.
-fn pick<K: Key + Hash + NumericKey, L: Listed<Item = K>>(
+/// Returns the wanted keys of a list, with their places.
+fn wanted_among<K: Key + Hash + NumericKey, L: Listed<Item = K>>(
     alloc: Global,
     all: &L,
     wanted: &Interner<K>,
-) -> Result<Picked<K>, AllocError>
+) -> Result<PartKeys<K>, AllocError>
     requires { length (L.items all.now) < 2 ^ 32 }
-    ensures { IfOk result (IsPicked K.cmp wanted.now (L.items all.now)) }
+    ensures { IfOk result (ArePartKeys K.cmp wanted.now (L.items all.now)) }
 {
     let places = places_of(alloc, all, wanted)?;
     let keys = keys_at(alloc, all, &places)?;
-    Ok(Picked { keys, places })
+    Ok(PartKeys { keys, places })
 }
 
-/// Picks the keys of a list that these chains have, with their places.
-fn pick_named<K: Key + Hash + NumericKey, L: Listed<Item = K>, G: KeyGroups<Item = K>>(
+/// Returns the keys of a list that these chains have, with their places.
+fn named_among<K: Key + Hash + NumericKey, L: Listed<Item = K>, G: KeyGroups<Item = K>>(
     alloc: Global,
     all: &L,
     chains: &G,
-) -> Result<Picked<K>, AllocError>
+) -> Result<PartKeys<K>, AllocError>
     requires { length (L.items all.now) < 2 ^ 32 }
-    ensures { IfOk result (IsPicked K.cmp (first_seen K.cmp (grouped (G.groups chains.now))) (L.items all.now)) }
+    ensures { IfOk result (ArePartKeys K.cmp (first_seen K.cmp (grouped (G.groups chains.now))) (L.items all.now)) }
 {
     let wanted = keys_of(alloc, chains)?;
-    pick(alloc, all, &wanted)
+    wanted_among(alloc, all, &wanted)
 }
 
-/// Picks these numbers of a list. They may be in any order.
-fn pick_these<L: Listed<Item = u64>>(
+/// Returns these numbers of a list, which may be in any order, with their places.
+fn these_among<L: Listed<Item = u64>>(
     alloc: Global,
     all: &L,
     these: &[u64],
-) -> Result<Picked<u64>, AllocError>
+) -> Result<PartKeys<u64>, AllocError>
     requires { length (L.items all.now) < 2 ^ 32 }
-    ensures { IfOk result (IsPicked nat_cmp (first_seen nat_cmp these.now) (L.items all.now)) }
+    ensures { IfOk result (ArePartKeys nat_cmp (first_seen nat_cmp these.now) (L.items all.now)) }
 {
     let wanted = interned(alloc, these)?;
-    pick(alloc, all, &wanted)
+    wanted_among(alloc, all, &wanted)
 }
 
 /// Returns the chains at places, in the directions that they have in the county.
@@ -150,16 +150,16 @@ fn names_and_polygons<C: Chart>(
     alloc: Global,
     chart: &C,
     chains: &[DirectedChain],
-) -> Result<(Picked<u32>, Picked<PolygonKey>), AllocError>
+) -> Result<(PartKeys<u32>, PartKeys<PolygonKey>), AllocError>
     requires names { length (C.county chart.now).names < 2 ^ 32 }
     requires polygons { length (C.county chart.now).polygons < 2 ^ 32 }
-    ensures names { IfOk result (λ found. IsPicked nat_cmp (first_seen nat_cmp (grouped (keys_along chain_feats (C.county chart.now) chains.now)))
+    ensures names { IfOk result (λ found. ArePartKeys nat_cmp (first_seen nat_cmp (grouped (keys_along chain_feats (C.county chart.now) chains.now)))
         (feats (C.county chart.now)) found.0) }
-    ensures polygons { IfOk result (λ found. IsPicked key_cmp (first_seen key_cmp (grouped (keys_along chain_polygons (C.county chart.now) chains.now)))
+    ensures polygons { IfOk result (λ found. ArePartKeys key_cmp (first_seen key_cmp (grouped (keys_along chain_polygons (C.county chart.now) chains.now)))
         (polygon_keys (C.county chart.now)) found.1) }
 {
-    let names = pick_named(alloc, &Feats(chart), &FeatKeys(chart, chains))?;
-    let polygons = pick_named(alloc, &Polygons(chart), &PolygonKeys(chart, chains));
+    let names = named_among(alloc, &Feats(chart), &FeatKeys(chart, chains))?;
+    let polygons = named_among(alloc, &Polygons(chart), &PolygonKeys(chart, chains));
     both(names, polygons)
 }
 
@@ -173,8 +173,8 @@ pub(crate) fn part_tables<C: Chart>(
     ensures kept { IfOk result (λ tables. tables.kept ≡ kept) }
     ensures holds { IfOk result (HoldsPart (C.county chart.now)) }
 {
-    let chains = pick_these(alloc, &Tlids(chart), &kept.tlids)?;
-    let landmarks = pick_these(alloc, &Lands(chart), &kept.lands)?;
+    let chains = these_among(alloc, &Tlids(chart), &kept.tlids)?;
+    let landmarks = these_among(alloc, &Lands(chart), &kept.lands)?;
     let there = chains_at(alloc, &chains.places)?;
     let nodes = nodes_of(alloc, chart, &there)?;
     let (names, polygons) = names_and_polygons(alloc, chart, &there)?;

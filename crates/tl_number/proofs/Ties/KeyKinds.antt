@@ -1,9 +1,9 @@
 -- Kinds of keys of chains, as nodes, polygons and names: their numbers in choices, and the order in which they first appear.
-use Rattle.tl_number.proofs.Common.{AllContained, Among, Bool, Chain, County, DirectedChain, IsKeyOrder, IsTrue, Known, List, Option, Ordering, PolygonKey, Renumbering, Some, [], all_among, among-get, among-pieces, among-unpieces, among_known, ap, append-nil, ap₂, arith, at_places, brings, chain_feats, chain_nodes, chain_nodes-renumbered, chain_polygons, chain_polygons-renumbered, contains, directed_chain, false, false_from_ne_true, false≢true, feats, feats_in_order, filter, first_open, first_seen, flat_map, flat_map-map, from_first_seen, from_placed, group_at, group_of, grouped, grouped_map, image, image-numbered, image-under_cenid, is_kept, is_open, key_cmp, key_keys, key_on, keys_along, keys_at_open, known-left, known-permutation, known_is_among, length, length-map, lt-ltb, ltb-true, map, map-at_places, map-map, names_renamed, nat_cmp, nat_keys, nodes_along, nodes_from_placed, nodes_to_placed, none_past, numbered_from, option_map, option_to_list, or_left, other_way, place_in, placed, polygons_along, polygons_from_placed, polygons_in_order, polygons_to_placed, range_with_len, refl, renumbered, rights-numbered_from, slice_get, slice_get-map, subst, sym, times, to_filter, to_first_seen, true, turned, unwrap_or, ℕ, ◌++◌, ◌+◌, ◌∙◌, ◌≡◌}
+use Rattle.tl_number.proofs.Common.{AllContained, Among, Bool, Chain, County, DirectedChain, IsKeyOrder, IsTrue, Known, List, Option, Ordering, PolygonKey, Renumbering, Some, [], all_among, among-get, among-pieces, among-unpieces, among_known, ap, append-nil, ap₂, arith, at_places, chain_feats, chain_nodes, chain_nodes-renumbered, chain_polygons, chain_polygons-renumbered, contains, directed_chain, false, false_from_ne_true, false≢true, feats, feats_in_order, filter, first_open, first_seen, flat_map, flat_map-map, from_first_seen, from_placed, group_at, group_of, grouped, grouped_map, has_new_at, image, image-numbered, image-under_cenid, is_kept, is_open, key_cmp, key_keys, key_on, keys_along, keys_at_open, known-left, known-permutation, known_is_among, length, length-map, lt-ltb, ltb-true, map, map-at_places, map-map, names_renamed, nat_cmp, nat_keys, nodes_along, nodes_from_placed, nodes_to_placed, none_past, numbered_from, option_map, option_to_list, or_left, other_way, place_in, placed, polygons_along, polygons_from_placed, polygons_in_order, polygons_to_placed, range_with_len, refl, renumbered, rights-numbered_from, slice_get, slice_get-map, subst, sym, times, to_filter, to_first_seen, true, turned, unwrap_or, ℕ, ◌++◌, ◌+◌, ◌∙◌, ◌≡◌}
 use Rattle.tl_number.proofs.Ties.Keys.{AreAlike, alike_itself, fixed_before, groups_at, groups_listed, swapped_alike, turned_alike}
 use Rattle.tl_number.proofs.Ties.OrderedCounty.{IsKeptPart, OrderedCounty, arranges_in, cenid_kept, chains_at, count_in, directed_in, fixed_there, length_at, new_in, order_in, places_in, read_in, whole_in}
-use Rattle.tl_number.proofs.Ties.Ranks.{AreReordered, IsBrought, in_filtered, in_range, masked_by, next_cmp, places_alike, reordered_all, reordered_back, reordered_then, same_place, same_wanted, to_filtered}
-use Rattle.tl_number.proofs.Ties.WantedMoves.{AreMet, all_kept, all_moved, first_met, kept_keys, kept_there, wanted_met}
+use Rattle.tl_number.proofs.Ties.Ranks.{AreReordered, IsKeptEarlier, in_filtered, in_range, masked_by, next_cmp, places_alike, reordered_all, reordered_back, reordered_then, same_place, same_wanted, to_filtered}
+use Rattle.tl_number.proofs.Ties.WantedMoves.{AreEarlier, all_kept, all_moved, first_earlier, kept_keys, kept_there, wanted_earlier}
 use Rattle.tl_number.proofs.Names.NamePlaces.{feats_permuted}
 use Rattle.tl_number.proofs.Ties.ListsAlike.{among_filtered}
 use Rattle.tl_number.proofs.Ties.Places.{covered_among}
@@ -269,14 +269,14 @@ module _ {K : Type 0} {cmp : K → K → Ordering} (kind : KeyKind cmp) (c : Ord
 
   -- Choices, read at the places that pass a test.
   module _ (wanted : K → Bool) (keep : ℕ → Bool) (open_kept : (place : ℕ) → opens place ≡ true → keep place ≡ true)
-      (met : AreMet kind.order keys_of opens keep open_kept wanted [] 0 by_shape) where
+      (earlier : AreEarlier kind.order keys_of opens keep open_kept wanted [] 0 by_shape) where
     abbrev seen : List DirectedChain → List K
     seen arrangement = first_seen cmp (tested keep arrangement)
 
     from_shapes : (n : ℕ) → AreReordered kind.order wanted (seen by_shape) (seen (directed_in c n))
     from_shapes n = (all_moved kind.order keys_of opens keep open_kept wanted other_way
         (turned_alike c.county kind.order kind.keys kind.turned_keys) c.shapes.places by_shape n c.known.within
-        (covered_among c.shapes.places c.shapes.places (λ place e. e)) met).reordered [] (λ k h. h)
+        (covered_among c.shapes.places c.shapes.places (λ place e. e)) earlier).reordered [] (λ k h. h)
 
     between : (n m : ℕ) → AreReordered kind.order wanted (seen (directed_in c n)) (seen (directed_in c m))
     between n m = reordered_then kind.order wanted _ _ _ (reordered_back kind.order wanted _ _ (from_shapes n)) (from_shapes m)
@@ -300,7 +300,7 @@ module _ {K : Type 0} {cmp : K → K → Ordering} (kind : KeyKind cmp) (c : Ord
       same_place kind.order opened (seen_in cmp kind.keys c n) (seen_in cmp kind.keys c m)
       (reordered_all kind.order opened (seen_in cmp kind.keys c n) (seen_in cmp kind.keys c m)
       (rw (← read_all n, ← read_all m) (between opened (λ p. true) (λ p f. refl)
-      (first_met kind.order keys_of opens (λ p. true) (λ p f. refl) opened (λ p. refl) [] [] 0 by_shape (λ j f h. h)
+      (first_earlier kind.order keys_of opens (λ p. true) (λ p f. refl) opened (λ p. refl) [] [] 0 by_shape (λ j f h. h)
       (λ j h. lt-ltb 0 (times cmp j (first_open cmp c.shapes.places (keys_along kind.keys c.county by_shape))) h)) n m))) k e
     where
       opened : K → Bool
@@ -314,9 +314,9 @@ module _ {K : Type 0} {cmp : K → K → Ordering} (kind : KeyKind cmp) (c : Ord
     open_wanted : (k : K) → Known cmp (tested opens by_shape) k → wanted k ≡ true
     open_wanted k h = lt-ltb 0 (times cmp k wanted_keys) (opened_wanted k (subst (λ ks. Known cmp ks k) read_open h))
 
-    open_met : (keep : ℕ → Bool) (open_kept : (place : ℕ) → opens place ≡ true → keep place ≡ true)
-        → AreMet kind.order keys_of opens keep open_kept wanted [] 0 by_shape
-    open_met keep open_kept = wanted_met kind.order keys_of opens keep open_kept wanted [] 0 by_shape open_wanted
+    open_earlier : (keep : ℕ → Bool) (open_kept : (place : ℕ) → opens place ≡ true → keep place ≡ true)
+        → AreEarlier kind.order keys_of opens keep open_kept wanted [] 0 by_shape
+    open_earlier keep open_kept = wanted_earlier kind.order keys_of opens keep open_kept wanted [] 0 by_shape open_wanted
 
     -- Each key of a chain at an open place of a choice is wanted.
     pub opened_in : (n place : ℕ) (x : Chain) → opens place ≡ true → slice_get (chains_at c n) place ≡ Some x → (k : K) → Known cmp (kind.keys x) k
@@ -331,12 +331,12 @@ module _ {K : Type 0} {cmp : K → K → Ordering} (kind : KeyKind cmp) (c : Ord
         (known_is_among kind.order k _ (subst (λ ks. Known cmp ks k) (sym (group_chain c n kind.keys place x e))
         (known-left kind.order k (kind.keys x) [] h)))) in
         open_wanted k (from_first_seen kind.order (tested opens by_shape) k
-        (((from_shapes wanted opens (λ p g. g) (open_met opens (λ p g. g)) n).alike k).1
+        (((from_shapes wanted opens (λ p g. g) (open_earlier opens (λ p g. g)) n).alike k).1
         (to_first_seen kind.order (tested opens (directed_in c n)) k
         (subst (λ ks. Known cmp ks k) (sym (read_at opens (directed_in c n))) there))))
 
-    -- A small county, whose chains in a choice are those at kept places; each place that brings a wanted key is kept.
-    module _ (bringing_kept : (place : ℕ) → brings cmp c.shapes.places wanted_keys (keys_along kind.keys c.county by_shape) place ≡ true
+    -- A small county, whose chains in a choice are those at kept places; each place with a new key is kept.
+    module _ (new_kept : (place : ℕ) → has_new_at cmp c.shapes.places wanted_keys (keys_along kind.keys c.county by_shape) place ≡ true
         → is_kept c.county c.shapes place ≡ true) (small : OrderedCounty) (part : IsKeptPart c small (is_kept c.county c.shapes)) where
       abbrev kept : ℕ → Bool
       kept = is_kept c.county c.shapes
@@ -360,33 +360,33 @@ module _ {K : Type 0} {cmp : K → K → Ordering} (kind : KeyKind cmp) (c : Ord
           ap (λ ks. filter wanted (first_seen cmp ks)) (ap grouped (sym (groups_listed here))
           ∙ grouped_map (group_at here) (range_with_len 0 (length here)) ∙ ap (λ count. flat_map (group_at here) (range_with_len 0 count))
           (length-map (directed_in c n) keys_of ∙ count_in c n))
-          ∙ same_wanted kind.order wanted kept (group_at here) brought (length by_shape)
+          ∙ same_wanted kind.order wanted kept (group_at here) kept_earlier (length by_shape)
           ∙ ap (λ ks. filter wanted (first_seen cmp ks)) (sym (read_kept n))
         where
           here : List (List K)
           here = along_in c n kind.keys
 
-          -- a place that is left out is fixed, and brings nothing
-          brought : (place : ℕ) → kept place ≡ false → (k : K) → Known cmp (group_at here place) k → wanted k ≡ true
-              → IsBrought kind.order kept (group_at here) place k
-          brought place out k h is_wanted =
+          -- a place that is left out is fixed, and has no new key
+          kept_earlier : (place : ℕ) → kept place ≡ false → (k : K) → Known cmp (group_at here place) k → wanted k ≡ true
+              → IsKeptEarlier kind.order kept (group_at here) place k
+          kept_earlier place out k h is_wanted =
               let along : List (List K) = keys_along kind.keys c.county by_shape in
-              let nothing = false_from_ne_true (brings cmp c.shapes.places wanted_keys along place) (λ e. false≢true (sym out ∙ bringing_kept place e)) in
+              let nothing = false_from_ne_true (has_new_at cmp c.shapes.places wanted_keys along place) (λ e. false≢true (sym out ∙ new_kept place e)) in
               let first =
               fixed_before kind.order c.shapes.places along wanted_keys place nothing k is_wanted
               (subst (λ ks. Known cmp ks k) (group_fixed c n kind.keys place (part.fixed place out)) h) in
               record {
                 before = first.0.first;
                 less = first.1;
-                kept = bringing_kept first.0.first first.0.new_there;
+                kept = new_kept first.0.first first.0.new_there;
                 here = subst (λ ks. Known cmp ks k) (sym (group_fixed c n kind.keys first.0.first first.0.fixed)) first.0.here;
               }
 
       pub seen_alike : AreSeenAlike kind wanted_keys c small
       seen_alike =
-          let all = open_met (λ p. true) (λ p e. refl) in
+          let all = open_earlier (λ p. true) (λ p e. refl) in
           let open_kept = λ (p : ℕ) (e : opens p ≡ true). or_left (opens p) _ e in
-          let at_kept = open_met kept open_kept in
+          let at_kept = open_earlier kept open_kept in
           record {
             reordered = λ n m. rw (← read_all n, ← read_all m) (between wanted (λ p. true) (λ p e. refl) all n m);
             small_reordered = λ n m. rw (← read_small n, ← read_small m) (between wanted kept open_kept at_kept n m);

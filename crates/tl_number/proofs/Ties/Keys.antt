@@ -1,5 +1,5 @@
 -- Keys along chains: which are seen first, their places, their groups, and the first fixed places of each.
-use Rattle.tl_number.proofs.Common.{Bool, Chain, County, DirectedChain, IsApart, IsKeyOrder, Known, List, None, OpenPlace, Option, Ordering, Some, [], among-get, among_any, among_known, ap, apart_tail, append-nil, append_assoc, ap₂, arith, at_places, brings, chain_at, cond, cons_option, contains, contains_alike, directed_chain, false, fill_by_all, filter, first_seen_after, fixed_keys, flat_map, group_at, grouped, grouped_map, inl, inr, is_eq, is_open, known-append, known-left, known-right, known_is_among, length, ltb-false, ltb-true, map, min, newly_seen, not, option_map, option_to_list, other_way, pieces_next, place_in, range_with_len, refl, same-itself, same_or_not, slice_get, subst, suc, sym, times, times-append, times-no, times-yes, true, turned, turned_if, unwrap_or, unwrap_or-slice_get, zero, ℕ, ◌&&◌, ◌++◌, ◌+◌, ◌-◌, ◌<◌, ◌∙◌, ◌∷◌, ◌≡◌, ◌≤◌, ◌⊎◌}
+use Rattle.tl_number.proofs.Common.{Bool, Chain, County, DirectedChain, IsApart, IsKeyOrder, Known, List, None, OpenPlace, Option, Ordering, Some, [], among-get, among_any, among_known, ap, apart_tail, append-nil, append_assoc, ap₂, arith, at_places, chain_at, cond, cons_option, contains, contains_alike, directed_chain, false, fill_by_all, filter, first_seen_after, fixed_keys, flat_map, group_at, grouped, grouped_map, has_new_at, inl, inr, is_eq, is_open, known-append, known-left, known-right, known_is_among, length, ltb-false, ltb-true, map, min, newly_seen, not, option_map, option_to_list, other_way, pieces_next, place_in, range_with_len, refl, same-itself, same_or_not, slice_get, subst, suc, sym, times, times-append, times-no, times-yes, true, turned, turned_if, unwrap_or, unwrap_or-slice_get, zero, ℕ, ◌&&◌, ◌++◌, ◌+◌, ◌-◌, ◌<◌, ◌∙◌, ◌∷◌, ◌≡◌, ◌≤◌, ◌⊎◌}
 use Rattle.canonical_form.proofs.Numbering.SeenKeys.{found_key}
 
 -- two lists have the same members
@@ -198,18 +198,18 @@ fixed_more {K} places along place = read (place + 1) ∙ sym (pieces_next part p
 
 module _ {K : Type 0} {cmp : K → K → Ordering} (o : IsKeyOrder cmp) (places : List OpenPlace) (along : List (List K))
     (opened : List K) where
-  -- a place brings a key of the list that no fixed place before it has
-  brings_key : (place : ℕ) (k : K) → contains cmp k opened ≡ true → contains cmp k (fixed_keys places along place) ≡ false
-      → Known cmp (group_at along place) k → brings cmp places opened along place ≡ true
-  brings_key place k is_opened new here =
+  -- a key of the list that no fixed place before has is new
+  key_is_new : (place : ℕ) (k : K) → contains cmp k opened ≡ true → contains cmp k (fixed_keys places along place) ≡ false
+      → Known cmp (group_at along place) k → has_new_at cmp places opened along place ≡ true
+  key_is_new place k is_opened new here =
       among_any (λ key. contains cmp key opened && not (contains cmp key (fixed_keys places along place))) k (group_at along place)
       (known_is_among o k (group_at along place) here) (ap₂ (λ x y. x && not y) is_opened new)
 
-  -- the first fixed place of a wanted key brings it
+  -- at its first fixed place a wanted key is new
   pub record FirstFixed (k : K) : Type 0 where
     pub first : ℕ
     pub fixed : is_open places first ≡ false
-    pub new_there : brings cmp places opened along first ≡ true
+    pub new_there : has_new_at cmp places opened along first ≡ true
     pub here : Known cmp (group_at along first) k
 
   -- each of these keys at fixed places has such a place
@@ -233,14 +233,14 @@ module _ {K : Type 0} {cmp : K → K → Ordering} (o : IsKeyOrder cmp) (places 
       go b e true f ih (inr l) = absurd (omega (arith, l))
       go true e false f ih (inr l) = later (ih (ltb-true 0 (times cmp k (fixed_keys places along place)) e))
       go false e false f ih (inr l) =
-          (record { first = place; fixed = f; new_there = brings_key place k is_opened e l; here = l }, omega arith)
+          (record { first = place; fixed = f; new_there = key_is_new place k is_opened e l; here = l }, omega arith)
 
-  -- a place that brings nothing has such keys only after their first fixed places
-  pub fixed_before : (place : ℕ) → brings cmp places opened along place ≡ false → (k : K) → contains cmp k opened ≡ true
+  -- a place without a new key has such keys only after their first fixed places
+  pub fixed_before : (place : ℕ) → has_new_at cmp places opened along place ≡ false → (k : K) → contains cmp k opened ≡ true
       → Known cmp (group_at along place) k → (f : FirstFixed k) × (f.first < place)
   fixed_before place nothing_new k is_opened here =
       first_fixed place k is_opened (old (contains cmp k (fixed_keys places along place)) refl)
     where
       old : (c : Bool) → contains cmp k (fixed_keys places along place) ≡ c → Known cmp (fixed_keys places along place) k
       old true f = ltb-true 0 (times cmp k (fixed_keys places along place)) f
-      old false f = let both : false ≡ true = sym nothing_new ∙ brings_key place k is_opened f here in cc
+      old false f = let both : false ≡ true = sym nothing_new ∙ key_is_new place k is_opened f here in cc

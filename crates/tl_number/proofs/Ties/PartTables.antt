@@ -1,5 +1,5 @@
 -- The tables of a part of a county hold its keys, and the places of its entries in the county.
-use Rattle.tl_number.proofs.Common.{AreReadAt, Body7, Bool, Chain, County, DirectedChain, Fields8, HoldsPart, IfSome, IsKeyOrder, IsPicked, List, None, Option, Ordering, PartTables, PolygonKey, Some, [], all_among, all_everywhere, all_map, among-get, ap, append-nil, ap₂, arith, at_places, bodies_at, chain_feats, chain_nodes, chain_polygons, contains, contains_alike, distinct, distinct-in_order, distinct_same, entry_keys, entry_values, eqb-true, false, feats, feats_along, filter, first_seen, flat_map, from_first_seen, get_or, grouped, in_order-strict, key_cmp, key_keys, keys_along, lands, length, length-map, links_at, links_with, list_any, map, map-map, nat_cmp, nat_keys, nodes_along, option_map, option_to_list, part_with, places_among, polygon_keys, polygons_along, range_with_len, refl, slice_get, slice_get-map, slice_get_past, slice_get_within, subst, suc, sym, tlids, to_first_seen, true, turned_if, unwrap_or, zero, ℕ, ◌++◌, ◌<◌, ◌==◌, ◌||◌, ◌∙◌, ◌∷◌, ◌≡◌}
+use Rattle.tl_number.proofs.Common.{ArePartKeys, AreReadAt, Body7, Bool, Chain, County, DirectedChain, Fields8, HoldsPart, IfSome, IsKeyOrder, List, None, Option, Ordering, PartTables, PolygonKey, Some, [], all_among, all_everywhere, all_map, among-get, ap, append-nil, ap₂, arith, at_places, bodies_at, chain_feats, chain_nodes, chain_polygons, contains, contains_alike, distinct, distinct-in_order, distinct_same, entry_keys, entry_values, eqb-true, false, feats, feats_along, filter, first_seen, flat_map, from_first_seen, get_or, grouped, in_order-strict, key_cmp, key_keys, keys_along, lands, length, length-map, links_at, links_with, list_any, map, map-map, nat_cmp, nat_keys, nodes_along, option_map, option_to_list, part_with, places_among, polygon_keys, polygons_along, range_with_len, refl, slice_get, slice_get-map, slice_get_past, slice_get_within, subst, suc, sym, tlids, to_first_seen, true, turned_if, unwrap_or, zero, ℕ, ◌++◌, ◌<◌, ◌==◌, ◌||◌, ◌∙◌, ◌∷◌, ◌≡◌}
 use Rattle.arranged_county.proofs.Names.NameOrder.{filter_map_all}
 use Rattle.tl_number.proofs.Ties.CountyParts.{all_pass}
 use Rattle.tl_number.proofs.Ties.PartChoices.{filter_narrower}
@@ -16,26 +16,26 @@ read_there xs (p ∷ ps) (y ∷ ys) e zero = let here : slice_get xs p ≡ Some 
 read_there xs (p ∷ ps) (y ∷ ys) e (suc place) = let rest : AreReadAt xs ps ys = cc in read_there xs ps ys rest place
 
 -- so are the values of entries
-pub value_there : {K V : Type 0} (es : List (K × V)) (places : List ℕ) (picked : List (K × V)) → AreReadAt es places picked → (place there : ℕ)
-    → there ≡ get_or places place (length es) → slice_get (entry_values es) there ≡ slice_get (entry_values picked) place
-value_there {K} {V} es places picked e place there is =
+pub value_there : {K V : Type 0} (es : List (K × V)) (places : List ℕ) (in_part : List (K × V)) → AreReadAt es places in_part → (place there : ℕ)
+    → there ≡ get_or places place (length es) → slice_get (entry_values es) there ≡ slice_get (entry_values in_part) place
+value_there {K} {V} es places in_part e place there is =
     slice_get-map (λ (entry : K × V). entry.1) es there
-    ∙ ap (option_map (λ (entry : K × V). entry.1)) (ap (slice_get es) is ∙ read_there es places picked e place)
-    ∙ sym (slice_get-map (λ (entry : K × V). entry.1) picked place)
+    ∙ ap (option_map (λ (entry : K × V). entry.1)) (ap (slice_get es) is ∙ read_there es places in_part e place)
+    ∙ sym (slice_get-map (λ (entry : K × V). entry.1) in_part place)
 
 -- and of one that is there
-pub read_within : {E X : Type 0} (f : E → X) (es picked : List E) (there place : ℕ)
-    → slice_get (map f es) there ≡ slice_get (map f picked) place → place < length picked → there < length es
+pub read_within : {E X : Type 0} (f : E → X) (es in_part : List E) (there place : ℕ)
+    → slice_get (map f es) there ≡ slice_get (map f in_part) place → place < length in_part → there < length es
 read_within f es [] there place e h = absurd (omega (arith, h))
-read_within f es (x ∷ picked) there zero e h = omega (arith, slice_get_within (map f es) there (f x) e, length-map es f)
-read_within f es (x ∷ picked) there (suc place) e h = read_within f es picked there place e (omega (arith, h))
+read_within f es (x ∷ in_part) there zero e h = omega (arith, slice_get_within (map f es) there (f x) e, length-map es f)
+read_within f es (x ∷ in_part) there (suc place) e h = read_within f es in_part there place e (omega (arith, h))
 
 -- entries with used keys, if the same keys are wanted
 module _ {K V : Type 0} (cmp : K → K → Ordering) (wanted used : List K) (same : (k : K) → contains cmp k wanted ≡ contains cmp k used)
     (es : List (K × V)) where
   -- are read at the places,
-  pub picked_read : AreReadAt es (places_among cmp wanted (entry_keys es)) (filter (λ e. contains cmp e.0 used) es)
-  picked_read = ap (λ n. map (slice_get es) (filter test (range_with_len 0 n))) (length-map es (λ (e : K × V). e.0))
+  pub part_read : AreReadAt es (places_among cmp wanted (entry_keys es)) (filter (λ e. contains cmp e.0 used) es)
+  part_read = ap (λ n. map (slice_get es) (filter test (range_with_len 0 n))) (length-map es (λ (e : K × V). e.0))
       ∙ marked_read (λ (e : K × V). contains cmp e.0 used) test es (λ place e there.
       sym (ap (λ o. list_any (λ k. contains cmp k wanted) (option_to_list o))
       (slice_get-map (λ (e : K × V). e.0) es place ∙ ap (option_map (λ (e : K × V). e.0)) there)
@@ -49,17 +49,17 @@ module _ {K V : Type 0} (cmp : K → K → Ordering) (wanted used : List K) (sam
       alone false = refl
 
   -- and so are their keys
-  pub picked_keys : at_places (entry_keys es) (places_among cmp wanted (entry_keys es)) ≡ entry_keys (filter (λ e. contains cmp e.0 used) es)
-  picked_keys =
+  pub part_keys : at_places (entry_keys es) (places_among cmp wanted (entry_keys es)) ≡ entry_keys (filter (λ e. contains cmp e.0 used) es)
+  part_keys =
       let key : K × V → K = λ e. e.0 in
       let places : List ℕ = places_among cmp wanted (entry_keys es) in
-      let picked : List (K × V) = filter (λ e. contains cmp e.0 used) es in
-      filter_map_all (slice_get (entry_keys es)) places (entry_keys picked)
+      let in_part : List (K × V) = filter (λ e. contains cmp e.0 used) es in
+      filter_map_all (slice_get (entry_keys es)) places (entry_keys in_part)
       ((λ i. map (λ p. slice_get-map key es p i) places)
       ∙ sym (map-map (option_map key) (slice_get es) places)
-      ∙ ap (map (option_map key)) picked_read
-      ∙ map-map (option_map key) Some picked
-      ∙ sym (map-map Some key picked))
+      ∙ ap (map (option_map key)) part_read
+      ∙ map-map (option_map key) Some in_part
+      ∙ sym (map-map Some key in_part))
 
 -- the keys that are seen are the keys of the list
 pub seen_known : {K : Type 0} {cmp : K → K → Ordering} (o : IsKeyOrder cmp) (keys : List K) (key : K)
@@ -67,54 +67,54 @@ pub seen_known : {K : Type 0} {cmp : K → K → Ordering} (o : IsKeyOrder cmp) 
 seen_known {cmp = cmp} o keys key = contains_alike o (first_seen cmp keys) keys key (from_first_seen o keys key) (to_first_seen o keys key)
 
 -- the keys of chains at places
-along_read : {K : Type 0} (keys : Chain → List K) (county : County) (places : List ℕ) (picked : List (ℕ × Chain)) → AreReadAt county.chains places picked
-    → grouped (keys_along keys county (map (λ place. record { place = place; turned = false }) places)) ≡ flat_map (λ entry. keys entry.1) picked
+along_read : {K : Type 0} (keys : Chain → List K) (county : County) (places : List ℕ) (in_part : List (ℕ × Chain)) → AreReadAt county.chains places in_part
+    → grouped (keys_along keys county (map (λ place. record { place = place; turned = false }) places)) ≡ flat_map (λ entry. keys entry.1) in_part
 along_read keys county [] [] e = refl
-along_read keys county [] (entry ∷ picked) e = cc
+along_read keys county [] (entry ∷ in_part) e = cc
 along_read keys county (p ∷ ps) [] e = cc
-along_read keys county (p ∷ ps) (entry ∷ picked) e =
+along_read keys county (p ∷ ps) (entry ∷ in_part) e =
     let here : slice_get county.chains p ≡ Some entry = cc in
-    let rest : AreReadAt county.chains ps picked = cc in
+    let rest : AreReadAt county.chains ps in_part = cc in
     ap₂ (λ xs ys. xs ++ ys)
     (ap (λ o. flat_map keys (option_to_list (option_map (turned_if false) o))) (slice_get-map (λ (e : ℕ × Chain). e.1) county.chains p
     ∙ ap (option_map (λ (e : ℕ × Chain). e.1)) here) ∙ append-nil (keys entry.1))
-    (along_read keys county ps picked rest)
+    (along_read keys county ps in_part rest)
 
 -- The tables of some chains, their nodes, names and polygons hold a part of the county.
 pub tables_hold : (county : County) (tables : PartTables) (chains : List DirectedChain)
-    → IsPicked nat_cmp (first_seen nat_cmp tables.kept.tlids.items) (tlids county) tables.chains
+    → ArePartKeys nat_cmp (first_seen nat_cmp tables.kept.tlids.items) (tlids county) tables.chains
     → chains ≡ map (λ place. record { place = place; turned = false }) tables.chains.places.items
     → tables.nodes.items ≡ distinct nat_cmp (first_seen nat_cmp (grouped (keys_along chain_nodes county chains)))
-    → IsPicked nat_cmp (first_seen nat_cmp (grouped (keys_along chain_feats county chains))) (feats county) tables.names
-    → IsPicked key_cmp (first_seen key_cmp (grouped (keys_along chain_polygons county chains))) (polygon_keys county) tables.polygons
-    → IsPicked nat_cmp (first_seen nat_cmp tables.kept.lands.items) (lands county) tables.landmarks
+    → ArePartKeys nat_cmp (first_seen nat_cmp (grouped (keys_along chain_feats county chains))) (feats county) tables.names
+    → ArePartKeys key_cmp (first_seen key_cmp (grouped (keys_along chain_polygons county chains))) (polygon_keys county) tables.polygons
+    → ArePartKeys nat_cmp (first_seen nat_cmp tables.kept.lands.items) (lands county) tables.landmarks
     → HoldsPart county tables
 unfolding part_of
-tables_hold county tables chains picked there nodes names polygons landmarks =
+tables_hold county tables chains in_part there nodes names polygons landmarks =
     let used : List ℕ = tables.kept.tlids.items in
     let used_lands : List ℕ = tables.kept.lands.items in
     let same_lands = λ (k : ℕ). seen_known nat_keys used_lands k in
     let kept : List (ℕ × Chain) = filter (λ entry. contains nat_cmp entry.0 used) county.chains in
     let read : AreReadAt county.chains tables.chains.places.items kept =
-    subst (λ places. AreReadAt county.chains places kept) (sym picked.places)
-    (picked_read nat_cmp (first_seen nat_cmp used) used (seen_known nat_keys used) county.chains) in
+    subst (λ places. AreReadAt county.chains places kept) (sym in_part.places)
+    (part_read nat_cmp (first_seen nat_cmp used) used (seen_known nat_keys used) county.chains) in
     let along_nodes = ap (λ ds. grouped (keys_along chain_nodes county ds)) there ∙ along_read chain_nodes county tables.chains.places.items kept read in
     let along_feats = ap (λ ds. grouped (keys_along chain_feats county ds)) there ∙ along_read chain_feats county tables.chains.places.items kept read in
     let along_sides = ap (λ ds. grouped (keys_along chain_polygons county ds)) there ∙ along_read chain_polygons county tables.chains.places.items kept read in
     let same_feats = λ (k : ℕ). seen_known nat_keys (grouped (keys_along chain_feats county chains)) k ∙ ap (contains nat_cmp k) along_feats in
     let same_sides = λ (k : PolygonKey). seen_known key_keys (grouped (keys_along chain_polygons county chains)) k ∙ ap (contains key_cmp k) along_sides in
     record {
-      tlids = picked.keys ∙ picked_keys nat_cmp (first_seen nat_cmp used) used (seen_known nat_keys used) county.chains;
+      tlids = in_part.keys ∙ part_keys nat_cmp (first_seen nat_cmp used) used (seen_known nat_keys used) county.chains;
       chains = read;
-      feats = names.keys ∙ picked_keys nat_cmp _ (feats_along kept) same_feats county.names;
+      feats = names.keys ∙ part_keys nat_cmp _ (feats_along kept) same_feats county.names;
       names = subst (λ places. AreReadAt county.names places (filter (λ name. contains nat_cmp name.0 (feats_along kept)) county.names))
-          (sym names.places) (picked_read nat_cmp _ (feats_along kept) same_feats county.names);
-      keys = polygons.keys ∙ picked_keys key_cmp _ (polygons_along kept) same_sides county.polygons;
+          (sym names.places) (part_read nat_cmp _ (feats_along kept) same_feats county.names);
+      keys = polygons.keys ∙ part_keys key_cmp _ (polygons_along kept) same_sides county.polygons;
       polygons = subst (λ places. AreReadAt county.polygons places (filter (λ polygon. contains key_cmp polygon.0 (polygons_along kept)) county.polygons))
-          (sym polygons.places) (picked_read key_cmp _ (polygons_along kept) same_sides county.polygons);
-      lands = landmarks.keys ∙ picked_keys nat_cmp (first_seen nat_cmp used_lands) used_lands same_lands county.landmarks;
+          (sym polygons.places) (part_read key_cmp _ (polygons_along kept) same_sides county.polygons);
+      lands = landmarks.keys ∙ part_keys nat_cmp (first_seen nat_cmp used_lands) used_lands same_lands county.landmarks;
       landmarks = subst (λ places. AreReadAt county.landmarks places (filter (λ landmark. contains nat_cmp landmark.0 used_lands) county.landmarks))
-          (sym landmarks.places) (picked_read nat_cmp (first_seen nat_cmp used_lands) used_lands same_lands county.landmarks);
+          (sym landmarks.places) (part_read nat_cmp (first_seen nat_cmp used_lands) used_lands same_lands county.landmarks);
       nodes = nodes ∙ distinct_same nat_keys (first_seen nat_cmp (grouped (keys_along chain_nodes county chains))) (nodes_along kept)
           (λ k. seen_known nat_keys (grouped (keys_along chain_nodes county chains)) k ∙ ap (contains nat_cmp k) along_nodes);
     }

@@ -1,4 +1,4 @@
--- The places that open places cover, and elements that are picked by their places.
+-- The places that open places cover, and elements at some places of a list.
 use Rattle.tl_number.proofs.Common.{AllByRecursion, AreReadAt, Bool, IsApart, IsKeyOrder, List, None, OpenPlace, Option, Ordering, Some, [], all_filter, among-get, among_known, and_cases, and_from, ap, arith, at_places, cond, contains, contains-filter, false, filter, flat_map, inl, inr, is_open, le-leb, leb-false, length, lt-ltb, ltb-false, map, map-at_places, nat_le, nat_lt, option_map, or_left, or_parts, or_right, place_in, range_with_len, refl, same_Some, same_somes, slice_get, slice_get-map, sym, true, ℕ, ◌&&◌, ◌++◌, ◌+◌, ◌<◌, ◌∙◌, ◌∷◌, ◌≡◌, ◌≤◌, ◌⊎◌}
 use Rattle.tl_number.proofs.Ties.Keys.{found_there}
 use Rattle.arranged_county.proofs.Landmarks.LandmarkLinks.{listed}
@@ -38,7 +38,7 @@ covered_among [] all h = tt
 covered_among (at ∷ places) all h =
     ((λ place c. h place (covered_open place at places c)), covered_among places all (λ place e. h place (later_open place at places e)))
 
--- ---- elements of a list that are picked by a test, or by a test of their places
+-- ---- elements of a list that pass a test, or whose places do
 
 -- each element passes one test if its place passes the other
 abbrev pub AreMarked : {X : Type 0} → (X → Bool) → (ℕ → Bool) → List X → Type 0

@@ -306,7 +306,7 @@ module _ {K : Type 0} {cmp : K → K → Ordering} (o : IsKeyOrder cmp) where
           ∙ sym (ap (first_seen cmp) (ap (λ l. part_before ++ l) out.0 ∙ append-nil part_before))
 
   -- an earlier place that is kept has the key
-  pub record IsBrought (keep : ℕ → Bool) (keys_at : ℕ → List K) (place : ℕ) (k : K) : Type 0 where
+  pub record IsKeptEarlier (keep : ℕ → Bool) (keys_at : ℕ → List K) (place : ℕ) (k : K) : Type 0 where
     pub before : ℕ
     pub less : before < place
     pub kept : keep before ≡ true
@@ -314,10 +314,10 @@ module _ {K : Type 0} {cmp : K → K → Ordering} (o : IsKeyOrder cmp) where
 
   -- So the wanted keys are the same by first appearance, if each of them at a place that is left out is at an earlier one that is kept.
   pub same_wanted : (wanted : K → Bool) (keep : ℕ → Bool) (keys_at : ℕ → List K)
-      → ((place : ℕ) → keep place ≡ false → (k : K) → Known cmp (keys_at place) k → wanted k ≡ true → IsBrought keep keys_at place k)
+      → ((place : ℕ) → keep place ≡ false → (k : K) → Known cmp (keys_at place) k → wanted k ≡ true → IsKeptEarlier keep keys_at place k)
       → (count : ℕ) → filter wanted (first_seen cmp (flat_map keys_at (range_with_len 0 count)))
       ≡ filter wanted (first_seen cmp (flat_map keys_at (filter keep (range_with_len 0 count))))
-  same_wanted wanted keep keys_at brought count =
+  same_wanted wanted keep keys_at kept_earlier count =
       wanted_of (range_with_len 0 count) ∙ part_seen wanted_at kept_at (λ place. each place (keep place) refl) count
       ∙ ap (first_seen cmp) (sym (flat_map_filter keep wanted_at (range_with_len 0 count)))
       ∙ sym (wanted_of (filter keep (range_with_len 0 count)))
@@ -344,7 +344,7 @@ module _ {K : Type 0} {cmp : K → K → Ordering} (o : IsKeyOrder cmp) where
         refl,
         λ k h.
             let there = in_filtered wanted (keys_at place) k h in
-            let b = brought place e k there.0 there.1 in
+            let b = kept_earlier place e k there.0 there.1 in
             among_known o k (flat_map kept_at (range_with_len 0 place))
             (among-pieces kept_at b.before k (range_with_len 0 place) (in_range place b.before b.less)
             (known_is_among o k (kept_at b.before) (rw b.kept (to_filtered wanted (keys_at b.before) k b.here there.1)))),

@@ -1,5 +1,5 @@
 -- Finding the open keys and the kept chains, step by step.
-use Rattle.tl_number.proofs.Common.{Bool, Chain, County, IsKeyOrder, IsSearchAt, List, OpenPlace, Option, OrderOfShapes, Ordering, Some, [], ap, append-nil, append_assoc, ap₂, arith, at_places, brings, cond, cons_option, contains, contains_alike, directed_chain, drop, drop_more, false, filter, filter-append, first_seen, first_seen_after, fixed_keys, flat_map, from_first_seen, get_or, group_at, grouped, has_new, is_open, keys_along, keys_at_open, length, list_any, map-at_places, map-id, met_before, nat_lt, newly_seen, not, open_among, open_keys, option_to_list, range_with_len, refl, seen_append, slice_get, sym, times, times-filter, to_first_seen, true, unwrap_or, unwrap_or-slice_get, ℕ, ◌&&◌, ◌++◌, ◌+◌, ◌<◌, ◌∙◌, ◌∷◌, ◌≡◌}
+use Rattle.tl_number.proofs.Common.{Bool, Chain, County, IsKeyOrder, IsSearchAt, List, OpenPlace, Option, OrderOfShapes, Ordering, Some, [], ap, append-nil, append_assoc, ap₂, arith, at_places, cond, cons_option, contains, contains_alike, directed_chain, drop, drop_more, earlier_keys, false, filter, filter-append, first_seen, first_seen_after, fixed_keys, flat_map, from_first_seen, get_or, group_at, grouped, has_new, has_new_at, is_open, keys_along, keys_at_open, length, list_any, map-at_places, map-id, nat_lt, newly_seen, not, open_among, open_keys, option_to_list, range_with_len, refl, seen_append, slice_get, sym, times, times-filter, to_first_seen, true, unwrap_or, unwrap_or-slice_get, ℕ, ◌&&◌, ◌++◌, ◌+◌, ◌<◌, ◌∙◌, ◌∷◌, ◌≡◌}
 use Rattle.std.proofs.lemmas.List.Elements.{filter_map-append}
 use Rattle.std.proofs.lemmas.List.FromFn.{filter_of_map_range_with_len_more}
 use Rattle.tl_number.proofs.Ties.Keys.{fixed_more, groups_at, newly_append, seen_newly}
@@ -56,14 +56,14 @@ module _ {K : Type 0} {cmp : K → K → Ordering} (o : IsKeyOrder cmp) where
       ∙ (λ j. opened ++ (cond (at j) (newly_seen cmp before keys) [] ++ open_keys cmp is_open (before ++ newly_seen cmp before keys) (i + 1) rest))
       ∙ ap (λ gs. opened ++ open_keys cmp is_open before i gs) (sym split) ∙ is
 
--- ---- finding the places that bring keys, one by one
+-- ---- finding the places with new keys, one by one
 
 module _ {K : Type 0} {cmp : K → K → Ordering} (o : IsKeyOrder cmp) where
   -- a list of keys tells as much as the open ones of them
-  new_alike : (opened met fixed keys : List K) → met ≡ first_seen cmp (filter (λ k. contains cmp k opened) fixed) → has_new cmp opened met keys ≡ has_new cmp opened fixed keys
-  new_alike opened met fixed keys is = λ i. list_any (λ k. one k (contains cmp k opened) refl i) keys
+  new_alike : (opened earlier fixed keys : List K) → earlier ≡ first_seen cmp (filter (λ k. contains cmp k opened) fixed) → has_new cmp opened earlier keys ≡ has_new cmp opened fixed keys
+  new_alike opened earlier fixed keys is = λ i. list_any (λ k. one k (contains cmp k opened) refl i) keys
     where
-      one : (k : K) (b : Bool) → contains cmp k opened ≡ b → (b && not (contains cmp k met)) ≡ (b && not (contains cmp k fixed))
+      one : (k : K) (b : Bool) → contains cmp k opened ≡ b → (b && not (contains cmp k earlier)) ≡ (b && not (contains cmp k fixed))
       one k false e = refl
       one k true e =
           let chosen = filter (λ j. contains cmp j opened) fixed in
@@ -75,16 +75,16 @@ module _ {K : Type 0} {cmp : K → K → Ordering} (o : IsKeyOrder cmp) where
     of_opened keys = filter (λ k. contains cmp k opened) keys
 
     -- the keys of one more place
-    pub brought_here : (place : ℕ) (keys met : List K) → slice_get along place ≡ Some keys → met ≡ first_seen cmp (of_opened (fixed_keys places along place))
-        → has_new cmp opened met keys ≡ brings cmp places opened along place
-    brought_here place keys met there is =
-        new_alike opened met (fixed_keys places along place) keys is
+    pub new_here : (place : ℕ) (keys earlier : List K) → slice_get along place ≡ Some keys → earlier ≡ first_seen cmp (of_opened (fixed_keys places along place))
+        → has_new cmp opened earlier keys ≡ has_new_at cmp places opened along place
+    new_here place keys earlier there is =
+        new_alike opened earlier (fixed_keys places along place) keys is
         ∙ ap (has_new cmp opened (fixed_keys places along place)) (sym (ap (λ (g : Option (List K)). unwrap_or g []) there))
 
-    pub met_more : (place : ℕ) (keys met next : List K) → slice_get along place ≡ Some keys → met ≡ first_seen cmp (of_opened (fixed_keys places along place))
-        → next ≡ first_seen_after cmp met (cond (is_open places place) [] (of_opened keys))
+    pub earlier_more : (place : ℕ) (keys earlier next : List K) → slice_get along place ≡ Some keys → earlier ≡ first_seen cmp (of_opened (fixed_keys places along place))
+        → next ≡ first_seen_after cmp earlier (cond (is_open places place) [] (of_opened keys))
         → next ≡ first_seen cmp (of_opened (fixed_keys places along (place + 1)))
-    met_more place keys met next there is step =
+    earlier_more place keys earlier next there is step =
         let before = of_opened (fixed_keys places along place) in
         step ∙ ap (λ l. first_seen_after cmp l (cond (is_open places place) [] (of_opened keys))) is
         ∙ sym (seen_append cmp [] before (cond (is_open places place) [] (of_opened keys)))
@@ -136,29 +136,29 @@ module _ {X : Type 0} (xs : List X) (test : ℕ → Bool) where
 
 module _ {K : Type 0} {cmp : K → K → Ordering} (o : IsKeyOrder cmp) where
   module _ {places : List OpenPlace} {keys : List K} {along : List (List K)} where
-    -- a search begins with nothing met
-    pub search_starts : (seen : List K) {wanted met : List K} → wanted ≡ first_seen cmp seen
-        → ((k : K) → contains cmp k seen ≡ contains cmp k keys) → met ≡ [] → IsSearchAt cmp places keys along 0 wanted met
+    -- a search begins with no earlier keys
+    pub search_starts : (seen : List K) {wanted earlier : List K} → wanted ≡ first_seen cmp seen
+        → ((k : K) → contains cmp k seen ≡ contains cmp k keys) → earlier ≡ [] → IsSearchAt cmp places keys along 0 wanted earlier
     search_starts seen is same none = record { same = λ k. ap (contains cmp k) is ∙ seen_known o seen k ∙ same k; before = none }
 
-    -- a search of the same places and keys
-    module _ {place : ℕ} {wanted met : List K} (at : IsSearchAt cmp places keys along place wanted met) {places_too : List OpenPlace}
+    -- a search of the same places and keys:
+    module _ {place : ℕ} {wanted earlier : List K} (at : IsSearchAt cmp places keys along place wanted earlier) {places_too : List OpenPlace}
         {along_too : List (List K)} (p : places_too ≡ places) (a : along_too ≡ along) where
-      -- met what it says,
-      pub search_met : met ≡ met_before cmp places_too wanted along_too place
-      search_met = at.before ∙ sym (λ i. met_before cmp (p i) wanted (a i) place)
+      -- its earlier keys are the ones before its place,
+      pub search_earlier : earlier ≡ earlier_keys cmp places_too wanted along_too place
+      search_earlier = at.before ∙ sym (λ i. earlier_keys cmp (p i) wanted (a i) place)
 
-      -- finds a key where one is brought,
-      pub search_finds : {found : Bool} → found ≡ brings cmp places_too wanted along_too place → found ≡ brings cmp places keys along place
-      search_finds is = is ∙ (λ i. brings cmp (p i) wanted (a i) place)
+      -- it finds the places with new keys,
+      pub search_finds : {found : Bool} → found ≡ has_new_at cmp places_too wanted along_too place → found ≡ has_new_at cmp places keys along place
+      search_finds is = is ∙ (λ i. has_new_at cmp (p i) wanted (a i) place)
           ∙ (λ i. list_any (λ k. at.same k i && not (contains cmp k (fixed_keys places along place))) (group_at along place))
 
-      -- and goes on to the next place
-      pub search_next : {wanted_too met_too : List K} → wanted_too ≡ wanted → met_too ≡ met_before cmp places_too wanted along_too (place + 1)
-          → IsSearchAt cmp places keys along (place + 1) wanted_too met_too
+      -- and it goes on to the next place
+      pub search_next : {wanted_too earlier_too : List K} → wanted_too ≡ wanted → earlier_too ≡ earlier_keys cmp places_too wanted along_too (place + 1)
+          → IsSearchAt cmp places keys along (place + 1) wanted_too earlier_too
       search_next w m = record {
         same = λ k. ap (contains cmp k) w ∙ at.same k;
-        before = m ∙ (λ i. met_before cmp (p i) (sym w i) (a i) (place + 1));
+        before = m ∙ (λ i. earlier_keys cmp (p i) (sym w i) (a i) (place + 1));
       }
 
 -- the keys of the chains at open places

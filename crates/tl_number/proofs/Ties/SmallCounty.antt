@@ -1,5 +1,5 @@
 -- The small county is a county within limits, and each of its choices has the chains that the county's choice has at kept places.
-use Rattle.tl_number.proofs.Common.{AllByRecursion, AllKeysContained, Among, AreWhole, Bool, Chain, County, DirectedChain, Fields8, HasChainsOf, IsApart, IsCounty, IsShapeOrder, IsTrue, IsWithinLimits, Known, LeavesChoices, List, Option, OrderOfShapes, PolygonKey, Some, [], all_among, all_weaker, among-get, among-map, among-pieces, among-turned, among-unmap, among-unpieces, among_known, ap, apart_from_sorted, append-nil, arith, arrangement_apart, arrangement_ascend, arrangement_known, arrangement_of, arrangement_of_number, arrangement_there, ascending, at_places, brings, cases_Bool, chain_nodes, chain_polygons, chains, choices, contains, contains-among, directed_chain, directed_shape, each_from, entries_of, false, filter, flat_map, group_at, inl, inr, is_either_way, is_kept, is_open, kept_lands, kept_tlids, key_cmp, key_keys, keys_along, known-permutation, known_is_among, length, length-map, link_key, lt-ltb, map, map-at_places, map-map, most_choices, most_records, nat_cmp, nat_keys, numbered_arrangement, numbered_choice, numbered_is_choice, one_chain, one_entry, one_here, open_places, option_map, option_to_list, or_left, or_parts, or_right, places_within, points_cmp, points_keys, polygon_keys, polygons-unturned, polygons_along, range_with_len, refl, shapes_arrange, shapes_ascending, shapes_of_order, slice_get, slice_get-get_or, slice_get-map, some_at, subst, sym, times, tlid_at, tlids, to_filter, true, turned_directed, turned_if, unwrap_or, wanted_nodes, wanted_polygons, ℕ, ◌++◌, ◌+◌, ◌<◌, ◌∙◌, ◌∷◌, ◌≡◌, ◌≤◌, ◌⊎◌}
+use Rattle.tl_number.proofs.Common.{AllByRecursion, AllKeysContained, Among, AreWhole, Bool, Chain, County, DirectedChain, Fields8, HasChainsOf, IsApart, IsCounty, IsShapeOrder, IsTrue, IsWithinLimits, Known, LeavesChoices, List, Option, OrderOfShapes, PolygonKey, Some, [], all_among, all_weaker, among-get, among-map, among-pieces, among-turned, among-unmap, among-unpieces, among_known, ap, apart_from_sorted, append-nil, arith, arrangement_apart, arrangement_ascend, arrangement_known, arrangement_of, arrangement_of_number, arrangement_there, ascending, at_places, cases_Bool, chain_nodes, chain_polygons, chains, choices, contains, contains-among, directed_chain, directed_shape, each_from, entries_of, false, filter, flat_map, group_at, has_new_at, inl, inr, is_either_way, is_kept, is_open, kept_lands, kept_tlids, key_cmp, key_keys, keys_along, known-permutation, known_is_among, length, length-map, link_key, lt-ltb, map, map-at_places, map-map, most_choices, most_records, nat_cmp, nat_keys, numbered_arrangement, numbered_choice, numbered_is_choice, one_chain, one_entry, one_here, open_places, option_map, option_to_list, or_left, or_parts, or_right, places_within, points_cmp, points_keys, polygon_keys, polygons-unturned, polygons_along, range_with_len, refl, shapes_arrange, shapes_ascending, shapes_of_order, slice_get, slice_get-get_or, slice_get-map, some_at, subst, sym, times, tlid_at, tlids, to_filter, true, turned_directed, turned_if, unwrap_or, wanted_nodes, wanted_polygons, ℕ, ◌++◌, ◌+◌, ◌<◌, ◌∙◌, ◌∷◌, ◌≡◌, ◌≤◌, ◌⊎◌}
 use Rattle.tl_number.proofs.Ties.CountyParts.{all_pass, part_is, part_sides, part_within}
 use Rattle.tl_number.proofs.Ties.KeptLandmarks.{link_wanted}
 use Rattle.tl_number.proofs.Ties.Keys.{fixed_before}
@@ -131,8 +131,8 @@ module _ (county : County) (shapes : OrderOfShapes) (known : LeavesChoices count
           → (is_kept county shapes p ≡ true) ⊎ (is_kept county shapes p ≡ false) → Known key_cmp (polygons_along kept_chains) k
       here p below directed entry at m (inl kept) = on_kept p directed entry at kept k m
       here p below directed entry at m (inr out) =
-          let closed = (or_parts (brings key_cmp shapes.places (wanted_polygons county shapes) along p) _
-          (or_parts (brings nat_cmp shapes.places (wanted_nodes county shapes) (keys_along chain_nodes county by_shape) p) _
+          let closed = (or_parts (has_new_at key_cmp shapes.places (wanted_polygons county shapes) along p) _
+          (or_parts (has_new_at nat_cmp shapes.places (wanted_nodes county shapes) (keys_along chain_nodes county by_shape) p) _
           (or_parts (is_open shapes.places p) _ out).1).1).0 in
           let found = fixed_before key_keys shapes.places along (wanted_polygons county shapes) p closed k is_wanted
           (among_known key_keys k (group_at along p) (subst (Among k) (sym (sides_at p directed entry at)) (among-turned k directed.turned entry.1 m))) in

@@ -1,20 +1,20 @@
 -- Keys of chains whose numbers in two choices compare alike in a county and in its small county, and the records of types 4 and I.
-use Rattle.tl_number.proofs.Common.{AllByRecursion, Bool, Chain, Fields4, FieldsI, FieldsOf, FitsRecord, Four, Greater, I, IfSome, Known, Less, List, None, Option, Ordering, PolygonKey, PolygonSide, RecordType, Renumbering, Some, Type4, TypeI, [], all_at, all_in_pieces, all_known, all_left, all_right, all_unmap, ap, append-nil, ap₂, arith, brings, carried_many, chain_nodes, chain_polygons, contains, drop, drop-map, exact_unsigned, false, false_from_ne_true, false≢true, feats, flat_map, flat_map-map, fours_fit, grouped, grouped_lone, grouped_map, groups_cmp, in_pieces, is_open, key_cmp, key_keys, key_on, key_under, keys_along, known-here, known-left, known-right, known_all, length, length-map, map, map-equal_all, map-map, map_agree_all, nat_cmp, nat_cmp_is, nat_cmp_total, nat_keys, numbered_from, option_and_then, option_map, option_to_list, ordering_then, packed_fours, packed_i, pieces, pieces_together, refl, renumbered, renumbered_polygon, renumbered_side, rights-numbered_from, same_Some, side_of, slice_cmp, slice_get, slice_get-map, subst, suc, sym, table_4, take-map, tied_itself, topologies_fit, true, type_4_by_chain, type_i_by_chain, unwrap_or, zero, ℕ, ◌++◌, ◌<◌, ◌∙◌, ◌∷◌, ◌≡◌}
+use Rattle.tl_number.proofs.Common.{AllByRecursion, Bool, Chain, Fields4, FieldsI, FieldsOf, FitsRecord, Four, Greater, I, IfSome, Known, Less, List, None, Option, Ordering, PolygonKey, PolygonSide, RecordType, Renumbering, Some, Type4, TypeI, [], all_at, all_in_pieces, all_known, all_left, all_right, all_unmap, ap, append-nil, ap₂, arith, carried_many, chain_nodes, chain_polygons, contains, drop, drop-map, exact_unsigned, false, false_from_ne_true, false≢true, feats, flat_map, flat_map-map, fours_fit, grouped, grouped_lone, grouped_map, groups_cmp, has_new_at, in_pieces, is_open, key_cmp, key_keys, key_on, key_under, keys_along, known-here, known-left, known-right, known_all, length, length-map, map, map-equal_all, map-map, map_agree_all, nat_cmp, nat_cmp_is, nat_cmp_total, nat_keys, numbered_from, option_and_then, option_map, option_to_list, ordering_then, packed_fours, packed_i, pieces, pieces_together, refl, renumbered, renumbered_polygon, renumbered_side, rights-numbered_from, same_Some, side_of, slice_cmp, slice_get, slice_get-map, subst, suc, sym, table_4, take-map, tied_itself, topologies_fit, true, type_4_by_chain, type_i_by_chain, unwrap_or, zero, ℕ, ◌++◌, ◌<◌, ◌∙◌, ◌∷◌, ◌≡◌}
 use Rattle.tl_number.proofs.Ties.Columns.{fields_cmp, next_column, place_number, places_alike, places_cmp, rows_cmp}
-use Rattle.tl_number.proofs.Ties.KeptParts.{all_are_there, chain_at_rank}
+use Rattle.tl_number.proofs.Ties.KeptPieces.{all_are_there, chain_at_rank}
 use Rattle.tl_number.proofs.Ties.KeyKinds.{AreNumberedAlike, KeyKind, chain_seen, group_chain, group_fixed, group_read, keys_of_chain, name_kind, new_name, new_node, new_polygon, node_kind, polygon_kind, polygon_number}
 use Rattle.tl_number.proofs.Ties.Keys.{fixed_before}
 use Rattle.tl_number.proofs.Ties.OrderedCounty.{IsKeptPart, OrderedCounty, cenid_kept, chains_at, choice, length_at, new_in, places_in, same_at}
 use Rattle.tl_number.proofs.Ties.SmallRecords.{AreAlike, AreTiedBefore, Making, by_tlid, first_twice, fit_at, made_at, made_in, records_are, records_small, tied_same, tlid_first}
 
 -- The wanted keys of a kind: their numbers compare alike in both counties, each key of a chain at an open place is one of them, and a
--- place that brings one is kept.
+-- place where one is new is kept.
 pub record AreWanted {K : Type 0} {cmp : K → K → Ordering} (kind : KeyKind cmp) (whole small : OrderedCounty) (is_in : ℕ → Bool) : Type 0 where
   pub wanted : List K
   pub alike : (n k : ℕ) → AreNumberedAlike kind wanted whole small n k
   pub opened : (i place : ℕ) (x : Chain) → is_open whole.shapes.places place ≡ true → slice_get (chains_at whole i) place ≡ Some x → (k : K)
       → Known cmp (kind.keys x) k → contains cmp k wanted ≡ true
-  pub kept : (place : ℕ) → brings cmp whole.shapes.places wanted (keys_along kind.keys whole.county whole.shapes.by_shape) place ≡ true
+  pub kept : (place : ℕ) → has_new_at cmp whole.shapes.places wanted (keys_along kind.keys whole.county whole.shapes.by_shape) place ≡ true
       → is_in place ≡ true
 
 -- the chain at a kept place is in the small county, too
@@ -74,24 +74,24 @@ module _ {K : Type 0} {cmp : K → K → Ordering} (kind : KeyKind cmp) where
             ∙ sym (ap (nat_cmp (kind.number (new_in small n) j)) (sym ((are.alike n k).small_stay j e at.1))
             ∙ tied_itself nat_cmp_total (kind.number (new_in small n) j))
 
-    -- So the numbers of keys that are picked from the chains at one kept place compare alike.
+    -- So the numbers of one key of each chain at a kept place compare alike.
     pub key_pair : (place rank rank_too : ℕ) (x y : Chain) → slice_get (chains_at whole n) place ≡ Some x → slice_get (chains_at whole k) place ≡ Some y
         → slice_get (places_in whole is_in) rank ≡ Some place → slice_get (places_in whole is_in) rank_too ≡ Some place
-        → (pick : Chain → Option K) → ((z : Chain) (j : K) → pick z ≡ Some j → Known cmp (kind.keys z) j) → CompareAlike (pick x) (pick y)
-    key_pair place rank rank_too x y there there_too ranked ranked_too pick picked = go (is_open whole.shapes.places place) refl
+        → (one_key : Chain → Option K) → ((z : Chain) (j : K) → one_key z ≡ Some j → Known cmp (kind.keys z) j) → CompareAlike (one_key x) (one_key y)
+    key_pair place rank rank_too x y there there_too ranked ranked_too one_key one_known = go (is_open whole.shapes.places place) refl
       where
         keys_there : (i at : ℕ) (z : Chain) → slice_get (chains_at whole i) place ≡ Some z → slice_get (places_in whole is_in) at ≡ Some place
-            → (j : K) → pick z ≡ Some j → AreKeys j
+            → (j : K) → one_key z ≡ Some j → AreKeys j
         keys_there i at z e f j g = (
-          kind.in_all whole i j (chain_seen kind.order whole i kind.keys j place z e (picked z j g)),
-          kind.in_all small i j (chain_seen kind.order small i kind.keys j at z (small_there part i place at z e f) (picked z j g)),
+          kind.in_all whole i j (chain_seen kind.order whole i kind.keys j place z e (one_known z j g)),
+          kind.in_all small i j (chain_seen kind.order small i kind.keys j at z (small_there part i place at z e f) (one_known z j g)),
         )
 
-        go : (b : Bool) → is_open whole.shapes.places place ≡ b → CompareAlike (pick x) (pick y)
-        go true e = wanted_pair (pick x) (pick y) (λ j f. (are.opened n place x e there j (picked x j f), keys_there n rank x there ranked j f))
-            (λ j f. (are.opened k place y e there_too j (picked y j f), keys_there k rank_too y there_too ranked_too j f))
-        go false e = subst (λ z. CompareAlike (pick x) (pick z)) (same_Some x y (sym there ∙ same_at whole n k place e ∙ there_too))
-            (same_pair (pick x) (keys_there n rank x there ranked))
+        go : (b : Bool) → is_open whole.shapes.places place ≡ b → CompareAlike (one_key x) (one_key y)
+        go true e = wanted_pair (one_key x) (one_key y) (λ j f. (are.opened n place x e there j (one_known x j f), keys_there n rank x there ranked j f))
+            (λ j f. (are.opened k place y e there_too j (one_known y j f), keys_there k rank_too y there_too ranked_too j f))
+        go false e = subst (λ z. CompareAlike (one_key x) (one_key z)) (same_Some x y (sym there ∙ same_at whole n k place e ∙ there_too))
+            (same_pair (one_key x) (keys_there n rank x there ranked))
 
     -- At a place that is left out, two choices give the keys of the chain the same numbers if the records at all kept places before tie,
     -- and if the keys can be read from records.
@@ -100,16 +100,16 @@ module _ {K : Type 0} {cmp : K → K → Ordering} (kind : KeyKind cmp) where
       abbrev IsSame : K → Type 0
       IsSame j = kind.new (new_in whole n) j ≡ kind.new (new_in whole k) j
 
-      abbrev brings_at : ℕ → Bool
-      brings_at q = brings cmp whole.shapes.places are.wanted (keys_along kind.keys whole.county whole.shapes.by_shape) q
+      abbrev new_at : ℕ → Bool
+      new_at q = has_new_at cmp whole.shapes.places are.wanted (keys_along kind.keys whole.county whole.shapes.by_shape) q
 
       read_at : (i q : ℕ) (x : Chain) → slice_get (chains_at whole i) q ≡ Some x → read (made_at m whole i q) ≡ kind.keys (renumbered (new_in whole i) x)
       read_at i q x e = ap (λ o. read (unwrap_or (option_map (made_in m whole i (suc q)) o) [])) e ∙ reads whole i (suc q) x
 
       module _ (place : ℕ) (chain : Chain) (out : is_in place ≡ false) (before : AreTiedBefore m part n k place)
           (there : slice_get (chains_at whole n) place ≡ Some chain) where
-        -- the keys at a fixed place before that brings one
-        at_first : (q : ℕ) → q < place → is_open whole.shapes.places q ≡ false → brings_at q ≡ true → (o : Option Chain)
+        -- the keys at a fixed place before where one is new
+        at_first : (q : ℕ) → q < place → is_open whole.shapes.places q ≡ false → new_at q ≡ true → (o : Option Chain)
             → slice_get (chains_at whole n) q ≡ o → (j : K) → Known cmp (unwrap_or (option_map (keys_of_chain whole n kind.keys) o) []) j → IsSame j
         at_first q l fixed new None e j h = absurd (omega (arith, h))
         at_first q l fixed new (Some x) e j h = known_all kind.order IsSame (kind.keys x ++ []) (subst (AllByRecursion IsSame) (sym (append-nil (kind.keys x)))
@@ -126,7 +126,7 @@ module _ {K : Type 0} {cmp : K → K → Ordering} (kind : KeyKind cmp) where
 
             go : (b : Bool) → contains cmp j are.wanted ≡ b → IsSame j
             go true e =
-                let nothing = false_from_ne_true (brings_at place) (λ f. false≢true (sym out ∙ are.kept place f)) in
+                let nothing = false_from_ne_true (new_at place) (λ f. false≢true (sym out ∙ are.kept place f)) in
                 let found = fixed_before kind.order whole.shapes.places (keys_along kind.keys whole.county whole.shapes.by_shape)
                 are.wanted place nothing j e
                 (subst (λ js. Known cmp js j) (sym (group_chain whole n kind.keys place chain there) ∙ group_fixed whole n kind.keys place fixed)
@@ -181,11 +181,11 @@ cenid_is c i cenid (Some polyid) = cenid_kept c i (cenid, polyid)
 abbrev topologies : Making TypeI Chain
 topologies = record {
   pieces = λ c. c ∷ [];
-  make = λ r n part c. packed_i (n, renumbered r c);
+  make = λ r n number c. packed_i (n, renumbered r c);
   pack = λ entry. packed_i entry ∷ [];
   packs = λ r n c. refl;
   tlid = λ r. r.tlid;
-  has_tlid = λ r n part c. refl;
+  has_tlid = λ r n number c. refl;
   fit = λ county is within. all_unmap FitsRecord I (grouped (type_i_by_chain county)) (topologies_fit county is within);
   as_many = λ a b same. ap length (grouped_lone packed_i a.chains) ∙ (carried_many same.by a b same.carries).of_type_i
       ∙ sym (ap length (grouped_lone packed_i b.chains));
@@ -236,7 +236,7 @@ module _ (r s : Renumbering) (chain : Chain) (nodes : AllByRecursion (λ k. new_
 abbrev keys_of_first : {K : Type 0} → (FieldsI → List K) → List FieldsI → List K
 keys_of_first keys rs = unwrap_or (option_map keys (slice_get rs 0)) []
 
--- the only part of a whole chain
+-- the only piece of a whole chain
 only_chain : (c d : Chain) (index : ℕ) → slice_get (c ∷ []) index ≡ Some d → c ≡ d
 only_chain c d zero e = cc
 only_chain c d (suc index) e = cc
@@ -331,11 +331,11 @@ names_back tlid names =
 abbrev fours : Making Type4 (List ℕ)
 fours = record {
   pieces = λ c. in_pieces 5 c.feats;
-  make = λ r n part piece. four n (part, map (new_name r) piece);
+  make = λ r n number piece. four n (number, map (new_name r) piece);
   pack = packed_fours;
   packs = λ r n c. fours_made (new_name r) n c.feats;
   tlid = λ r. r.tlid;
-  has_tlid = λ r n part piece. refl;
+  has_tlid = λ r n number piece. refl;
   fit = fours_fit;
   as_many = λ a b same. ap length (grouped_map packed_fours a.chains) ∙ (carried_many same.by a b same.carries).of_type_4
       ∙ sym (ap length (grouped_map packed_fours b.chains));
@@ -383,9 +383,9 @@ module _ {whole small : OrderedCounty} {is_in : ℕ → Bool} (part : IsKeptPart
           ∙ ap (option_map (new_name (new_in c i))) (sym (ap (option_and_then (λ names. slice_get names place)) e)))
 
       columns : AreAlike fours part n k 3
-      columns v w p q order same = (order, λ _. (refl, λ tie. (pairs (exact_unsigned v.part w.part tie), λ _. refl)))
+      columns v w p q order same = (order, λ _. (refl, λ tie. (pairs (exact_unsigned v.number w.number tie), λ _. refl)))
         where
-          pairs : v.part ≡ w.part → places_cmp 5 (place_number (map (new_name (new_in whole n)) v.piece)) (place_number (map (new_name (new_in whole k)) w.piece))
+          pairs : v.number ≡ w.number → places_cmp 5 (place_number (map (new_name (new_in whole n)) v.piece)) (place_number (map (new_name (new_in whole k)) w.piece))
               ≡ places_cmp 5 (place_number (map (new_name (new_in small n)) v.piece)) (place_number (map (new_name (new_in small k)) w.piece))
           pairs parts =
               let index : q.index ≡ p.index = (let left = p.counted in let right = q.counted in omega (arith, parts, left, right)) in

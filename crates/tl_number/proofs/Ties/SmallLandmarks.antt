@@ -214,14 +214,14 @@ module _ {whole small : OrderedCounty} {is_in : ℕ → Bool} (polygons : AreWan
     of_sorted : (link : Fields8) (land : ℕ) → Among link (sorted land) → Among link all_links × (link.land ≡ land)
     of_sorted link land m = of_own link land (from_in_order (on (relinked_in whole) link_cmp) (own land) link m)
 
-    whole_parts : (land : ℕ) → links_of (in_order link_cmp (map (relinked_in whole) all_links)) land
+    whole_pieces : (land : ℕ) → links_of (in_order link_cmp (map (relinked_in whole) all_links)) land
         ≡ map (λ link. link_part (relinked_in whole link)) (sorted land)
-    whole_parts land = key_links whole all_links land ∙ ap (map link_part) (order_mapped link_cmp (relinked_in whole) (own land))
+    whole_pieces land = key_links whole all_links land ∙ ap (map link_part) (order_mapped link_cmp (relinked_in whole) (own land))
         ∙ map-map link_part (relinked_in whole) (sorted land)
 
-    small_parts : (land : ℕ) → keep land ≡ true → links_of (in_order link_cmp (map (relinked_in small) (filter keeps_link all_links))) land
+    small_pieces : (land : ℕ) → keep land ≡ true → links_of (in_order link_cmp (map (relinked_in small) (filter keeps_link all_links))) land
         ≡ map (λ link. link_part (relinked_in small link)) (sorted land)
-    small_parts land e = key_links small (filter keeps_link all_links) land
+    small_pieces land e = key_links small (filter keeps_link all_links) land
         ∙ ap (parts_of small) (filter_narrower keeps_link (λ (link : Fields8). link.land == land) all_links
         (all_everywhere (λ (link : Fields8). (link.land == land) ≡ true → keep link.land ≡ true) (λ link s. ap keep (eqb-true link.land land s) ∙ e) all_links))
         ∙ ap (map link_part) (images_alike link_cmp link_cmp (relinked_in whole) (relinked_in small) (own land) (λ x y h l.
@@ -234,12 +234,12 @@ module _ {whole small : OrderedCounty} {is_in : ℕ → Bool} (polygons : AreWan
         → landmark_key_cmp (key_under whole all_links x) (key_under whole all_links y)
         ≡ landmark_key_cmp (key_under small (filter keeps_link all_links) x) (key_under small (filter keeps_link all_links) y)
     key_alike x y e f = ap (ordering_then (slice_cmp landmark_body_cmp x.1 y.1))
-        (ap₂ (slice_cmp link_part_cmp) (whole_parts x.0) (whole_parts y.0)
+        (ap₂ (slice_cmp link_part_cmp) (whole_pieces x.0) (whole_pieces y.0)
         ∙ images_in_order link_part_cmp (λ link. link_part (relinked_in whole link)) (λ link. link_part (relinked_in small link))
         (λ link. link_part (relinked_in whole link)) (λ link. link_part (relinked_in small link)) (sorted x.0) (sorted y.0)
         (λ u v h l. (let one = of_sorted u x.0 h in let other = of_sorted v y.0 l in
         parts_alike u v one.0 other.0 (ap keep one.1 ∙ e) (ap keep other.1 ∙ f)))
-        ∙ sym (ap₂ (slice_cmp link_part_cmp) (small_parts x.0 e) (small_parts y.0 f)))
+        ∙ sym (ap₂ (slice_cmp link_part_cmp) (small_pieces x.0 e) (small_pieces y.0 f)))
 
     -- and they are in one order.
     kept_landmarks : filter keeps_landmark (landmarks_in whole n) ≡ landmarks_in small n

@@ -1,7 +1,7 @@
 -- The records of a type that are made of chains, in two choices of a county and of its small county: types 1, 4, 6 and I.
 use Rattle.tl_number.proofs.Common.{AllByRecursion, Among, AreSame, Bool, Chain, County, Eight, Equal, FieldsOf, FitsRecord, Five, Four, Greater, I, IsCounty, IsWithinLimits, Less, List, None, One, Option, Ordering, P, Ranges, Record, RecordType, Renumbering, Seven, Six, Some, Two, Type1, Type6, [], all_everywhere, all_groups, all_left, all_map, all_right, all_themselves, all_unmap, ap, ap₂, arith, carried_many, decided, drop, exact_unsigned, false, grouped, grouped_lone, grouped_map, groups_cmp, groups_from, is_open, kept_entry, length, length-map, map, map-map, most_records, nat_cmp, nat_cmp_total, nat_list_cmp_total, none_past, numbered_from, option_map, ordering_then, packed-fits, packed_one, packed_sixes, record_of, refl, renumbered, slice_cmp, slice_get, spelling_of, subst, suc, sym, table_1, table_6, table_of, then-equal, then_same, those_decide, those_from, those_groups, tied_itself, true, type_1_by_chain, type_2_by_chain, type_4_by_chain, type_5_by_name, type_6_by_chain, type_7_by_landmark, type_8_together, type_i_by_chain, type_p_by_number, types_1_to_4, types_5_to_7, types_8_to_p, unwrap_or, zero, ℕ, ◌++◌, ◌+◌, ◌<◌, ◌∙◌, ◌∷◌, ◌≡◌, ◌≢◌}
 use Rattle.tl_number.proofs.Ties.Columns.{AreColumnsAlike, columns_alike, columns_decide, fields_cmp, lists_decide, rows_cmp, tied_fields}
-use Rattle.tl_number.proofs.Ties.KeptParts.{IsKept, IsThere, Kept, all_are_there, all_kept, at_place, at_rank, kept_order, kept_parts, lists_alike, place_groups, rank_groups}
+use Rattle.tl_number.proofs.Ties.KeptPieces.{IsKept, IsThere, Kept, all_are_there, all_kept, at_place, at_rank, kept_order, kept_pieces, lists_alike, place_groups, rank_groups}
 use Rattle.tl_number.proofs.Ties.OrderedCounty.{IsKeptPart, OrderedCounty, chains_at, chains_numbered, choice, length_at, new_in, one_map, places_in, same_at, whole_in}
 
 -- ---- records of one type
@@ -33,14 +33,14 @@ all_there Holds F p (suc count) all zero l q e = subst (λ j. AllByRecursion Hol
 all_there Holds F p (suc count) all (suc i) l q e =
     all_there Holds F (suc p) count (all_right Holds (F p) (groups_from F (suc p) count) all) i (omega (arith, l)) q (omega (arith, e))
 
--- How the records of a type are made of parts of chains: of new numbers, the chain's TLID, the number of the part, and the part.
+-- How the records of a type are made of pieces of chains: of new numbers, the chain's TLID, the number of the piece, and the piece.
 pub record Making (t : RecordType) (Y : Type 0) : Type 0 where
   pub pieces : Chain → List Y
   pub make : Renumbering → ℕ → ℕ → Y → FieldsOf t
   pub pack : ℕ × Chain → List (FieldsOf t)
   pub packs : (r : Renumbering) (n : ℕ) (c : Chain) → pack (n, renumbered r c) ≡ map (λ (e : ℕ × Y). make r n e.0 e.1) (numbered_from 1 (pieces c))
   pub tlid : FieldsOf t → ℕ
-  pub has_tlid : (r : Renumbering) (n part : ℕ) (piece : Y) → tlid (make r n part piece) ≡ n
+  pub has_tlid : (r : Renumbering) (n number : ℕ) (piece : Y) → tlid (make r n number piece) ≡ n
   pub fit : (county : County) → IsCounty county → IsWithinLimits most_records county
       → AllByRecursion (λ r. FitsRecord (record_of t r)) (grouped (map pack county.chains))
   pub as_many : (a b : County) → AreSame a b → length (grouped (map pack a.chains)) ≡ length (grouped (map pack b.chains))
@@ -147,13 +147,13 @@ module _ {t : RecordType} {Y : Type 0} (m : Making t Y) where
     abbrev pub AreTiedBefore : ℕ → Type 0
     AreTiedBefore place = (q : ℕ) → q < place → is_in q ≡ true → slice_cmp by_tlid (made_at whole n q) (made_at whole k q) ≡ Equal
 
-    abbrev IsPart : ℕ → Kept Chain Y → Type 0
-    IsPart i v = IsKept m.pieces (chains_at whole i) (places_in whole is_in) v
+    abbrev IsPiece : ℕ → Kept Chain Y → Type 0
+    IsPiece i v = IsKept m.pieces (chains_at whole i) (places_in whole is_in) v
 
-    abbrev parts : ℕ → List (Kept Chain Y)
-    parts i = kept_parts m.pieces (chains_at whole i) 0 (places_in whole is_in)
+    abbrev pieces_kept : ℕ → List (Kept Chain Y)
+    pieces_kept i = kept_pieces m.pieces (chains_at whole i) 0 (places_in whole is_in)
 
-    -- the record of a part in the county and in the small county
+    -- the record of a piece in the county and in the small county
     abbrev in_whole : ℕ → Kept Chain Y → FieldsOf t
     in_whole i = at_place m.pieces (chains_at whole i) (m.make (new_in whole i))
 
@@ -164,24 +164,24 @@ module _ {t : RecordType} {Y : Type 0} (m : Making t Y) where
     kept_there i = all_are_there (chains_at whole i) is_in (length whole.shapes.by_shape)
         (sym (length_at whole i))
 
-    are_parts : (i : ℕ) → AllByRecursion (IsPart i) (parts i)
-    are_parts i = all_kept m.pieces (chains_at whole i) (places_in whole is_in) 0 (places_in whole is_in)
+    pieces_are : (i : ℕ) → AllByRecursion (IsPiece i) (pieces_kept i)
+    pieces_are i = all_kept m.pieces (chains_at whole i) (places_in whole is_in) 0 (places_in whole is_in)
         (λ j. ap (slice_get (places_in whole is_in)) (let s : j ≡ 0 + j = omega arith in s)) (kept_there i)
 
-    -- the county's records at kept places are made of parts, and so are the small county's
-    whole_parts : (i : ℕ) → those_from is_in (made_at whole i) 0 (length whole.shapes.by_shape) ≡ map (in_whole i) (parts i)
-    whole_parts i = sym (those_groups is_in (made_at whole i) 0 (length whole.shapes.by_shape))
+    -- the county's records at kept places are made of pieces, and so are the small county's
+    whole_pieces : (i : ℕ) → those_from is_in (made_at whole i) 0 (length whole.shapes.by_shape) ≡ map (in_whole i) (pieces_kept i)
+    whole_pieces i = sym (those_groups is_in (made_at whole i) 0 (length whole.shapes.by_shape))
         ∙ place_groups m.pieces (chains_at whole i) (m.make (new_in whole i)) (made_at whole i)
         (λ place chain e. ap (made_if whole i place) e) 0 (places_in whole is_in) (kept_there i)
 
-    small_parts : (i : ℕ) → records_in small i ≡ map (in_small i) (parts i)
-    small_parts i = records_are small i
+    small_pieces : (i : ℕ) → records_in small i ≡ map (in_small i) (pieces_kept i)
+    small_pieces i = records_are small i
         ∙ ap (λ cs. grouped (map (λ (e : ℕ × Chain). made_in small i e.0 e.1) (numbered_from 1 cs))) (part.chains i)
         ∙ rank_groups m.pieces (chains_at whole i) (m.make (new_in small i)) 0 (places_in whole is_in) (kept_there i)
 
     -- the columns of two records at kept places compare alike, the first ones one by one
     abbrev pub AreAlike : ℕ → Type 0
-    AreAlike count = (v w : Kept Chain Y) → IsPart n v → IsPart k w → nat_cmp (suc v.place) (suc w.place) ≡ nat_cmp (suc v.rank) (suc w.rank)
+    AreAlike count = (v w : Kept Chain Y) → IsPiece n v → IsPiece k w → nat_cmp (suc v.place) (suc w.place) ≡ nat_cmp (suc v.rank) (suc w.rank)
         → v.place ≡ w.place → AreColumnsAlike count (table_of t) (in_whole n v) (in_whole k w) (in_small n v) (in_small k w)
 
     -- If they do, and a chain at each other place has the same records in both choices where all before tie,
@@ -196,30 +196,30 @@ module _ {t : RecordType} {Y : Type 0} (m : Making t Y) where
           go None e = refl
           go (Some chain) e = same_there place chain out before e
 
-      parts_decide : slice_cmp by_tlid (records_in whole n) (records_in whole k)
-          ≡ slice_cmp by_tlid (map (in_whole n) (parts n)) (map (in_whole k) (parts k))
-      parts_decide =
+      pieces_decide : slice_cmp by_tlid (records_in whole n) (records_in whole k)
+          ≡ slice_cmp by_tlid (map (in_whole n) (pieces_kept n)) (map (in_whole k) (pieces_kept k))
+      pieces_decide =
           ap₂ (slice_cmp by_tlid) (groups_are whole n) (groups_are whole k)
           ∙ those_decide by_tlid m.tlid (suc (length whole.shapes.by_shape)) (λ r s f g. tlids_decide r s) is_in (made_at whole n) (made_at whole k)
           (keyed whole n) (keyed whole k)
           (λ place out before. subst (λ rs. slice_cmp by_tlid (made_at whole n place) rs ≡ Equal) (same_records place out before)
           (tied (made_at whole n place) (fit_at whole n place)))
           (λ place out. lengths whole n k place (part.fixed place out)) (length whole.shapes.by_shape) (omega arith) (as_many_in whole n k)
-          ∙ ap₂ (slice_cmp by_tlid) (whole_parts n) (whole_parts k)
+          ∙ ap₂ (slice_cmp by_tlid) (whole_pieces n) (whole_pieces k)
 
-      -- then two parts compare alike,
-      pair_alike : (v w : Kept Chain Y) → IsPart n v → IsPart k w → by_tlid (in_whole n v) (in_whole k w) ≡ by_tlid (in_small n v) (in_small k w)
+      -- then two pieces compare alike,
+      pair_alike : (v w : Kept Chain Y) → IsPiece n v → IsPiece k w → by_tlid (in_whole n v) (in_whole k w) ≡ by_tlid (in_small n v) (in_small k w)
       pair_alike v w p q =
           let order = kept_order is_in (length whole.shapes.by_shape) v.rank w.rank v.place w.place p.ranked q.ranked in
-          let tlid = m.has_tlid (new_in whole n) (suc v.place) v.part v.piece in
-          let tlid_too = m.has_tlid (new_in whole k) (suc w.place) w.part w.piece in
+          let tlid = m.has_tlid (new_in whole n) (suc v.place) v.number v.piece in
+          let tlid_too = m.has_tlid (new_in whole k) (suc w.place) w.number w.piece in
           then_same (nat_cmp (m.tlid (in_whole n v)) (m.tlid (in_whole k w))) (fields_cmp t (in_whole n v) (in_whole k w))
           (fields_cmp t (in_small n v) (in_small k w))
           (λ tie. columns_alike count (table_of t) (in_whole n v) (in_whole k w) (in_small n v) (in_small k w)
           (alike v w p q order (let same : suc v.place ≡ suc w.place =
           sym tlid ∙ exact_unsigned (m.tlid (in_whole n v)) (m.tlid (in_whole k w)) tie ∙ tlid_too in omega (arith, same))))
           ∙ ap (λ o. ordering_then o (fields_cmp t (in_small n v) (in_small k w))) (ap₂ nat_cmp tlid tlid_too ∙ order
-          ∙ sym (ap₂ nat_cmp (m.has_tlid (new_in small n) (suc v.rank) v.part v.piece) (m.has_tlid (new_in small k) (suc w.rank) w.part w.piece)))
+          ∙ sym (ap₂ nat_cmp (m.has_tlid (new_in small n) (suc v.rank) v.number v.piece) (m.has_tlid (new_in small k) (suc w.rank) w.number w.piece)))
 
       -- and so do all records, if the columns order records by TLID first.
       pub records_small : ((c : OrderedCounty)
@@ -228,11 +228,11 @@ module _ {t : RecordType} {Y : Type 0} (m : Making t Y) where
           ≡ groups_cmp (record_of t) (map m.pack (choice small n).chains) (map m.pack (choice small k).chains)
       records_small tlids_first =
           choices_decide t (λ county. map m.pack county.chains) m.fit whole n k ∙ tlids_first whole
-          ∙ parts_decide
-          ∙ lists_alike by_tlid (in_whole n) (in_small n) (in_whole k) (in_small k) (IsPart n) (IsPart k) pair_alike (parts n) (parts k)
-          (are_parts n) (are_parts k)
+          ∙ pieces_decide
+          ∙ lists_alike by_tlid (in_whole n) (in_small n) (in_whole k) (in_small k) (IsPiece n) (IsPiece k) pair_alike (pieces_kept n) (pieces_kept k)
+          (pieces_are n) (pieces_are k)
           ∙ sym (choices_decide t (λ county. map m.pack county.chains) m.fit small n k ∙ tlids_first small
-          ∙ ap₂ (slice_cmp by_tlid) (small_parts n) (small_parts k))
+          ∙ ap₂ (slice_cmp by_tlid) (small_pieces n) (small_pieces k))
 
 -- a TLID in the first column decides before the other columns anyway
 pub first_twice : (o p : Ordering) → ordering_then o p ≡ ordering_then o (ordering_then o p)
@@ -281,11 +281,11 @@ module _ (county : County) (is : IsCounty county) (within : IsWithinLimits most_
 abbrev ones : Making Type1 Chain
 ones = record {
   pieces = λ c. c ∷ [];
-  make = λ r n part c. packed_one (n, c);
+  make = λ r n number c. packed_one (n, c);
   pack = λ entry. packed_one entry ∷ [];
   packs = λ r n c. refl;
   tlid = λ r. r.tlid;
-  has_tlid = λ r n part c. refl;
+  has_tlid = λ r n number c. refl;
   fit = ones_fit;
   as_many = λ a b same. ap length (grouped_lone packed_one a.chains) ∙ (carried_many same.by a b same.carries).of_type_1
       ∙ sym (ap length (grouped_lone packed_one b.chains));
@@ -294,11 +294,11 @@ ones = record {
 abbrev sixes : Making Type6 Ranges
 sixes = record {
   pieces = λ c. c.ranges;
-  make = λ r n part ranges. record { tlid = n; rtsq = part; ranges = ranges };
+  make = λ r n number ranges. record { tlid = n; rtsq = number; ranges = ranges };
   pack = packed_sixes;
   packs = λ r n c. refl;
   tlid = λ r. r.tlid;
-  has_tlid = λ r n part ranges. refl;
+  has_tlid = λ r n number ranges. refl;
   fit = sixes_fit;
   as_many = λ a b same. ap length (grouped_map packed_sixes a.chains) ∙ (carried_many same.by a b same.carries).of_type_6
       ∙ sym (ap length (grouped_map packed_sixes b.chains));

@@ -32,38 +32,38 @@ module _ {X K : Type 0} {cmp : K → K → Ordering} (o : IsKeyOrder cmp) (keys_
   abbrev kept : ℕ → List X → List K
   kept = kept_keys keep keys_of
 
-  -- each key of an element that isn't wanted was met
-  abbrev pub IsMet : List K → X → Type 0
-  IsMet met x = (k : K) → wanted k ≡ false → Known cmp (keys_of x) k → Known cmp met k
+  -- each key of an element is wanted, or is an earlier one
+  abbrev pub IsEarlier : List K → X → Type 0
+  IsEarlier earlier x = (k : K) → wanted k ≡ false → Known cmp (keys_of x) k → Known cmp earlier k
 
-  -- the keys met when one more place is passed: those at kept fixed places
-  abbrev pub met_at : List K → ℕ → X → List K
-  met_at met place x = cond (is_open place) met (met ++ cond (keep place) (keys_of x) [])
+  -- the earlier keys when one more place is passed: those at kept fixed places
+  abbrev pub earlier_at : List K → ℕ → X → List K
+  earlier_at earlier place x = cond (is_open place) earlier (earlier ++ cond (keep place) (keys_of x) [])
 
   -- each key at an open place is wanted, or is at a kept fixed place before it
-  abbrev pub AreMet : List K → ℕ → List X → Type 0
-  AreMet met place [] = ⊤
-  AreMet met place (x ∷ xs) = (is_open place ≡ true → IsMet met x) × AreMet (met_at met place x) (place + 1) xs
+  abbrev pub AreEarlier : List K → ℕ → List X → Type 0
+  AreEarlier earlier place [] = ⊤
+  AreEarlier earlier place (x ∷ xs) = (is_open place ≡ true → IsEarlier earlier x) × AreEarlier (earlier_at earlier place x) (place + 1) xs
 
   -- it's so if all keys at open places are wanted,
-  pub wanted_met : (met : List K) (place : ℕ) (xs : List X) → ((k : K) → Known cmp (kept_keys is_open keys_of place xs) k → wanted k ≡ true)
-      → AreMet met place xs
-  wanted_met met place [] all = tt
-  wanted_met met place (x ∷ xs) all = (
+  pub wanted_earlier : (earlier : List K) (place : ℕ) (xs : List X) → ((k : K) → Known cmp (kept_keys is_open keys_of place xs) k → wanted k ≡ true)
+      → AreEarlier earlier place xs
+  wanted_earlier earlier place [] all = tt
+  wanted_earlier earlier place (x ∷ xs) all = (
     (λ e k f h. absurd (false≢true (sym f ∙ all k (known-left o k (cond (is_open place) (keys_of x) []) later (rw e h))))),
-    wanted_met (met_at met place x) (place + 1) xs (λ k h. all k (known-right o k (cond (is_open place) (keys_of x) []) later h)),
+    wanted_earlier (earlier_at earlier place x) (place + 1) xs (λ k h. all k (known-right o k (cond (is_open place) (keys_of x) []) later h)),
   ) where
     later : List K
     later = kept_keys is_open keys_of (place + 1) xs
 
   -- or if all places are kept, and those are wanted that first appear at open places
-  pub first_met : ((place : ℕ) → keep place ≡ true) → (seen met : List K) (place : ℕ) (xs : List X)
-      → ((k : K) → wanted k ≡ false → Known cmp seen k → Known cmp met k)
-      → ((k : K) → Known cmp (open_keys cmp is_open seen place (map keys_of xs)) k → wanted k ≡ true) → AreMet met place xs
-  first_met every seen met place [] old new = tt
-  first_met every seen met place (x ∷ xs) old new = (
+  pub first_earlier : ((place : ℕ) → keep place ≡ true) → (seen earlier : List K) (place : ℕ) (xs : List X)
+      → ((k : K) → wanted k ≡ false → Known cmp seen k → Known cmp earlier k)
+      → ((k : K) → Known cmp (open_keys cmp is_open seen place (map keys_of xs)) k → wanted k ≡ true) → AreEarlier earlier place xs
+  first_earlier every seen earlier place [] old new = tt
+  first_earlier every seen earlier place (x ∷ xs) old new = (
     (λ e k f h. old k f (not_new e k f (seen_or_new o seen (keys_of x) k h))),
-    first_met every (seen ++ fresh) (met_at met place x) (place + 1) xs
+    first_earlier every (seen ++ fresh) (earlier_at earlier place x) (place + 1) xs
         (λ k f h. grown (is_open place) refl k f (known-append o k seen fresh h))
         (λ k h. new k (known-right o k (cond (is_open place) fresh []) later h)),
   ) where
@@ -78,83 +78,83 @@ module _ {X K : Type 0} {cmp : K → K → Ordering} (o : IsKeyOrder cmp) (keys_
     not_new e k f (inr h) = absurd (false≢true (sym f ∙ new k (known-left o k (cond (is_open place) fresh []) later (rw e h))))
 
     grown : (b : Bool) → is_open place ≡ b → (k : K) → wanted k ≡ false → Known cmp seen k ⊎ Known cmp fresh k
-        → Known cmp (cond b met (met ++ cond (keep place) (keys_of x) [])) k
+        → Known cmp (cond b earlier (earlier ++ cond (keep place) (keys_of x) [])) k
     grown true e k f h = old k f (not_new e k f h)
-    grown false e k f (inl h) = known-left o k met (cond (keep place) (keys_of x) []) (old k f h)
+    grown false e k f (inl h) = known-left o k earlier (cond (keep place) (keys_of x) []) (old k f h)
     grown false e k f (inr h) =
-        known-right o k met (cond (keep place) (keys_of x) []) (rw (every place) (newly_known o seen (keys_of x) k h))
+        known-right o k earlier (cond (keep place) (keys_of x) []) (rw (every place) (newly_known o seen (keys_of x) k h))
 
-  -- The keys of two lists of elements, seen after all keys that were met: only wanted ones have other places.
-  pub record AreMoved (met : List K) (place : ℕ) (xs ys : List X) : Type 0 where
-    pub met_too : AreMet met place ys
-    pub reordered : (seen : List K) → ((k : K) → Known cmp met k → Known cmp seen k)
+  -- The keys of two lists of elements, seen after all earlier keys: only wanted ones have other places.
+  pub record AreMoved (earlier : List K) (place : ℕ) (xs ys : List X) : Type 0 where
+    pub earlier_too : AreEarlier earlier place ys
+    pub reordered : (seen : List K) → ((k : K) → Known cmp earlier k → Known cmp seen k)
         → AreReordered o wanted (first_seen_after cmp seen (kept place xs)) (first_seen_after cmp seen (kept place ys))
 
-  moved_then : (met : List K) (place : ℕ) (xs ys zs : List X) → AreMoved met place xs ys → AreMoved met place ys zs
-      → AreMoved met place xs zs
-  moved_then met place xs ys zs first next = record {
-    met_too = next.met_too;
+  moved_then : (earlier : List K) (place : ℕ) (xs ys zs : List X) → AreMoved earlier place xs ys → AreMoved earlier place ys zs
+      → AreMoved earlier place xs zs
+  moved_then earlier place xs ys zs first next = record {
+    earlier_too = next.earlier_too;
     reordered = λ seen more. reordered_then o wanted _ _ _ (first.reordered seen more) (next.reordered seen more);
   }
 
   -- elements behind another one
-  moved_behind : (met : List K) (place : ℕ) (x : X) (xs ys : List X) → (is_open place ≡ true → IsMet met x)
-      → AreMoved (met_at met place x) (place + 1) xs ys → AreMoved met place (x ∷ xs) (x ∷ ys)
-  moved_behind met place x xs ys all later = record {
-    met_too = (all, later.met_too);
+  moved_behind : (earlier : List K) (place : ℕ) (x : X) (xs ys : List X) → (is_open place ≡ true → IsEarlier earlier x)
+      → AreMoved (earlier_at earlier place x) (place + 1) xs ys → AreMoved earlier place (x ∷ xs) (x ∷ ys)
+  moved_behind earlier place x xs ys all later = record {
+    earlier_too = (all, later.earlier_too);
     reordered = λ seen more. rw (seen_append cmp seen here (kept (place + 1) xs), seen_append cmp seen here (kept (place + 1) ys))
         (later.reordered (first_seen_after cmp seen here) (λ k h. all_seen seen more k (is_open place) h));
   } where
     here : List K
     here = cond (keep place) (keys_of x) []
 
-    all_seen : (seen : List K) → ((k : K) → Known cmp met k → Known cmp seen k) → (k : K) (b : Bool)
-        → Known cmp (cond b met (met ++ here)) k → Known cmp (first_seen_after cmp seen here) k
+    all_seen : (seen : List K) → ((k : K) → Known cmp earlier k → Known cmp seen k) → (k : K) (b : Bool)
+        → Known cmp (cond b earlier (earlier ++ here)) k → Known cmp (first_seen_after cmp seen here) k
     all_seen seen more k true h = seen_after o seen here k (more k h)
-    all_seen seen more k false h = go (known-append o k met here h)
+    all_seen seen more k false h = go (known-append o k earlier here h)
       where
-        go : Known cmp met k ⊎ Known cmp here k → Known cmp (first_seen_after cmp seen here) k
+        go : Known cmp earlier k ⊎ Known cmp here k → Known cmp (first_seen_after cmp seen here) k
         go (inl l) = seen_after o seen here k (more k l)
         go (inr l) = all_after o seen here k l
 
   -- elements whose first keys are in another order
-  moved_block : (met : List K) (place : ℕ) (xs ys : List X) (block block_too rest : List K) → kept place xs ≡ block ++ rest
+  moved_block : (earlier : List K) (place : ℕ) (xs ys : List X) (block block_too rest : List K) → kept place xs ≡ block ++ rest
       → kept place ys ≡ block_too ++ rest → AreAlike cmp block block_too
-      → ((k : K) → wanted k ≡ false → Known cmp block k → Known cmp met k) → AreMet met place ys → AreMoved met place xs ys
-  moved_block met place xs ys block block_too rest e f alike known all = record {
-    met_too = all;
+      → ((k : K) → wanted k ≡ false → Known cmp block k → Known cmp earlier k) → AreEarlier earlier place ys → AreMoved earlier place xs ys
+  moved_block earlier place xs ys block block_too rest e f alike known all = record {
+    earlier_too = all;
     reordered = λ seen more. rw (e, f, seen_append cmp seen block rest, seen_append cmp seen block_too rest)
         (reordered_before o wanted (first_seen_after cmp seen block) (first_seen_after cmp seen block_too) rest
         (reordered_block o wanted seen block block_too alike (λ k g h. more k (known k g h))));
   }
 
-  -- nothing more is met at an open place
-  passed : (met : List K) (place : ℕ) (x : X) → is_open place ≡ true → met_at met place x ≡ met
-  passed met place x opened = ap (λ b. cond b met (met ++ cond (keep place) (keys_of x) [])) opened
+  -- an open place adds no earlier keys
+  passed : (earlier : List K) (place : ℕ) (x : X) → is_open place ≡ true → earlier_at earlier place x ≡ earlier
+  passed earlier place x opened = ap (λ b. cond b earlier (earlier ++ cond (keep place) (keys_of x) [])) opened
 
   -- the first element turns
-  turned_first : (met : List K) (place : ℕ) (x t : X) (rest : List X) → AreAlike cmp (keys_of t) (keys_of x) → is_open place ≡ true
-      → AreMet met place (x ∷ rest) → AreMoved met place (x ∷ rest) (t ∷ rest)
-  turned_first met place x t rest alike opened all =
-      moved_block met place (x ∷ rest) (t ∷ rest) (keys_of x) (keys_of t) (kept (place + 1) rest) (one x) (one t)
+  turned_first : (earlier : List K) (place : ℕ) (x t : X) (rest : List X) → AreAlike cmp (keys_of t) (keys_of x) → is_open place ≡ true
+      → AreEarlier earlier place (x ∷ rest) → AreMoved earlier place (x ∷ rest) (t ∷ rest)
+  turned_first earlier place x t rest alike opened all =
+      moved_block earlier place (x ∷ rest) (t ∷ rest) (keys_of x) (keys_of t) (kept (place + 1) rest) (one x) (one t)
       (λ k. ((alike k).1, (alike k).0)) (all.0 opened) (
         (λ e k f h. all.0 e k f ((alike k).0 h)),
-        subst (λ l. AreMet l (place + 1) rest) (passed met place x opened ∙ sym (passed met place t opened)) all.1,
+        subst (λ l. AreEarlier l (place + 1) rest) (passed earlier place x opened ∙ sym (passed earlier place t opened)) all.1,
       )
     where
       one : (y : X) → kept place (y ∷ rest) ≡ keys_of y ++ kept (place + 1) rest
       one y = rw (open_kept place opened)
 
   -- the first two elements change places
-  swapped : (met : List K) (place : ℕ) (x y : X) (rest : List X) → is_open place ≡ true → is_open (place + 1) ≡ true
-      → AreMet met place (x ∷ y ∷ rest) → AreMoved met place (x ∷ y ∷ rest) (y ∷ x ∷ rest)
-  swapped met place x y rest one two all =
-      moved_block met place (x ∷ y ∷ rest) (y ∷ x ∷ rest) (keys_of x ++ keys_of y) (keys_of y ++ keys_of x) (kept (place + 1 + 1) rest)
+  swapped : (earlier : List K) (place : ℕ) (x y : X) (rest : List X) → is_open place ≡ true → is_open (place + 1) ≡ true
+      → AreEarlier earlier place (x ∷ y ∷ rest) → AreMoved earlier place (x ∷ y ∷ rest) (y ∷ x ∷ rest)
+  swapped earlier place x y rest one two all =
+      moved_block earlier place (x ∷ y ∷ rest) (y ∷ x ∷ rest) (keys_of x ++ keys_of y) (keys_of y ++ keys_of x) (kept (place + 1 + 1) rest)
       (pair x y) (pair y x) (swapped_alike o (keys_of x) (keys_of y)) (λ k f h. known k f (known-append o k (keys_of x) (keys_of y) h)) (
         (λ e. behind.0 two),
-        subst (λ l. AreMet l (place + 1) (x ∷ rest)) (sym (passed met place y one)) (
+        subst (λ l. AreEarlier l (place + 1) (x ∷ rest)) (sym (passed earlier place y one)) (
           (λ e. all.0 one),
-          subst (λ l. AreMet l (place + 1 + 1) rest) (passed met (place + 1) y two ∙ sym (passed met (place + 1) x two)) behind.1,
+          subst (λ l. AreEarlier l (place + 1 + 1) rest) (passed earlier (place + 1) y two ∙ sym (passed earlier (place + 1) x two)) behind.1,
         ),
       )
     where
@@ -162,10 +162,10 @@ module _ {X K : Type 0} {cmp : K → K → Ordering} (o : IsKeyOrder cmp) (keys_
       pair u v = rw (open_kept place one, open_kept (place + 1) two)
           (sym (append_assoc (keys_of u) (keys_of v) (kept (place + 1 + 1) rest)))
 
-      behind : AreMet met (place + 1) (y ∷ rest)
-      behind = subst (λ l. AreMet l (place + 1) (y ∷ rest)) (passed met place x one) all.1
+      behind : AreEarlier earlier (place + 1) (y ∷ rest)
+      behind = subst (λ l. AreEarlier l (place + 1) (y ∷ rest)) (passed earlier place x one) all.1
 
-      known : (k : K) → wanted k ≡ false → Known cmp (keys_of x) k ⊎ Known cmp (keys_of y) k → Known cmp met k
+      known : (k : K) → wanted k ≡ false → Known cmp (keys_of x) k ⊎ Known cmp (keys_of y) k → Known cmp earlier k
       known k f (inl h) = all.0 one k f h
       known k f (inr h) = behind.0 two k f h
 
@@ -177,43 +177,43 @@ module _ {X K : Type 0} {cmp : K → K → Ordering} (o : IsKeyOrder cmp) (keys_
 
     -- One move: the element at an open place turns, and goes behind some later ones.
     module _ (at : OpenPlace) (covered : (place : ℕ) → Covers at place → is_open place ≡ true) where
-      moved_in : (j : ℕ) (met : List K) (place : ℕ) (x t : X) (rest : List X) → AreAlike cmp (keys_of t) (keys_of x) → at.place ≤ place
-          → place + j < at.place + at.alike → j ≤ length rest → AreMet met place (x ∷ rest)
-          → AreMoved met place (x ∷ rest) (insert rest j t)
-      moved_in zero met place x t rest alike low high few all =
-          turned_first met place x t rest alike (covered place (low, omega (arith, high))) all
-      moved_in (suc j) met place x t [] alike low high few all = absurd (omega (arith, few))
-      moved_in (suc j) met place x t (y ∷ rest) alike low high few all =
-          let swap = swapped met place x y rest (covered place (low, omega (arith, high)))
+      moved_in : (j : ℕ) (earlier : List K) (place : ℕ) (x t : X) (rest : List X) → AreAlike cmp (keys_of t) (keys_of x) → at.place ≤ place
+          → place + j < at.place + at.alike → j ≤ length rest → AreEarlier earlier place (x ∷ rest)
+          → AreMoved earlier place (x ∷ rest) (insert rest j t)
+      moved_in zero earlier place x t rest alike low high few all =
+          turned_first earlier place x t rest alike (covered place (low, omega (arith, high))) all
+      moved_in (suc j) earlier place x t [] alike low high few all = absurd (omega (arith, few))
+      moved_in (suc j) earlier place x t (y ∷ rest) alike low high few all =
+          let swap = swapped earlier place x y rest (covered place (low, omega (arith, high)))
           (covered (place + 1) (omega (arith, low), omega (arith, high))) all in
-          moved_then met place (x ∷ y ∷ rest) (y ∷ x ∷ rest) (y ∷ insert rest j t) swap
-          (moved_behind met place y (x ∷ rest) (insert rest j t) swap.met_too.0
-          (moved_in j (met_at met place y) (place + 1) x t rest alike (omega (arith, low)) (omega (arith, high)) (omega (arith, few))
-          swap.met_too.1))
+          moved_then earlier place (x ∷ y ∷ rest) (y ∷ x ∷ rest) (y ∷ insert rest j t) swap
+          (moved_behind earlier place y (x ∷ rest) (insert rest j t) swap.earlier_too.0
+          (moved_in j (earlier_at earlier place y) (place + 1) x t rest alike (omega (arith, low)) (omega (arith, high)) (omega (arith, few))
+          swap.earlier_too.1))
 
-      moved_once : (n q : ℕ) (met : List K) (place : ℕ) (xs : List X) → 0 < at.alike → at.place ≡ place + q → q + at.alike ≤ length xs
-          → AreMet met place xs → AreMoved met place xs (take q xs ++ (first_stood turn at (drop q xs) n).0)
-      moved_once n zero met place [] some e long all = absurd (omega (arith, some, long))
-      moved_once n zero met place (x ∷ rest) some e long all =
+      moved_once : (n q : ℕ) (earlier : List K) (place : ℕ) (xs : List X) → 0 < at.alike → at.place ≡ place + q → q + at.alike ≤ length xs
+          → AreEarlier earlier place xs → AreMoved earlier place xs (take q xs ++ (first_stood turn at (drop q xs) n).0)
+      moved_once n zero earlier place [] some e long all = absurd (omega (arith, some, long))
+      moved_once n zero earlier place (x ∷ rest) some e long all =
           let digit : ℕ = n / at.alike % cond at.either_way 2 1 in
           let j : ℕ = n % at.alike in
-          moved_in j met place x (turned_by turn digit x) rest (turned_by_alike digit x) (omega (arith, e)) (omega (arith, e, some))
+          moved_in j earlier place x (turned_by turn digit x) rest (turned_by_alike digit x) (omega (arith, e)) (omega (arith, e, some))
           (omega (arith, some, long)) all
-      moved_once n (suc q) met place [] some e long all = absurd (omega (arith, long))
-      moved_once n (suc q) met place (x ∷ xs) some e long all =
-          moved_behind met place x xs (take q xs ++ (first_stood turn at (drop q xs) n).0) all.0
-          (moved_once n q (met_at met place x) (place + 1) xs some (omega (arith, e)) (omega (arith, long)) all.1)
+      moved_once n (suc q) earlier place [] some e long all = absurd (omega (arith, long))
+      moved_once n (suc q) earlier place (x ∷ xs) some e long all =
+          moved_behind earlier place x xs (take q xs ++ (first_stood turn at (drop q xs) n).0) all.0
+          (moved_once n q (earlier_at earlier place x) (place + 1) xs some (omega (arith, e)) (omega (arith, long)) all.1)
 
     -- all moves
     pub all_moved : (places : List OpenPlace) (xs : List X) (n : ℕ) → AreWithin (length xs) places
-        → AllByRecursion (λ at. (place : ℕ) → Covers at place → is_open place ≡ true) places → AreMet [] 0 xs
+        → AllByRecursion (λ at. (place : ℕ) → Covers at place → is_open place ≡ true) places → AreEarlier [] 0 xs
         → AreMoved [] 0 xs (moved turn places (xs, n)).0
     all_moved [] xs n within covered all =
-        record { met_too = all; reordered = λ seen more. reordered_itself o wanted (first_seen_after cmp seen (kept 0 xs)) }
+        record { earlier_too = all; reordered = λ seen more. reordered_itself o wanted (first_seen_after cmp seen (kept 0 xs)) }
     all_moved (at ∷ places) xs n within covered all =
         let later = moved turn places (xs, n) in
         let first = all_moved places xs n within.1 covered.1 all in
         let count = moved_count turn places xs n within.1 in
         let fits = within.0.there in
         moved_then [] 0 xs later.0 (take at.place later.0 ++ (first_stood turn at (drop at.place later.0) later.1).0) first
-        (moved_once at covered.0 later.1 at.place [] 0 later.0 within.0.some (omega arith) (omega (arith, fits, count)) first.met_too)
+        (moved_once at covered.0 later.1 at.place [] 0 later.0 within.0.some (omega arith) (omega (arith, fits, count)) first.earlier_too)

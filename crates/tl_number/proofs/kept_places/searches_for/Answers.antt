@@ -12,10 +12,10 @@ returns g c =
     let feats = ap (λ chains. grouped (keys_along chain_feats county chains)) (c.deref-3.ensures.value ∙ c.in_ok-chains.ensures) ∙ keys_open chain_feats county shapes in
     record {
       nodes = search_starts nat_keys _ (c.new.ensures.wanted ∙ c.in_ok-nodes.ensures) (λ k. ap (contains nat_cmp k) nodes)
-          c.new.ensures.met;
+          c.new.ensures.earlier;
       polygons = search_starts key_keys _ (c.new-2.ensures.wanted ∙ c.in_ok-polygons.ensures)
           (λ k. ap (contains key_cmp k) (λ i. sides i ++ flat_map (link_keys_at county) (c.requires i)))
-          c.new-2.ensures.met;
+          c.new-2.ensures.earlier;
       names = search_starts nat_keys _ (c.new-3.ensures.wanted ∙ c.in_ok-names.ensures) (λ k. ap (contains nat_cmp k) feats)
-          c.new-3.ensures.met;
+          c.new-3.ensures.earlier;
     }

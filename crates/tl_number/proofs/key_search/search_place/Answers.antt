@@ -1,5 +1,5 @@
 use Rattle.tl_number.proofs.Common.{IsKeyOrder, Some, [], ap, slice_get, slice_get-get_or, sym, unwrap_or, ◌∙◌, ◌≡◌}
-use Rattle.tl_number.proofs.Ties.SearchSteps.{brought_here, met_more}
+use Rattle.tl_number.proofs.Ties.SearchSteps.{earlier_more, new_here}
 use Rattle.tl_number.proofs.key_search.search_place.Given.{Over}
 use Rattle.tl_number.proofs.key_search.search_place.Goals.{In_ok-new}
 use Rattle.tl_number.proofs.key_search.search_place.Goals as goal
@@ -10,15 +10,15 @@ there g c =
     let some = slice_get-get_or (g.G.KeyGroups.groups c.args.groups.now) c.args.place c.deref.result.now c.requires.within in
     some ∙ ap Some (sym (ap (λ group. unwrap_or group []) some) ∙ sym (c.deref.ensures.value ∙ c.in_ok-copy_keys.ensures))
 
-pub returns-clause-brings : goal.returns-clause-brings
-returns-clause-brings g c =
+pub returns-clause-new : goal.returns-clause-new
+returns-clause-new g c =
     let o : IsKeyOrder g.G.Item.Ord.cmp = record { total = g.met.G.Item.Ord.total; exact = g.met.G.Item.Key.exact } in
     c.in_ok-new.ensures.new
-    ∙ brought_here o c.args.places.now c.args.search.now.wanted (g.G.KeyGroups.groups c.args.groups.now) c.args.place c.deref.result.now
-    c.args.search.now.met (there g (goal.at.returns-clause-brings g c).In_ok-new) c.requires.met
+    ∙ new_here o c.args.places.now c.args.search.now.wanted (g.G.KeyGroups.groups c.args.groups.now) c.args.place c.deref.result.now
+    c.args.search.now.earlier (there g (goal.at.returns-clause-new g c).In_ok-new) c.requires.earlier
 
-pub returns-clause-met : goal.returns-clause-met
-returns-clause-met g c =
+pub returns-clause-earlier : goal.returns-clause-earlier
+returns-clause-earlier g c =
     let o : IsKeyOrder g.G.Item.Ord.cmp = record { total = g.met.G.Item.Ord.total; exact = g.met.G.Item.Key.exact } in
-    met_more o c.args.places.now c.args.search.now.wanted (g.G.KeyGroups.groups c.args.groups.now) c.args.place c.deref.result.now
-    c.args.search.now.met _ (there g (goal.at.returns-clause-met g c).In_ok-new) c.requires.met c.in_ok-new.ensures.met
+    earlier_more o c.args.places.now c.args.search.now.wanted (g.G.KeyGroups.groups c.args.groups.now) c.args.place c.deref.result.now
+    c.args.search.now.earlier _ (there g (goal.at.returns-clause-earlier g c).In_ok-new) c.requires.earlier c.in_ok-new.ensures.earlier

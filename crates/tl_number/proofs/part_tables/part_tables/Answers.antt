@@ -1,4 +1,4 @@
-use Rattle.tl_number.proofs.Common.{IsPicked, ap, arith, chain_feats, chain_nodes, chain_polygons, distinct, false, feats, few_chains, first_seen, grouped, key_cmp, keys_along, lands, length-map, map, nat_cmp, places_fit, polygon_keys, subst, tlids, ◌∙◌}
+use Rattle.tl_number.proofs.Common.{ArePartKeys, ap, arith, chain_feats, chain_nodes, chain_polygons, distinct, false, feats, few_chains, first_seen, grouped, key_cmp, keys_along, lands, length-map, map, nat_cmp, places_fit, polygon_keys, subst, tlids, ◌∙◌}
 use Rattle.tl_number.proofs.Ties.PartTables.{tables_hold}
 use Rattle.tl_number.proofs.part_tables.part_tables.Goals as goal
 
@@ -10,13 +10,13 @@ pub names_and_polygons-requires-clause-polygons : goal.names_and_polygons-requir
 names_and_polygons-requires-clause-polygons g c =
     (places_fit (g.C.Chart.county c.args.chart.now) (g.met.C.Chart.is_county c.args.chart.now) (g.met.C.Chart.within_limits c.args.chart.now) c.requires).polygons
 
-pub pick_these-requires : goal.pick_these-requires
-pick_these-requires g c =
+pub these_among-requires : goal.these_among-requires
+these_among-requires g c =
     let county = g.C.Chart.county c.args.chart.now in
     omega (arith, few_chains county (g.met.C.Chart.within_limits c.args.chart.now), length-map county.chains (λ entry. entry.0))
 
-pub pick_these-requires-2 : goal.pick_these-requires-2
-pick_these-requires-2 g c =
+pub these_among-requires-2 : goal.these_among-requires-2
+these_among-requires-2 g c =
     let county = g.C.Chart.county c.args.chart.now in
     let fit = places_fit county (g.met.C.Chart.is_county c.args.chart.now) (g.met.C.Chart.within_limits c.args.chart.now) c.requires in
     omega (arith, fit.landmarks, length-map county.landmarks (λ entry. entry.0))
@@ -25,11 +25,11 @@ pub returns-clause-holds : goal.returns-clause-holds
 returns-clause-holds g c =
     let county = g.C.Chart.county c.args.chart.now in
     tables_hold county _ c.in_ok-there.there.items
-    (subst (λ ts. IsPicked nat_cmp (first_seen nat_cmp ts) (tlids county) c.in_ok-chains.chains) c.deref.ensures.value c.in_ok-chains.ensures)
+    (subst (λ ts. ArePartKeys nat_cmp (first_seen nat_cmp ts) (tlids county) c.in_ok-chains.chains) c.deref.ensures.value c.in_ok-chains.ensures)
     (c.in_ok-there.ensures ∙ ap (map (λ place. record { place = place; turned = false })) c.deref-3.ensures.value)
     (c.in_ok-nodes.ensures ∙ ap (λ chains. distinct nat_cmp (first_seen nat_cmp (grouped (keys_along chain_nodes county chains)))) c.deref-4.ensures.value)
-    (subst (λ chains. IsPicked nat_cmp (first_seen nat_cmp (grouped (keys_along chain_feats county chains))) (feats county) c.in_ok-names.names)
+    (subst (λ chains. ArePartKeys nat_cmp (first_seen nat_cmp (grouped (keys_along chain_feats county chains))) (feats county) c.in_ok-names.names)
     c.deref-5.ensures.value c.in_ok-names.ensures.names)
-    (subst (λ chains. IsPicked key_cmp (first_seen key_cmp (grouped (keys_along chain_polygons county chains))) (polygon_keys county) c.in_ok-names.polygons)
+    (subst (λ chains. ArePartKeys key_cmp (first_seen key_cmp (grouped (keys_along chain_polygons county chains))) (polygon_keys county) c.in_ok-names.polygons)
     c.deref-5.ensures.value c.in_ok-names.ensures.polygons)
-    (subst (λ ls. IsPicked nat_cmp (first_seen nat_cmp ls) (lands county) c.in_ok-landmarks.landmarks) c.deref-2.ensures.value c.in_ok-landmarks.ensures)
+    (subst (λ ls. ArePartKeys nat_cmp (first_seen nat_cmp ls) (lands county) c.in_ok-landmarks.landmarks) c.deref-2.ensures.value c.in_ok-landmarks.ensures)

@@ -1,4 +1,4 @@
--- Records made of parts of chains at kept places: in a county they have the number of the place, and in its small county that of the place
+-- Records made of pieces of chains at kept places: in a county they have the number of the place, and in its small county that of the place
 -- among the kept ones.
 use Rattle.tl_number.proofs.Common.{AllByRecursion, AllPairs, AllPairs-filter, Bool, List, None, Option, Ordering, Some, [], all_append, all_filter, all_map, all_weaker, ap, ap₂, arith, at_places, cons_option, filter, get_or-range_with_len, get_or_from_slice_get, grouped, length, length-range_with_len, map, map-append, map-map, nat_cmp, numbered_from, one_cmp, ordering_then, range_bounds, range_with_len, refl, same_Some, slice_cmp, slice_get, slice_get_within, some_at, subst, suc, sym, zero, ℕ, ◌++◌, ◌+◌, ◌<◌, ◌∙◌, ◌∷◌, ◌≡◌, ◌≤◌}
 
@@ -40,14 +40,14 @@ kept_order test count i j p q e f = sym (one_cmp (suc i) (suc j) (suc p) (suc q)
       get_or_from_slice_get kept n y 0 h,
     )
 
--- ---- parts of chains at kept places
+-- ---- pieces of chains at kept places: a chain itself, or one of its further names or address ranges
 
--- A part of a chain at a kept place: the place, its place among the kept ones, the chain, and the part with its number in the chain.
+-- A piece of a chain at a kept place: the place, its place among the kept ones, the chain, and the piece with its number in the chain.
 pub record Kept (C Y : Type 0) : Type 0 where
   pub place : ℕ
   pub rank : ℕ
   pub chain : C
-  pub part : ℕ
+  pub number : ℕ
   pub piece : Y
 
 -- a chain is at the place
@@ -70,60 +70,60 @@ chain_at_rank cs (p ∷ ps) all (suc rank) place e =
     ap (λ o. slice_get (cons_option o (at_places cs ps)) (suc rank)) all.0.1 ∙ chain_at_rank cs ps all.1 rank place e
 
 module _ {C Y : Type 0} (pieces : C → List Y) (cs : List C) where
-  abbrev part_at : ℕ → ℕ → C → ℕ × Y → Kept C Y
-  part_at place rank c e = record { place = place; rank = rank; chain = c; part = e.0; piece = e.1 }
+  abbrev piece_at : ℕ → ℕ → C → ℕ × Y → Kept C Y
+  piece_at place rank c e = record { place = place; rank = rank; chain = c; number = e.0; piece = e.1 }
 
-  parts_there : ℕ → ℕ → Option C → List (Kept C Y)
-  parts_there place rank None = []
-  parts_there place rank (Some c) = map (part_at place rank c) (numbered_from 1 (pieces c))
+  pieces_there : ℕ → ℕ → Option C → List (Kept C Y)
+  pieces_there place rank None = []
+  pieces_there place rank (Some c) = map (piece_at place rank c) (numbered_from 1 (pieces c))
 
-  -- all parts of the chains at some places, the first of which has this place among the kept ones
-  pub kept_parts : ℕ → List ℕ → List (Kept C Y)
-  kept_parts rank [] = []
-  kept_parts rank (place ∷ places) = parts_there place rank (slice_get cs place) ++ kept_parts (suc rank) places
+  -- all pieces of the chains at some places, the first of which has this place among the kept ones
+  pub kept_pieces : ℕ → List ℕ → List (Kept C Y)
+  kept_pieces rank [] = []
+  kept_pieces rank (place ∷ places) = pieces_there place rank (slice_get cs place) ++ kept_pieces (suc rank) places
 
-  parts_read : {X : Type 0} (g : Kept C Y → X) (place rank : ℕ) (c : C) → slice_get cs place ≡ Some c
-      → map g (parts_there place rank (slice_get cs place)) ≡ map (λ e. g (part_at place rank c e)) (numbered_from 1 (pieces c))
-  unfolding parts_there
-  parts_read g place rank c e = ap (λ o. map g (parts_there place rank o)) e ∙ map-map g (part_at place rank c) (numbered_from 1 (pieces c))
+  pieces_read : {X : Type 0} (g : Kept C Y → X) (place rank : ℕ) (c : C) → slice_get cs place ≡ Some c
+      → map g (pieces_there place rank (slice_get cs place)) ≡ map (λ e. g (piece_at place rank c e)) (numbered_from 1 (pieces c))
+  unfolding pieces_there
+  pieces_read g place rank c e = ap (λ o. map g (pieces_there place rank o)) e ∙ map-map g (piece_at place rank c) (numbered_from 1 (pieces c))
 
   module _ {X : Type 0} (make : ℕ → ℕ → Y → X) where
-    -- the record of a part in the county, and in its small county
+    -- the record of a piece in the county, and in its small county
     abbrev pub at_place : Kept C Y → X
-    at_place k = make (suc k.place) k.part k.piece
+    at_place k = make (suc k.place) k.number k.piece
 
     abbrev pub at_rank : Kept C Y → X
-    at_rank k = make (suc k.rank) k.part k.piece
+    at_rank k = make (suc k.rank) k.number k.piece
 
     -- the records of a chain with a number
     abbrev pub made : ℕ → C → List X
     made number c = map (λ e. make number e.0 e.1) (numbered_from 1 (pieces c))
 
-    -- The records at kept places are made of these parts,
+    -- The records at kept places are made of these pieces,
     pub place_groups : (F : ℕ → List X) → ((place : ℕ) (c : C) → slice_get cs place ≡ Some c → F place ≡ made (suc place) c)
-        → (rank : ℕ) (places : List ℕ) → AllByRecursion (IsThere cs) places → grouped (map F places) ≡ map at_place (kept_parts rank places)
-    unfolding kept_parts
+        → (rank : ℕ) (places : List ℕ) → AllByRecursion (IsThere cs) places → grouped (map F places) ≡ map at_place (kept_pieces rank places)
+    unfolding kept_pieces
     place_groups F is rank [] all = refl
     place_groups F is rank (place ∷ places) all =
-        ap₂ (λ xs ys. xs ++ ys) (is place all.0.0 all.0.1 ∙ sym (parts_read at_place place rank all.0.0 all.0.1)) (place_groups F is (suc rank) places all.1)
-        ∙ sym (map-append at_place (parts_there place rank (slice_get cs place)) (kept_parts (suc rank) places))
+        ap₂ (λ xs ys. xs ++ ys) (is place all.0.0 all.0.1 ∙ sym (pieces_read at_place place rank all.0.0 all.0.1)) (place_groups F is (suc rank) places all.1)
+        ∙ sym (map-append at_place (pieces_there place rank (slice_get cs place)) (kept_pieces (suc rank) places))
 
     -- and so are the records of the chains there with new numbers.
     pub rank_groups : (rank : ℕ) (places : List ℕ) → AllByRecursion (IsThere cs) places
-        → grouped (map (λ (e : ℕ × C). made e.0 e.1) (numbered_from (suc rank) (at_places cs places))) ≡ map at_rank (kept_parts rank places)
-    unfolding kept_parts
+        → grouped (map (λ (e : ℕ × C). made e.0 e.1) (numbered_from (suc rank) (at_places cs places))) ≡ map at_rank (kept_pieces rank places)
+    unfolding kept_pieces
     rank_groups rank [] all = refl
     rank_groups rank (place ∷ places) all =
         ap (λ o. grouped (map (λ (e : ℕ × C). made e.0 e.1) (numbered_from (suc rank) (cons_option o (at_places cs places))))) all.0.1
-        ∙ ap₂ (λ xs ys. xs ++ ys) (sym (parts_read at_rank place rank all.0.0 all.0.1)) (rank_groups (suc rank) places all.1)
-        ∙ sym (map-append at_rank (parts_there place rank (slice_get cs place)) (kept_parts (suc rank) places))
+        ∙ ap₂ (λ xs ys. xs ++ ys) (sym (pieces_read at_rank place rank all.0.0 all.0.1)) (rank_groups (suc rank) places all.1)
+        ∙ sym (map-append at_rank (pieces_there place rank (slice_get cs place)) (kept_pieces (suc rank) places))
 
-  -- The place, the chain and the piece of a part are found where it says.
+  -- The place, the chain and the piece are found where it says.
   pub record IsKept (kept : List ℕ) (k : Kept C Y) : Type 0 where
     pub ranked : slice_get kept k.rank ≡ Some k.place
     pub chain_there : slice_get cs k.place ≡ Some k.chain
     pub index : ℕ
-    pub counted : k.part ≡ suc index
+    pub counted : k.number ≡ suc index
     pub piece_there : slice_get (pieces k.chain) index ≡ Some k.piece
 
   -- an element is at the place that its number says
@@ -138,14 +138,14 @@ module _ {C Y : Type 0} (pieces : C → List Y) (cs : List C) where
   )
 
   pub all_kept : (kept : List ℕ) (rank : ℕ) (places : List ℕ) → ((i : ℕ) → slice_get places i ≡ slice_get kept (rank + i))
-      → AllByRecursion (IsThere cs) places → AllByRecursion (IsKept kept) (kept_parts rank places)
-  unfolding kept_parts parts_there
+      → AllByRecursion (IsThere cs) places → AllByRecursion (IsKept kept) (kept_pieces rank places)
+  unfolding kept_pieces pieces_there
   all_kept kept rank [] h all = tt
   all_kept kept rank (place ∷ places) h all =
-      all_append (IsKept kept) (parts_there place rank (slice_get cs place)) (kept_parts (suc rank) places)
-      (subst (λ o. AllByRecursion (IsKept kept) (parts_there place rank o)) (sym all.0.1)
-      (all_map (IsKept kept) (part_at place rank all.0.0) (numbered_from 1 (pieces all.0.0))
-      (all_weaker (λ (e : ℕ × Y). (i : ℕ) × (e.0 ≡ 1 + i) × (slice_get (pieces all.0.0) i ≡ Some e.1)) (λ e. IsKept kept (part_at place rank all.0.0 e))
+      all_append (IsKept kept) (pieces_there place rank (slice_get cs place)) (kept_pieces (suc rank) places)
+      (subst (λ o. AllByRecursion (IsKept kept) (pieces_there place rank o)) (sym all.0.1)
+      (all_map (IsKept kept) (piece_at place rank all.0.0) (numbered_from 1 (pieces all.0.0))
+      (all_weaker (λ (e : ℕ × Y). (i : ℕ) × (e.0 ≡ 1 + i) × (slice_get (pieces all.0.0) i ≡ Some e.1)) (λ e. IsKept kept (piece_at place rank all.0.0 e))
       (λ e g. record {
         ranked = ap (slice_get kept) (let t : rank ≡ rank + 0 = omega arith in t) ∙ sym (h 0);
         chain_there = all.0.1;

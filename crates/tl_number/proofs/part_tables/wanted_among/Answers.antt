@@ -1,5 +1,5 @@
 use Rattle.tl_number.proofs.Common.{ap, at_places, ◌∙◌}
-use Rattle.tl_number.proofs.part_tables.pick.Goals as goal
+use Rattle.tl_number.proofs.part_tables.wanted_among.Goals as goal
 
 pub returns : goal.returns
 returns g c = record {

@@ -1,5 +1,5 @@
 use Rattle.tl_number.proofs.Common.{ap, at_places, lands, places_fit, ◌∙◌}
-use Rattle.tl_number.proofs.kept_places.kept_parts.Goals as goal
+use Rattle.tl_number.proofs.kept_places.find_kept.Goals as goal
 
 pub kept_landmarks-requires-clause-few : goal.kept_landmarks-requires-clause-few
 kept_landmarks-requires-clause-few g c =
