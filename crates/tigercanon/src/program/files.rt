@@ -1,6 +1,6 @@
 //! The files of a set: the outcomes of opening them, and the files as sources.
 
-ghost use Rattle.std.specs.Prelude.{IfErr, IfOk, IsErr, Ok, slice_get, ◌≡◌, ◌≢◌};
+ghost use Rattle.std.specs.Prelude.{IfErr, IfOk, IsErr, Ok, OnErr, slice_get, ◌≡◌, ◌≢◌};
 ghost use Rattle.std.specs.Io.KnownBytes.{ReadConsumes};
 ghost use Rattle.std.specs.Io.{ReadsAtMost};
 ghost use Rattle.std.specs.IoError.{error_kind};
@@ -128,6 +128,7 @@ pub fn open_set<R: Read + Drop>(
 ) -> Result<Vec<CountedFile<R>>, Stopped>
     ensures readable { IfOk result (λ sources. AreReadable sources.items) }
     ensures opened { IfOk result (λ sources. IfOk opened (λ files. AreCounted sources.items files.items)) }
+    ensures unopened { OnErr opened (IsErr result) }
     ensures memory { IfErr result (λ stopped. stopped ≡ record { fault = Fault.Memory; set = set_of_job job set }) }
 {
     match opened {
