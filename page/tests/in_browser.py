@@ -196,7 +196,7 @@ def try_network(page: Page) -> None:
     page.equal("the browser's log", [], page.browser.log)
     page.equal("what is kept", [0, 0, ""], page.browser.evaluate("[localStorage.length, sessionStorage.length, document.cookie]"))
     Counting.calls = 0
-    server = http.server.HTTPServer(("127.0.0.1", 0), Counting)
+    server = http.server.ThreadingHTTPServer(("127.0.0.1", 0), Counting)
     threading.Thread(target=server.serve_forever, daemon=True).start()
     address = f"http://127.0.0.1:{server.server_port}/"
     page.equal("asking the network", ["refused", "refused"], page.browser.execute_async(REACH_OUT, address))
