@@ -196,6 +196,7 @@ def try_network(page: Page) -> None:
     page.equal("the browser's log", [], page.browser.log)
     page.equal("what is kept", [0, 0, ""], page.browser.evaluate("[localStorage.length, sessionStorage.length, document.cookie]"))
     Counting.calls = 0
+    # A thread for each connection, since a browser also opens some that it doesn't use.
     server = http.server.ThreadingHTTPServer(("127.0.0.1", 0), Counting)
     threading.Thread(target=server.serve_forever, daemon=True).start()
     address = f"http://127.0.0.1:{server.server_port}/"

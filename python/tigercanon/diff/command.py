@@ -63,7 +63,7 @@ def add_arguments(parser: argparse.ArgumentParser) -> None:
     add("--stem", action="store_true", help="use FIRST and SECOND as the beginnings of names, even if such files exist")
     add("--summary", action="store_true", help="print only how many of each kind differ")
     add("--json", action="store_true", help="print the differences as JSON, or with --summary how many there are")
-    about = "write tigercanon.html with both counties in it, to be opened in a browser, and no report without --summary or --json"
+    about = "write tigercanon.html with both counties in it, to be opened in a browser, and print only what --summary or --json asks for"
     add("--page", metavar="FILE", help=f"{about}; - is standard output, without any report")
     add("--geojson", metavar="FILE", help="write the differences as GeoJSON, for any GIS; - is standard output, without the report")
     add("--all", action="store_true", help="with --geojson: also write what is the same in both maps")
