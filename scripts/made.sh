@@ -90,6 +90,11 @@ attend() {
     return "$1"
 }
 
+# To be attended: becomes a command in the folder $1. The caller stays where it is, since $root may be a relative path.
+within() {
+    CDPATH="" cd -- "$1" && shift && exec "$@"
+}
+
 # Whether rt is on the PATH and has the logic that these sources are proved with. Sets $kit to the kit's folder, or $lacking to the
 # reason why not.
 has_kit() {
@@ -127,8 +132,8 @@ prove_program() {
     make_stage || stop "$root/out can't be written"
     jobs="$(jobs_that_fit)"
     say "every crate is proved, and the program is built: $proving_takes on four processors"
-    CDPATH="" cd -- "$root/crates" && attend setsid rt all check --jobs "${jobs:-1}" >&2 &&
-        cd tigercanon_main && attend setsid rt run -- respell /dev/null >&2 || stop "the program isn't proved"
+    attend within "$root/crates" setsid rt all check --jobs "${jobs:-1}" >&2 &&
+        attend within "$root/crates/tigercanon_main" setsid rt run -- respell /dev/null >&2 || stop "the program isn't proved"
     built="$root/crates/tigercanon_main/out/tigercanon_main"
     cp -- "$built" "$stage/tigercanon" || stop "$root/out can't be written"
     if [ -e "$built.o" ]; then cp -- "$built.o" "$stage/tigercanon.o" || stop "$root/out can't be written"; fi
