@@ -15,14 +15,11 @@ from pathlib import Path
 from typing import Iterable, Iterator, NamedTuple, Optional
 
 from dev.crates import PARTS, Crates, Notes, words_for_rattle
+from dev.functions import Function, function_at, indent, item_at, users_of
 
 # To be raised if results that earlier rules kept no longer count.
 RULES = "1"
 NAME = re.compile(r"[A-Za-z0-9_-][A-Za-z0-9_.-]*\.edit")
-ITEM = re.compile(
-    r"( *)(?:pub(?:\([^)]*\))? )?(?:(?:const|unsafe|final|ghost|default|extern \"C\") )*"
-    r"(fn|impl|mod|trait|struct|enum|const|static|type|macro_rules!)\b ?(.*)"
-)
 # What rattle prints about a text that it can't read. An edit that only makes a statement false can be read.
 UNREADABLE = re.compile(r"is not in scope|has no field|is no name|operand is missing|expected the end|cannot continue")
 # Its line about a proof file with a name that an edit took away, and about the files that cite that proof.
@@ -34,128 +31,6 @@ LIMITS = re.compile(
 )
 LIBC = ctypes.CDLL(None)
 PR_SET_PDEATHSIG = 1
-
-
-class Function(NamedTuple):
-    """A function of a crate: the path of its module, its name with its type, and its rows in the file."""
-
-    file: str
-    module: str
-    name: str
-    rows: range
-
-    @property
-    def path(self) -> str:
-        return "::".join(filter(None, (self.module, self.name)))
-
-    def is_named(self, printed: str) -> bool:
-        """Whether rattle means this function, or a closure in it, by a name."""
-        module, parent, last = re.escape(f"{self.module}::" if self.module else ""), *map(re.escape, ("::" + self.name).rsplit("::", 1))
-        parent = parent.lstrip(":")
-        parent = f"{parent}::" if parent else ""
-        return bool(re.fullmatch(rf"\w+::{module}({parent}{last}|(.*::)?fn::({parent})?{last}::.*|{parent}fn::{last}::.*)", printed))
-
-    def has(self, line: str) -> bool:
-        """Whether a line that rattle printed is about this function's text or its proof."""
-        place = re.match(r"(?:note: )?(?:\./)?(\S+?):(\d+):\d+:", line)
-        if place and place[1] == self.file:
-            return int(place[2]) - 1 in self.rows
-        folder = "/".join(("proofs", *filter(None, self.module.split("::"))))
-        return bool(place and re.fullmatch(rf"{re.escape(folder)}/(.*/)?{re.escape(self.name.split('::')[-1])}/[^/]*", place[1]))
-
-
-def indent(row: str) -> int:
-    return len(row) - len(row.lstrip())
-
-
-def parts_of(text: str, separator: str) -> list[str]:
-    """The parts of a type's text between separators that aren't in brackets."""
-    parts, depth = [""], 0
-    for word in re.findall(rf"->|{re.escape(separator)}|.", text):
-        depth += (word in "<([") - (word in ">)]")
-        if word == separator and not depth:
-            parts.append("")
-        else:
-            parts[-1] += word
-    return [it.strip() for it in parts if it.strip()]
-
-
-def name_of(text: str, parameters: set[str], is_argument: bool) -> str:
-    """rattle's name for a type, with its arguments, without type parameters and lifetimes."""
-    text = re.sub(r"^(&|'\w+\s*|mut |dyn )+", lambda found: "Ref" if "&" in found[0] else "", text.strip())
-    prefix, text = ("Ref", text[3:]) if text.startswith("Ref") and text[3:4] in ("[", "(") else ("", text)
-    if text[:1] in ("[", "("):
-        within = parts_of(text[1:-1].partition(";")[0], ",")
-        word = f"Tuple{len(within)}" if text[0] == "(" else "Array" if ";" in text else "Slice"
-        return prefix + word + "".join(name_of(it, parameters, True) for it in within)
-    head, _, rest = text.partition("<")
-    last = re.findall(r"\w+", head)[-1:] or [""]
-    if last[0] in parameters:
-        return "" if is_argument else "Any"
-    arguments = [it for it in parts_of(rest.rpartition(">")[0], ",") if not it.startswith("'")]
-    return prefix + last[0][:1].upper() + last[0][1:] + "".join(name_of(it, parameters, True) for it in arguments)
-
-
-def owner_of(header: str) -> str:
-    """rattle's name for an impl, from its header without the word impl: the names of the type and of a trait."""
-    parameters: set[str] = set()
-    header = re.split(r"\{| where\b", header)[0].strip()
-    if header.startswith("<"):
-        depth = ends = 0
-        for ends, word in enumerate(header.replace("->", "  ")):
-            depth += (word == "<") - (word == ">")
-            if not depth:
-                break
-        parameters = {name for it in parts_of(header[1:ends], ",") for name in re.findall(r"^(?:const )?(\w+)", it)}
-        header = header[ends + 1 :]
-    names = parts_of(header.replace(" for ", "\0"), "\0")
-    if len(names) == 2:
-        return name_of(names[1], parameters, False) + name_of(names[0], parameters, False)
-    whole, bare = name_of(header, parameters, False), name_of(header.partition("<")[0], parameters, False)
-    return bare + (f"+{whole.removeprefix(bare)}" if whole != bare else "")
-
-
-def items_around(rows: list[str], row: int) -> Iterator[tuple[int, str, str]]:
-    """The items of a file in rt fmt's layout around a row, from the innermost outward: the item's row, its kind, and its header."""
-    width = indent(rows[row]) + 1
-    for number in range(row, -1, -1):
-        item = ITEM.match(rows[number])
-        if item and indent(rows[number]) < width:
-            width = indent(rows[number])
-            header = [item[3]]
-            for more in rows[number + 1 : row]:
-                if "{" in header[-1] or item[2] == "fn":
-                    break
-                header.append(more)
-            yield number, item[2], " ".join(header)
-
-
-def function_at(file: str, text: str, at: int) -> Optional[Function]:
-    """The function whose body has this place of the file's text. None if the place is in no body."""
-    rows, row = text.split("\n"), text.count("\n", 0, at)
-    around = list(items_around(rows, row))
-    functions = [number for number, (_, kind, _) in enumerate(around) if kind == "fn"]
-    if not functions:
-        return None
-    first, _, header = around[functions[-1]]
-    margin = " " * indent(rows[first])
-    opens = next((it for it in range(first, len(rows)) if rows[it] == f"{margin}{{" or rows[it].endswith(" {")), row)
-    if opens > row or (opens == row and rows[row].endswith(" {")):
-        return None
-    ends = (it for it in range(opens, len(rows)) if rows[it] == f"{margin}}}")
-    outside = [(kind, header) for _, kind, header in around[functions[-1] + 1 :]]
-    owner = [owner_of(header) if kind == "impl" else re.findall(r"\w+", header)[0] for kind, header in outside if kind in ("impl", "trait")]
-    modules = [re.findall(r"\w+", header)[0] for kind, header in reversed(outside) if kind == "mod"]
-    path = [it for it in Path(file).with_suffix("").parts[1:] if it not in ("lib", "main", "mod")]
-    name = "::".join([*owner[:1], re.findall(r"\w+", header)[0]])
-    return Function(file, "::".join([*path, *modules]), name, range(first, next(ends, len(rows)) + 1))
-
-
-def item_at(text: str, at: int) -> str:
-    """The name of the outermost item other than a module or an impl that has this place, which is in no body."""
-    around = items_around(text.split("\n"), text.count("\n", 0, at))
-    found = [re.findall(r"\w+", header) for _, kind, header in around if kind not in ("mod", "impl")]
-    return found[-1][0] if found and found[-1] else ""
 
 
 class Edit:
@@ -215,17 +90,6 @@ def edits_of(crate: str, folder: Path) -> tuple[list[Edit], list[str]]:
     files = sorted(it for it in folder.rglob("*") if not it.is_dir()) if folder.is_dir() else []
     good = [it for it in files if it.parent == folder and NAME.fullmatch(it.name) and it.is_file()]
     return [Edit(crate, it) for it in good], [str(it.relative_to(folder)) for it in files if it not in good and it.suffix != ".md"]
-
-
-def users_of(names: set[str], folder: Path) -> set[Function]:
-    """The functions of a crate whose bodies have any of the names."""
-    found = set()
-    for path in sorted((folder / "src").rglob("*.rt")):
-        file, text = str(path.relative_to(folder)), path.read_text(encoding="utf-8")
-        for place in re.finditer(rf"\b({'|'.join(map(re.escape, sorted(names)))})\b", text):
-            function = function_at(file, text, place.start())
-            found |= {function} if function else set()
-    return found
 
 
 class Result(NamedTuple):
