@@ -29,8 +29,16 @@ COUNTIES = 130
 CHANGED = 5  # zips to which each of five things happens
 
 FINGERPRINT = ("fingerprint", "-o", "m", "in")
+VARIABLES = ("TMPDIR", "TIGERCANON_SHM")  # of folders for temporary files
 SCHEDULER = ("--scheduler", "dask/scheduler.json")
 BY_DASK = (*FINGERPRINT, *SCHEDULER)
+# Dask's processes watch themselves many times a second, which takes most of their time. A task may end two workers, and not four.
+SETTINGS = {
+    "WORKER__PROFILE__ENABLED": "False",
+    "WORKER__MEMORY__MONITOR_INTERVAL": "2s",
+    "ADMIN__TICK__INTERVAL": "1s",
+    "SCHEDULER__ALLOWED_FAILURES": "1",
+}
 
 
 def made_counties() -> Iterator[tuple[str, dict[str, bytes]]]:
@@ -188,7 +196,7 @@ class Engine:
     """A Dask scheduler and workers on 127.0.0.1, each a process as a cluster starts it. The workers don't have the package. Those with a
     nanny, a process of its own, are started again when they end."""
 
-    def __init__(self, room: Path, workers: int = 2, has_nannies: bool = False) -> None:
+    def __init__(self, room: Path, workers: int, has_nannies: bool = False) -> None:
         self.room = room / "dask"
         self.room.mkdir()
         self.file, self.has_nannies = self.room / "scheduler.json", has_nannies
@@ -204,6 +212,7 @@ class Engine:
         words = f"-m distributed.cli.dask_{kind} --scheduler-file scheduler.json --host 127.0.0.1 {more}".split()
         how: dict[str, Any] = {"cwd": self.room, "start_new_session": True, "preexec_fn": die_with_the_test}
         kept = {key: text for key, text in os.environ.items() if key != "PYTHONPATH"}
+        kept.update((f"DASK_DISTRIBUTED__{key}", text) for key, text in SETTINGS.items())
         with open(self.room / f"{kind}.log", "ab") as log:
             return subprocess.Popen([sys.executable, *words], stdin=subprocess.DEVNULL, stdout=log, stderr=log, env=kept, **how)
 
@@ -220,17 +229,26 @@ class Engine:
 @pytest.mark.cluster
 @pytest.mark.skipif(not find_spec("distributed"), reason="distributed isn't installed")
 class TestDask:
-    @pytest.fixture
-    def engine(self, room: Path) -> Iterator[Engine]:
-        engine = Engine(room)
+    @pytest.fixture(scope="class")
+    def shared(self, tmp_path_factory: pytest.TempPathFactory) -> Iterator[Engine]:
+        """Starts a cluster for several tests, since that takes longer than they do."""
+        room = tmp_path_factory.mktemp("cluster")
+        with pytest.MonkeyPatch.context() as settings:
+            settings.setenv("PROGRAM", built_program())
+            for variable in VARIABLES:
+                (room / variable).mkdir()
+                settings.setenv(variable, str(room / variable))
+            engine = Engine(room, 3, has_nannies=True)
         yield engine
         engine.close()
 
     @pytest.fixture
-    def nannies(self, room: Path) -> Iterator[Engine]:
-        engine = Engine(room, 3, has_nannies=True)
-        yield engine
-        engine.close()
+    def engine(self, room: Path, shared: Engine, monkeypatch: pytest.MonkeyPatch) -> Engine:
+        """Puts the shared cluster into the test's folder. The test has the same folders for temporary files."""
+        (room / "dask").symlink_to(shared.room)
+        for variable in VARIABLES:
+            monkeypatch.setenv(variable, str(shared.room.parent / variable))
+        return shared
 
     def begun(self) -> Process:
         """Starts a run, and returns it when it has done twenty counties."""
@@ -251,9 +269,17 @@ class TestDask:
         assert (checked.status, checked.out.count(": OK\n")) == (1, len(archive.lines) - 1)
         assert checked.out.count("\n") == COUNTIES
 
-    def test_workers_are_killed(self, archive: Archive, slow: None, nannies: Engine) -> None:
+    def test_a_signal(self, archive: Archive, slow: None, engine: Engine) -> None:
+        run = self.begun()
+        run.send_signal(signal.SIGTERM)
+        assert run.wait(2) == -signal.SIGTERM
+        assert re.fullmatch(rf"stopped by TERM: \d+ of {COUNTIES} counties done", end(run).lines[-1])
+        assert call(*BY_DASK).status == 1
+        assert_all_done(archive)
+
+    def test_workers_are_killed(self, archive: Archive, slow: None, engine: Engine) -> None:
         """Two of three workers: nothing is missing, and no county is blamed."""
-        run, victims = self.begun(), nannies.worker_processes()
+        run, victims = self.begun(), engine.worker_processes()
         assert len(victims) == 3
         for victim in victims[:2]:
             os.kill(victim, signal.SIGKILL)
@@ -261,33 +287,27 @@ class TestDask:
         assert (ended.status, plain(ended.reports)) == (1, archive.reports)
         assert_all_done(archive, killed=2)
 
-    def test_a_county_that_ends_its_worker(self, archive: Archive, slow: None, nannies: Engine) -> None:
+    def test_a_county_that_ends_its_worker(self, archive: Archive, slow: None, engine: Engine) -> None:
         """It is reported; counties that only shared a worker with it aren't."""
         put("in/TGR90001.RT1", b"kill\r\n")
         ended = call(*BY_DASK)
         wanted = {**archive.reports, "in/TGR90001": "every worker that checked it ended"}
         assert (ended.status, plain(ended.reports)) == (1, wanted)
-        assert_all_done(archive, killed=8)
+        assert_all_done(archive, killed=4)
 
-    def test_the_scheduler_is_killed(self, archive: Archive, slow: None, engine: Engine) -> None:
+    def test_the_scheduler_is_killed(self, archive: Archive, slow: None, room: Path) -> None:
         """The command reports how many counties are left, and the same command does the rest."""
+        engine = Engine(room, workers=1)
         run = self.begun()
         os.killpg(engine.scheduler.pid, signal.SIGKILL)
         ended = end(run)
+        engine.close()
         assert ended.status == 1, ended.err
         done = listed("m").splitlines()
         (left,) = re.findall(r"is gone: (\d+) counties are left; run the same command again to do them", ended.err)
         assert int(left) == COUNTIES - (len(done) - 1) - sum("refused" in text for text in ended.reports.values())
         assert set(done) <= set(archive.lines) and done[1:] == sorted(done[1:], key=lambda line: line[66:])
         assert call(*FINGERPRINT).status == 1
-        assert_all_done(archive)
-
-    def test_a_signal(self, archive: Archive, slow: None, engine: Engine) -> None:
-        run = self.begun()
-        run.send_signal(signal.SIGTERM)
-        assert run.wait(2) == -signal.SIGTERM
-        assert re.fullmatch(rf"stopped by TERM: \d+ of {COUNTIES} counties done", end(run).lines[-1])
-        assert call(*BY_DASK).status == 1
         assert_all_done(archive)
 
     @pytest.mark.parametrize("address", ["tcp://127.0.0.1:9", "nowhere.json"])
