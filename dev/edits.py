@@ -1,7 +1,6 @@
 """The must-fail edits of crates: each is a wrong body, which the prover has to refuse. Many edits of a crate are tried in one run."""
 
 import contextlib
-import ctypes
 import hashlib
 import json
 import os
@@ -29,8 +28,6 @@ LIMITS = re.compile(
     r"antt ran out of (stack|the (steps|memory) that the check of one declaration may (take|use))"
     r"|(outgrew the memory limit|stopped at the step limit) \("
 )
-LIBC = ctypes.CDLL(None)
-PR_SET_PDEATHSIG = 1
 
 
 class Edit:
@@ -190,15 +187,12 @@ class Prover:
             return ran
 
     def call(self, words: list[str], folder: str) -> Ran:
-        def prepare() -> None:
-            LIBC.prctl(PR_SET_PDEATHSIG, signal.SIGKILL)
-            os.nice(self.niceness)
-
+        words = ["nice", "-n", str(self.niceness), "setpriv", "--pdeathsig", "KILL", *words]
         how = {"stdin": subprocess.DEVNULL, "stdout": subprocess.PIPE, "stderr": subprocess.STDOUT, "text": True, "errors": "replace"}
         with self.alone:
             if self.is_stopped:
                 return Ran(-signal.SIGTERM, [""])
-            process = subprocess.Popen(words, cwd=folder, preexec_fn=prepare, **how)  # type: ignore[call-overload]
+            process = subprocess.Popen(words, cwd=folder, **how)  # type: ignore[call-overload]
             self.running.add(process)
         told = process.communicate()[0]
         self.running.discard(process)

@@ -3,7 +3,10 @@
 import hashlib
 import os
 import shutil
+import select
 import signal
+from contextlib import suppress
+from pathlib import Path
 
 from dev.testing import Tally, await_that, hash_of_sources
 from edits_tests.repository import COUNT, FIRST, ONE, ONE_AGAIN, RIGHT, SCRIPTS, SOURCES, Repository, results
@@ -139,6 +142,13 @@ def try_gate_again(tally: Tally, tree: Repository) -> None:
     (tree.room / "rt-fails").unlink()
 
 
+def has_ended(number: str) -> bool:
+    """Returns whether a process has ended, even if nobody has waited for it."""
+    with suppress(FileNotFoundError):
+        return "State:\tZ" in Path("/proc", number, "status").read_text()
+    return True
+
+
 def try_gate_signals(tally: Tally, tree: Repository) -> None:
     """A run that is stopped leaves no files, and the next run does the rest."""
     tree.has_edits({"a": ONE, "b": COUNT})
@@ -156,6 +166,7 @@ def try_gate_signals(tally: Tally, tree: Repository) -> None:
     tree.write("../rattle-waits", "")
     process = tree.start("gate")
     tally.holds("gate, before it hangs up: it tries edits", await_that(lambda: tree.calls))
+    tally.holds("gate, before it hangs up: it prints what rt ci prints", select.select([process.stdout], [], [], 60)[0])
     process.send_signal(signal.SIGHUP)
     process.communicate(timeout=60)
     tally.equal("gate, that hangs up: status", 128 + signal.SIGHUP, process.returncode)
@@ -163,6 +174,7 @@ def try_gate_signals(tally: Tally, tree: Repository) -> None:
     tally.holds("gate, before it is killed: it tries edits", await_that(lambda: tree.calls))
     process.kill()
     process.communicate()
+    tally.holds("gate, killed: rt ci ends", await_that(lambda: has_ended((tree.room / "number").read_text().strip())))
     left = [path.name for path in tree.room.glob("tigercanon-gate-*")]
     tally.holds("gate, killed: it leaves a copy", len(left) == 1, left)
     (tree.room / "rattle-waits").unlink()

@@ -245,6 +245,10 @@ def try_kept(tally: Tally, tree: Repository) -> None:
     shutil.rmtree(tree.root / "crates/low/out")
     tally.equal("without a library", (2, []), tree.run("try-edits", "high"))
     tally.equal("without a library: what is said", "try-edits: low isn't built: rt lib builds it\n", tree.err)
+    (tree.room / "kit/KIT-ID").unlink()
+    for name in ("try-edits", "gate"):
+        said = f"{name}: rt on the PATH isn't that of a Rattle kit with rattle beside it\n"
+        tally.equal(f"{name} without a kit", (2, [], said), (*tree.run(name), tree.err))
 
 
 TESTS = (try_cases, try_kept)

@@ -21,8 +21,8 @@ def try_exports(tests: Tests) -> None:
     shared = tests.library / "lib/libtigercanon.so.1"
     listed = run(["nm", "-D", "--defined-only", shared]).out.decode().split("\n")
     tests.equal("exports", [f"tigercanon_{call}" for call in CALLS], sorted(line.split()[-1] for line in listed if line))
-    needed = re.findall(r"\(NEEDED\).*\[(.*)\]", run(["readelf", "-d", shared]).out.decode())
-    tests.equal("needs", ["libc.so.6"], needed)
+    entries = re.findall(r"\((NEEDED|SONAME)\).*\[(.*)\]", run(["readelf", "-d", shared]).out.decode())
+    tests.equal("its name, and what it needs", [("NEEDED", "libc.so.6"), ("SONAME", "libtigercanon.so.1")], sorted(entries))
     tests.equal("its link", "libtigercanon.so.1", os.readlink(tests.library / "lib/libtigercanon.so"))
 
 
