@@ -1,4 +1,4 @@
-"""Whole runs over 130 counties by the real program, here and by a Dask scheduler whose workers are killed. Their archive has counties in
+"""Whole runs over 91 counties by the real program, here and by a Dask scheduler whose workers are killed. Their archive has counties in
 several spellings, and each refused example among them, as zips and as single files. A test on a cluster takes seconds: each process of
 Dask needs one to start."""
 
@@ -25,8 +25,8 @@ from tigercanon.counties import Finder
 from tigercanon.errors import Failure
 from tigercanon.judge import Order, endings
 
-COUNTIES = 130
-CHANGED = 5  # zips to which each of five things happens
+COUNTIES = 91
+CHANGED = 3  # zips to which each of five things happens
 
 FINGERPRINT = ("fingerprint", "-o", "m", "in")
 VARIABLES = ("TMPDIR", "TIGERCANON_SHM")  # of folders for temporary files
@@ -42,12 +42,12 @@ SETTINGS = {
 
 
 def made_counties() -> Iterator[tuple[str, dict[str, bytes]]]:
-    """Yields stems, and files by their types: each map in two spellings, and some in one. Each tenth county is refused, some
+    """Yields stems, and files by their types: each map in two spellings, and some in one. Each seventh county is refused, some
     are in a folder of a folder, and some lack files."""
     refused = [*sorted((ROOT / "examples/refused").iterdir()), ROOT / "examples/broken.txt"]
     for number in range(COUNTIES):
         made = written(made_county(12, number // 2), number)
-        text = refused[number // 10 % len(refused)].read_bytes() if number % 10 == 9 else made
+        text = refused[number // 7].read_bytes() if number % 7 == 6 else made
         parts = by_type(b"".join(line + b"\r\n" for line in text.splitlines()))
         for kind in TYPES[1:] if number % 25 == 4 else "78" if number % 25 == 14 else "1" if number % 100 == 44 else "":
             del parts[kind]
