@@ -1,6 +1,6 @@
 # Completion of tigercanon-tools in bash, 4.0 or later. Source this file, or copy it under the name tigercanon-tools
 # into ~/.local/share/bash-completion/completions.
-# release/tool-pages writes the parts of this file that are from the help of tigercanon-tools.
+# tools/tool-pages writes the parts of this file that are from the help of tigercanon-tools.
 
 _tigercanon_tools() {
     # help: begin commands

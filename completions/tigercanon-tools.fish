@@ -1,5 +1,5 @@
 # Completion of tigercanon-tools in fish. Put this file into ~/.config/fish/completions.
-# release/tool-pages writes the parts of this file that are from the help of tigercanon-tools.
+# tools/tool-pages writes the parts of this file that are from the help of tigercanon-tools.
 
 # help: begin entries
 set -l commands fingerprint verify check duplicates changes diff table explain

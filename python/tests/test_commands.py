@@ -21,7 +21,7 @@ from tigercanon.storage import line_at
 from tigercanon.version import VERSION
 
 COMMANDS = ["fingerprint", "verify", "check", "duplicates", "changes", "diff", "table", "explain"]
-PAGES = script("release/tool-pages")
+PAGES = script("tools/tool-pages")
 RUN = ROOT / "vectors/run"
 OLDER = "lines of type {} have {} bytes: an edition before 2002, which this program doesn't read"
 CONTROL_Z = "the file ends with a Control-Z, the end mark of an old system: remove it"
@@ -39,9 +39,9 @@ def test_help_and_version(room: Path, command: str) -> None:
 
 
 def test_pages() -> None:
-    """The files in the repository are those that release/tool-pages writes."""
+    """The files in the repository are those that tools/tool-pages writes."""
     for place, text in PAGES.pages().items():
-        assert (ROOT / place).read_text("utf-8") == text, f"{place}: run release/tool-pages"
+        assert (ROOT / place).read_text("utf-8") == text, f"{place}: run tools/tool-pages"
 
 
 def test_text_of_a_man_page() -> None:
