@@ -19,6 +19,29 @@ stop() {
     exit "${status_of_stop-1}"
 }
 
+# Prints the comment at the beginning of the script, and ends the script.
+stop_with_usage() {
+    sed -n '2,/^set /s/^#\( \|$\)//p' -- "$(readlink -f -- "$0")" >&2
+    exit 2
+}
+
+# Takes the arguments [--prove | --unproved] [FOLDER] of a script that makes out/$1: sets $has_to_prove, $unproved and $folder.
+take_arguments() {
+    folder="$root/out/$1"
+    has_to_prove=""
+    unproved=""
+    shift
+    case "${1-}" in
+        --prove) has_to_prove=yes && shift ;;
+        --unproved) unproved=-unproved && shift ;;
+    esac
+    case "$# ${1-}" in
+        "0 ") folder="$folder$unproved" ;;
+        "1 "[!-]*) folder="$(readlink -m -- "$1")" ;;
+        *) stop_with_usage ;;
+    esac
+}
+
 # Prints a hash that changes with each source that is edited, added, renamed or removed, and that is the same in each copy of the tree.
 # Links are followed. What was proved of code and definitions stays proved, so proofs don't count.
 hash_of_sources() (
