@@ -31,24 +31,25 @@ class Finder:
         self.skipped: dict[str, str] = {}  # the paths of other files, by the names that they have once
         self.same: list[tuple[str, str]] = []
         self.walked: set[str] = set()  # the folders of sources that have counties
+        self.passed: set[str] = set()  # links to folders that were walked under another name
 
     def all(self, sources: Iterable[str]) -> list[County]:
         """Returns the counties of all sources. One may be there several times."""
         return [county for source in sources for county in self.of_source(source)]
 
     def once(self, counties: Iterable[County], is_known: Callable[[County], bool] = lambda _: False) -> tuple[list[County], int]:
-        """Returns the counties that aren't known, each once; and how many are known."""
+        """Returns the counties that aren't known, each once; and how many are known. Of several names of the same files those in the
+        manifest count, or else the first."""
         counted: dict[str, County] = {}
         stems: dict[tuple[str, ...], str] = {}
         known: set[str] = set()
-        for county in counties:
-            if is_known(county):
-                known.add(county.stem)
-                continue
+        for county in sorted(counties, key=lambda county: folded(county.stem) not in self.listed):
             # The names that its files have whichever links lead to them.
             places = tuple(real(file.place) for file in county.places)
             first = stems.setdefault(places, county.stem) if places else county.stem
-            if first != county.stem and county.stem not in counted:
+            if is_known(county):
+                known.add(county.stem)
+            elif first != county.stem and county.stem not in counted and folded(county.stem) not in self.listed:
                 self.same.append((county.stem, first))
             else:
                 counted.setdefault(county.stem, county)
@@ -78,8 +79,16 @@ class Finder:
             yield County(source, trouble=f"can't be read: {reason(error)}")
 
     def below(self, folder: str, seen: set[str], walked: set[str]) -> Iterator[County]:
-        """Yields the counties in a folder and in all folders below it. Notes the folders that it has listed."""
+        """Yields the counties in a folder and in all folders below it. Notes the folders that it has listed. Folders behind links come
+        last, so that each is walked under its own name if that is below the folder too."""
+        waiting = [folder]
+        while waiting:
+            yield from self.below_itself(waiting.pop(0), seen, walked, waiting)
+
+    def below_itself(self, folder: str, seen: set[str], walked: set[str], links: list[str]) -> Iterator[County]:
+        """Yields the counties in a folder and below it. Adds links to folders to those that are still to be walked."""
         if real(folder or ".") in seen:
+            self.passed.add(folder)
             return
         seen.add(real(folder or "."))
         try:
@@ -93,9 +102,11 @@ class Finder:
         for entry in listed:
             if not entry.is_folder and kind_of(entry.name) not in KINDS:
                 yield from self.whole(folder, entry)
-        for entry in listed:
-            if entry.is_folder:
-                yield from self.below(joined(folder, entry.name), seen, walked)
+        for path in [joined(folder, entry.name) for entry in listed if entry.is_folder]:
+            if os.path.islink(path):
+                links.append(path)
+            else:
+                yield from self.below_itself(path, seen, walked, links)
 
     def entries_in(self, folder: str) -> list[Entry]:
         """Returns the entries of a folder without those that are left out."""
@@ -152,11 +163,12 @@ class Finder:
 
     def has_walked(self, stem: str) -> bool:
         """Returns whether a county of this name would have been found: its folder was listed, or isn't there any more below one
-        that was."""
+        that was; or it was listed under another name."""
         folder = parted(stem)[0]
         while folder not in self.walked and folder and not (is_url(folder) or os.path.lexists(folder)):
             folder = parted(folder)[0]
-        return folder in self.walked and not self.is_excluded(stem)
+        is_behind_link = any(stem.startswith(f"{link}/") for link in self.passed)
+        return (folder in self.walked or is_behind_link) and not self.is_excluded(stem)
 
     def is_named(self, path: str) -> bool:
         """Returns whether a path with the letters of a glob is the name of something that is there."""

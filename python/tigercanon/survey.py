@@ -80,10 +80,12 @@ class Survey:
         self.marked = (*self.judging.means.mark, *self.flags)
         with written(outputs[0], self.marked, inputs, self.judging.resources) if outputs else nullcontext() as self.manifest:
             self.listed = {folded(tidy(line.stem)): line for line in self.manifest.lines} if self.manifest else {}
+            unseen = self.lines_unseen(every)
+            self.gone = [line for line in unseen if self.is_gone(line)] if self.choice.update else []
+            every += [self.finder.of_name(tidy(line.stem)) for line in unseen if not self.is_gone(line)]
             self.before, self.doubles = {*self.listed}, doubles_among(every)
             if self.manifest:
                 self.sources = {county.stem: county.sources for county in every if not county.trouble}
-            self.gone = self.lines_gone(every) if self.choice.update else []
             self.counties, _ = self.finder.once({county.stem: county for county in every}.values(), self.is_known)
             if self.manifest:
                 self.counties.sort(key=lambda county: -county.size)  # the largest first: the end isn't a wait for one of them
@@ -174,14 +176,13 @@ class Survey:
         note = f"the same map as {first.stem}, which is counted once"
         return Judged(county.stem, answer.text, None, (note, *answer.notes), is_double=True)
 
-    def lines_gone(self, every: Sequence[County]) -> list[Line]:
-        """Returns the lines below the sources whose counties aren't there any more, or are there under another name. Below a
-        folder that can't be read, and in a source without a county, none is."""
+    def lines_unseen(self, every: Sequence[County]) -> list[Line]:
+        """Returns the lines below the sources whose counties weren't found: they aren't there any more, or are there under another
+        name. Below a folder that can't be read, and in a source without a county, there is none."""
         there = {folded(county.stem) for county in every if not county.is_absent}
         named = {folded(stem_of(county.stem)) for county in every if county.is_absent}
         lines = [line for key, line in self.listed.items() if key not in there]
-        lines = [line for line in lines if folded(tidy(line.stem)) in named or self.finder.has_walked(tidy(line.stem))]
-        return [line for line in lines if self.is_gone(line)]
+        return [line for line in lines if folded(tidy(line.stem)) in named or self.finder.has_walked(tidy(line.stem))]
 
     def is_gone(self, line: Line) -> bool:
         county = self.finder.of_name(tidy(line.stem))
