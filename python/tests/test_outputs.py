@@ -38,6 +38,14 @@ def test_a_manifest_that_takes_no_more(four: Four, count: int, added: int) -> No
     assert count_of_lines("m") == count + 1 + 2 * len(four)
 
 
+def test_no_room_for_a_lock(four: Four) -> None:
+    """The lock isn't left behind, and what is reported names it."""
+    before = sorted(os.listdir("."))
+    ended = call("fingerprint", "-o", "m", "in", preexec_fn=limit_files(0))
+    assert ended == (2, "", f"{NAME}m.lock: can't be written: File too large\n")
+    assert sorted(os.listdir(".")) == before
+
+
 def test_no_room_for_a_zip(four: Four) -> None:
     """It is reported, and the others are done."""
     put("in/b.RT1", b"x" * 3000)

@@ -15,7 +15,7 @@ from .faults import Fault
 from .inputs import Inputs
 from .judge import LARGEST, SECONDS, Answer, County, Kind, Order
 from .layout import folded
-from .manifests import TELLING, UNPROVED, Line, agreed, loaded, respect_lock, without_mark
+from .manifests import TELLING, UNPROVED, Line, agreed, loaded, without_mark
 from .program import find_program, is_unproved
 from .progress import Tally
 from .resources import Resources, remove_stale_folders
@@ -152,7 +152,6 @@ class Verification:
         quick: bool = False,
     ) -> None:
         see_names([manifest, *sources])
-        respect_lock(manifest)
         self.judging, self.manifest, (own_flags, self.lines) = judging, manifest, loaded(manifest)
         self.flags = without_mark(own_flags)
         if flags:

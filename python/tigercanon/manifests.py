@@ -164,7 +164,8 @@ def is_other_file(stem: str) -> bool:
 
 def loaded(name: str) -> tuple[Flags | None, list[Line]]:
     """Returns the flags and the counties of a whole manifest, with at least one county. Those that were refused are among them.
-    Raises Failure."""
+    Raises Failure, also if a run writes to it."""
+    respect_lock(name)
     flags, lines, rest = parsed(name)
     if rest:
         why = "let the run that writes it finish first, or add the line ending if the line is whole"
@@ -276,10 +277,19 @@ def take_lock(name: str) -> int:
             lock(name, handle, fcntl.LOCK_EX, PATIENCE_FOR_LOCK)
             with suppress(FileNotFoundError):  # another run may have removed it meanwhile
                 if os.path.samestat(os.stat(lock_of(name)), os.fstat(handle)):
-                    os.ftruncate(handle, 0)
-                    os.pwrite(handle, f"process {os.getpid()} on {socket.gethostname()}\n".encode(), 0)
+                    sign_lock(name, handle)
                     stack.pop_all()
                     return handle
+
+
+def sign_lock(name: str, handle: int) -> None:
+    """Writes the line that names this process. A lock that can't have it, as on a full disk, is removed."""
+    try:
+        os.ftruncate(handle, 0)
+        os.pwrite(handle, f"process {os.getpid()} on {socket.gethostname()}\n".encode(), 0)
+    except OSError as error:
+        os.unlink(lock_of(name))
+        raise Failure(f"{name}.lock: can't be written: {reason(error)}") from None
 
 
 def respect_lock(name: str) -> None:
