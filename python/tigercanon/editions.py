@@ -103,6 +103,8 @@ class Group(NamedTuple):
 def editions_of(names: Sequence[str], folders: Sequence[str] = ()) -> list[Edition]:
     """Returns the editions in these manifests: one in each, or all of them in one, below a folder each. Raises Failure if there
     is only one, or if their fingerprints can't be compared."""
+    if folders and len(names) > 1:
+        raise Failure(f"--edition needs one manifest with all editions, and there are {len(names)}")
     manifests = [(name, *loaded(name)) for name in names]
     for name, flags, _ in manifests[1:]:
         if without_mark(flags) != without_mark(manifests[0][1]):
@@ -123,8 +125,10 @@ def parted(name: str, lines: list[Line], folders: Sequence[str]) -> list[Edition
         parts = [line.stem.split("/")[:-1] for line in lines]
         depth = len(os.path.commonprefix(parts))
         roots = sorted({"/".join(part[: depth + 1]) for part in parts})
-        if len(roots) < 2 or any(len(part) <= depth for part in parts):
-            raise Failure(f"{name}: has one edition: name another manifest, or the folder of each edition by --edition")
+        if any(len(part) <= depth for part in parts):
+            roots = []
+    if len(roots) < 2:
+        raise Failure(f"{name}: has one edition: name another manifest, or the folder of each edition by --edition")
     editions = [Edition(root, by_key(name, [line for line in lines if line.stem.startswith(f"{root}/")])) for root in roots]
     for edition in editions:
         if not edition.counties:

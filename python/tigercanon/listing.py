@@ -38,11 +38,10 @@ def list_changes(options: argparse.Namespace, console: Console, resources: Resou
         raise Failure("--root, --program and --jobs need --pages or --stat")
     if options.force and not options.pages:
         raise Failure("--force needs --pages")
+    shown = [each for each in histories if not (options.quiet and each.is_same)]
     if options.stat:
         list_counts(histories, options, console, resources)
-        return int(any(not each.is_same for each in histories))
-    shown = [each for each in histories if not (options.quiet and each.is_same)]
-    if options.json:
+    elif options.json:
         print_lines(map(as_json, map(row_of, shown)))
     else:
         print_lines(of_two(shown) if histories and len(histories[0].editions) == 2 else table(shown))
@@ -79,7 +78,6 @@ def list_counts(histories: Sequence[History], options: argparse.Namespace, conso
         print_lines(as_json({**key, "counts": each.counts or None, "reason": each.why or None}) for key, each in zip(keys, counts))
     else:
         print_lines(table_of_counts(counts))
-    report_counts(histories, console)
 
 
 def table_of_counts(counts: Sequence[Counts]) -> Iterator[str]:
