@@ -7,7 +7,7 @@ import os
 import re
 from dataclasses import dataclass
 from pathlib import Path
-from typing import Optional, Union
+from typing import Optional, Sequence, Union
 
 from .diff.sets import found, opened
 from .errors import Failure, printable
@@ -20,7 +20,8 @@ from .progress import Console, print_lines
 from .resources import Resources
 
 SECTION = re.compile(r"(?m)^### `refused (\d+) (\w+)([^`]*)`$")
-REFUSAL = re.compile(r"(?:refused )?(\d+)?\s*([A-Z]\w+)?((?: [0-9A-Za-z]+)*?)(?: in set ([12]))?")
+PLACE = "[0-9]+|[0-9A-Z]|[0-9A-Fa-f]{10}"  # a number, a record type or a CENID
+REFUSAL = re.compile(rf"(?:refused )?(\d+)?\s*([A-Z]\w+)?((?: (?:{PLACE}))*?)(?: in set ([12]))?")
 FIELDS = ("TLID", "FEAT", "LAND", "CENID", "POLYID")
 HERE = Path(__file__).resolve().parent
 
@@ -42,17 +43,22 @@ def sections(text: str) -> dict[int, str]:
 
 def explained(line: str, text: str) -> list[str]:
     """Returns what the page has about a refusal, which may come after names and before notes. Raises Failure if the line has none."""
-    known = sections(text)
-    words = REFUSAL.fullmatch(bare(line))
-    numbers = {name: int(number) for number, name, _ in SECTION.findall(text)}
-    number = None if words is None else int(words[1]) if words[1] else numbers.get(words[2] or "")
-    if words is None or number not in known:
+    number = number_in(line, text)
+    if number is None:
         raise Failure(f"{line!r} isn't a refusal: give the program's line, its number or its name")
-    heading, *body = known[number].rstrip("\n").splitlines()
+    heading, *body = sections(text)[number].rstrip("\n").splitlines()
     # Plain text instead of Markdown: links and emphasis lose their marks.
     plain = re.sub(r"\[([^\]]+)\]\([^)]*\)", r"\1", "\n".join(body)).replace("**", "")
-    refusal = heading[len("### `") : -1]
-    return [refusal, *places(refusal.split()[3:], words[3].split()), *plain.splitlines()]
+    refusal, given = heading[len("### `") : -1], REFUSAL.fullmatch(bare(line))
+    return [refusal, *places(refusal.split()[3:], given[3].split() if given else []), *plain.splitlines()]
+
+
+def number_in(line: str, text: str) -> int | None:
+    """Returns the number of the refusal in a line, if the page has a refusal of the line's number and name."""
+    words = REFUSAL.fullmatch(bare(line))
+    names = {int(number): name for number, name, _ in SECTION.findall(text)}
+    fitting = [number for number in names if words and words[1] in (None, str(number)) and words[2] in (None, names[number])]
+    return fitting[0] if len(fitting) == 1 else None
 
 
 def places(meanings: list[str], given: list[str]) -> list[str]:
@@ -105,7 +111,7 @@ def run(options: argparse.Namespace, console: Console, resources: Resources) -> 
     """Explains a refusal, and shows its place if the last word is the name of a county; or the refusal that a county gets."""
     resources.inputs([str(refusals_page())])
     *line, name = options.line
-    county = found_there(name)
+    county = county_named(options.line)
     resources.inputs(file.place for file in (county.places if county else ()))
     refusal = line if county else options.line
     answer = explanation(" ".join(refusal), name if county else None, options.program, resources)
@@ -117,18 +123,21 @@ def run(options: argparse.Namespace, console: Console, resources: Resources) -> 
     return 0
 
 
-def found_there(name: str) -> County | None:
-    """Returns the county of this name, if there is one, and nothing for a refusal. Raises Failure for the name of another file."""
-    if not ("/" in name or os.path.lexists(name) or kind_of(name)):
+def county_named(words: Sequence[str]) -> County | None:
+    """Returns the county that the last word names, unless it belongs to a refusal. Raises Failure for another file, and if there is no
+    county of this name after a refusal."""
+    *line, name = words
+    is_path, text = "/" in name or os.path.lexists(name) or bool(kind_of(name)), page()
+    if not is_path and number_in(" ".join(words), text):
         return None
     try:
         return found(name, False)
     except Failure:
-        if REFUSAL.fullmatch(bare(name)):
+        if number_in(name, text) or not (is_path or number_in(" ".join(line), text)):
             return None
         raise
 
 
 def bare(line: str) -> str:
     """Returns a refusal without names before it and notes after it."""
-    return re.sub(r"(?s).*\b(?=refused \d)|;.*", "", line).strip()
+    return re.sub(r"(?s).*\b(?=refused \d)|;.*", "", line).strip().removesuffix(")")
