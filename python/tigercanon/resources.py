@@ -27,6 +27,7 @@ IN_MEMORY = "/dev/shm"  # the folder in memory, if the variable doesn't name ano
 SPARE = 64 << 20  # folders are made in memory only if this many bytes stay free there
 STALE = 60.0  # a folder that nobody holds is removed by a later run once it is this many seconds old
 PATIENCE = 0.3  # a thread that is printing or writing keeps the end of the run waiting for at most this many seconds
+MOST_SECONDS = 2_000_000  # 23 days: the system counts a wait in milliseconds, with 31 bits
 T = TypeVar("T")
 
 
@@ -93,12 +94,12 @@ class Resources:
         self, words: Sequence[str], memory: int | None = None, seconds: int | None = None
     ) -> subprocess.CompletedProcess[bytes]:
         """Runs the program in a separate session, so that all of it can be ended. memory limits its address space. Raises TimeoutExpired
-        if it takes longer than these seconds."""
+        if it takes longer than these seconds, unless they are more than the system can count."""
         if memory is not None:
             words = ["/bin/sh", "-c", f'ulimit -v {memory // 1024} && exec "$@"', "sh", *words]
         with self.part() as part:
             child = part.keep(started(words))
-            out, err = child.communicate(timeout=seconds)
+            out, err = child.communicate(timeout=None if seconds is None or seconds > MOST_SECONDS else seconds)
         return subprocess.CompletedProcess(words, child.returncode, out, err)
 
     def place(self, size: int) -> str:
