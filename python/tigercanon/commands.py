@@ -48,6 +48,13 @@ def size_of(word: str) -> int:
     return int(size[1]) * SIZES[size[2]]
 
 
+def name_of(word: str) -> str:
+    """Returns a name that isn't empty, as one from a variable of the shell that isn't set would be."""
+    if not word:
+        raise argparse.ArgumentTypeError("the name is empty")
+    return word
+
+
 def count_of(word: str) -> int:
     if not re.fullmatch(r"[1-9][0-9]*", word):
         raise argparse.ArgumentTypeError(f"{word!r} isn't a number from 1")
@@ -95,7 +102,7 @@ def add_command(commands: Any, name: str, about: str, run: Run) -> argparse.Argu
 
 WHERE = "default: $TIGERCANON, else the program of this tree or package, else tigercanon on the PATH"
 SHARED: dict[str, dict[str, Any]] = {
-    "--program": {"metavar": "FILE", "help": f"the program tigercanon to run ({WHERE})"},
+    "--program": {"metavar": "FILE", "type": name_of, "help": f"the program tigercanon to run ({WHERE})"},
     "--no-sources": {"action": "store_true", "help": "leave out the fields that record where data came from"},
     "--no-reserved": {"action": "store_true", "help": "leave out the reserved fields"},
     "--force": {"action": "store_true", "help": "replace a county's file, a manifest, another page or a link, too"},
@@ -114,7 +121,7 @@ def add_judging_options(command: argparse.ArgumentParser, with_flags: bool = Tru
     engine = command.add_mutually_exclusive_group()
     engine.add_argument("--jobs", metavar="N", type=count_of, help="process N counties at a time (default: one per processor)")
     about = "use the workers of the Dask scheduler at this address, or of the scheduler that has written this file"
-    engine.add_argument("--scheduler", metavar="ADDRESS", help=about)
+    engine.add_argument("--scheduler", metavar="ADDRESS", type=name_of, help=about)
     about = "limit the memory of each process, for example to 4GB; a county that doesn't fit is tried again, alone"
     command.add_argument("--memory", metavar="SIZE", type=size_of, help=about)
     about = f"fail counties that unpack to more than SIZE (default: {LARGEST})"
@@ -131,7 +138,7 @@ def add_judging_commands(commands: Any) -> None:
     about = "print or write a manifest: the fingerprint and the name of each county"
     command = add_command(commands, "fingerprint", about, runs.fingerprint)
     about = "write the manifest to this file; counties that it already lists are skipped, refused ones too"
-    command.add_argument("-o", "--output", metavar="MANIFEST", help=about)
+    command.add_argument("-o", "--output", metavar="MANIFEST", type=name_of, help=about)
     about = "with -o: check again the counties whose files have another size or time than in the manifest"
     command.add_argument("--update", action="store_true", help=about)
     command.add_argument("--again", action="store_true", help="with -o: check again all counties that were refused")
@@ -147,7 +154,7 @@ def add_judging_commands(commands: Any) -> None:
     command.add_argument("--quiet", action="store_true", help="don't print counties that are OK")
     about = "check only counties whose files have another size or time than in the manifest"
     command.add_argument("--quick", action="store_true", help=about)
-    command.add_argument("--root", metavar="FOLDER", help="look for the names in the manifest below this folder")
+    command.add_argument("--root", metavar="FOLDER", type=name_of, help="look for the names in the manifest below this folder")
     add_judging_options(command)
     add_shared(command, "manifest")
     command.add_argument(
@@ -175,15 +182,14 @@ def add_other_commands(commands: Any) -> None:
     command.description = f"{command.description} Counties are matched by their names without folder, case and ending."
     command.add_argument("--quiet", action="store_true", help="don't print counties that are the same")
     about = "take the counties below this folder as an edition, if there is one manifest; give it for each edition, in order"
-    command.add_argument("--edition", metavar="FOLDER", action="append", default=[], help=about)
+    command.add_argument("--edition", metavar="FOLDER", type=name_of, action="append", default=[], help=about)
     add_shared(command, "--json")
     about = "print how many chains, landmarks, polygons and names are only in the first map, only in the second, or changed"
     command.add_argument("--stat", action="store_true", help=about)
     about = "write a page with a map for each county that changed, and an index; pages that are there already stay"
-    command.add_argument("--pages", metavar="FOLDER", help=about)
-    command.add_argument(
-        "--root", metavar="FOLDER", help="with --pages or --stat: look for the names in the manifests below this folder"
-    )
+    command.add_argument("--pages", metavar="FOLDER", type=name_of, help=about)
+    about = "with --pages or --stat: look for the names in the manifests below this folder"
+    command.add_argument("--root", metavar="FOLDER", type=name_of, help=about)
     command.add_argument(
         "--jobs",
         metavar="N",
@@ -197,13 +203,13 @@ def add_other_commands(commands: Any) -> None:
 
     command = add_command(commands, "diff", "show where two maps differ, as text, a page or GeoJSON", differences.run)
     add_shared(command, "--program", "--no-sources", "--no-reserved", "--force")
-    differences.add_arguments(command)
+    differences.add_arguments(command, name_of)
 
     command = add_command(commands, "table", "write the chains of a county as a table, in CSV or GeoJSON", tables.run)
     command.description = f"{command.description} CSV has the points as WKT. DuckDB, pandas and GDAL read both."
     add_shared(command, "--program")
     command.add_argument("--geojson", action="store_true", help="write GeoJSON")
-    command.add_argument("-o", "--output", metavar="FILE", help="write to this file and not to standard output")
+    command.add_argument("-o", "--output", metavar="FILE", type=name_of, help="write to this file and not to standard output")
     add_shared(command, "--force")
     command.add_argument("county", metavar="COUNTY", help="a zip, a file with all records, or the stem or a file of the nine")
 

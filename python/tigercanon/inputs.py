@@ -46,10 +46,12 @@ class Inputs:
             raise Failure(f"{shown}: can't be written: this command reads it{other}")
 
     def spare_all(self, outputs: Iterable[str]) -> None:
-        """Raises Failure if a command can't write to all names: one leads to a file that it reads, or is the name of a county's
-        file, as when the output's own name was forgotten."""
+        """Raises Failure if a command can't write to all names: one leads to a file that it reads, names a folder, or is the name of a
+        county's file, as when the output's own name was forgotten."""
         for name in outputs:
             self.spare(name, name)
+            if name.endswith("/"):
+                raise Failure(f"{name}: can't be written: it is the name of a folder")
             if kind_of(name) or kind_of(os.path.realpath(name)):
                 raise Failure(f"{name}: can't be written: it has the name of a county's file")
 

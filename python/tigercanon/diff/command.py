@@ -7,6 +7,7 @@ import gc
 import json
 import os
 import threading
+from typing import Callable
 
 from ..errors import Failure
 from ..manifests import flags_of
@@ -54,7 +55,7 @@ class Steps(threading.Timer):
             self.console.report(step)
 
 
-def add_arguments(parser: argparse.ArgumentParser) -> None:
+def add_arguments(parser: argparse.ArgumentParser, name_of: Callable[[str], str]) -> None:
     parser.formatter_class = argparse.RawDescriptionHelpFormatter
     parser.description = ABOUT
     add = parser.add_argument
@@ -64,8 +65,9 @@ def add_arguments(parser: argparse.ArgumentParser) -> None:
     add("--summary", action="store_true", help="print only how many of each kind differ")
     add("--json", action="store_true", help="print the differences as JSON, or with --summary how many there are")
     about = "write tigercanon.html with both counties in it, to be opened in a browser, and print only what --summary or --json asks for"
-    add("--page", metavar="FILE", help=f"{about}; - is standard output, without any report")
-    add("--geojson", metavar="FILE", help="write the differences as GeoJSON, for any GIS; - is standard output, without the report")
+    add("--page", metavar="FILE", type=name_of, help=f"{about}; - is standard output, without any report")
+    about = "write the differences as GeoJSON, for any GIS; - is standard output, without the report"
+    add("--geojson", metavar="FILE", type=name_of, help=about)
     add("--all", action="store_true", help="with --geojson: also write what is the same in both maps")
 
 
