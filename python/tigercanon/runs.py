@@ -128,7 +128,12 @@ def verify(options: argparse.Namespace, console: Console, resources: Resources) 
 def verdict_of(each: Verified) -> str:
     """Returns the line of a county, with the reason if the verdict alone doesn't tell it."""
     is_clear = each.verdict in ("OK", "MISSING", "NEW", "ACCEPTED")
-    return f"{each.county}: {each.verdict}{'' if is_clear or not each.remarks else f' ({each.remarks})'}"
+    return f"{on_one_line(each.county)}: {each.verdict}{'' if is_clear or not each.remarks else f' ({each.remarks})'}"
+
+
+def on_one_line(name: str) -> str:
+    """Returns a name as it is on standard output, where each county has one line."""
+    return name.replace("\n", "\\n")
 
 
 def check(options: argparse.Namespace, console: Console, resources: Resources) -> int:
@@ -154,7 +159,7 @@ def check(options: argparse.Namespace, console: Console, resources: Resources) -
 def shown(each: Checked) -> list[str]:
     """Returns what is wrong with a county, and where."""
     places = [f"    {line}" for fault in each.faults for line in fault.shown()]
-    return [f"{each.county}: {each.reason or 'accepted'}", *places]
+    return [f"{on_one_line(each.county)}: {each.reason or 'accepted'}", *places]
 
 
 def row_of(each: Checked) -> dict[str, Any]:
