@@ -147,7 +147,7 @@ class Source:
         elif lines:
             line = printable(lines[-1])
         elif ended.returncode == 0:
-            line = "the program printed something else than a fingerprint"
+            line = "the program printed something that tigercanon doesn't print"
         else:
             line = f"the program ended with status {ended.returncode}"
         return [line, *filter(None, [hint(line, self.files)])]
