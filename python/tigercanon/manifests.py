@@ -121,6 +121,8 @@ def parsed(name: str, is_written: bool = False) -> tuple[Flags | None, list[Line
     sources: dict[str, str] = {}
     for number, text in enumerate(whole[flags is not None :], 1 + (flags is not None)):
         line = parsed_line(text)
+        if text in HEADINGS:
+            raise Failure(f"{name}: line {number} begins another manifest: take it out if both have the same flags")
         if line is None and text.startswith(b"#"):
             raise Failure(
                 f"{name}: line {number} is a comment that fingerprint doesn't write and would lose: move it to another file"
