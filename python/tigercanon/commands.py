@@ -105,9 +105,9 @@ SHARED: dict[str, dict[str, Any]] = {
     "--program": {"metavar": "FILE", "type": name_of, "help": f"the program tigercanon to run ({WHERE})"},
     "--no-sources": {"action": "store_true", "help": "leave out the fields that record where data came from"},
     "--no-reserved": {"action": "store_true", "help": "leave out the reserved fields"},
-    "--force": {"action": "store_true", "help": "replace a county's file, a manifest, another page or a link, too"},
+    "--force": {"action": "store_true", "help": "also replace a county's file, a manifest, another page or a link"},
     "--json": {"action": "store_true", "help": "print JSON, one value on each line"},
-    "manifest": {"metavar": "MANIFEST", "help": "a manifest that the command fingerprint has written; - is standard input"},
+    "manifest": {"metavar": "MANIFEST", "help": "a manifest written by the command fingerprint; - is standard input"},
 }
 
 
@@ -120,7 +120,7 @@ def add_judging_options(command: argparse.ArgumentParser, with_flags: bool = Tru
     add_shared(command, "--program")
     engine = command.add_mutually_exclusive_group()
     engine.add_argument("--jobs", metavar="N", type=count_of, help="process N counties at a time (default: one per processor)")
-    about = "use the workers of the Dask scheduler at this address, or of the scheduler that has written this file"
+    about = "use the workers of the Dask scheduler at this address, or of the one that wrote this scheduler file"
     engine.add_argument("--scheduler", metavar="ADDRESS", type=name_of, help=about)
     about = "limit the memory of each process, for example to 4GB; a county that doesn't fit is tried again, alone"
     command.add_argument("--memory", metavar="SIZE", type=size_of, help=about)
@@ -128,21 +128,21 @@ def add_judging_options(command: argparse.ArgumentParser, with_flags: bool = Tru
     command.add_argument("--largest", metavar="SIZE", type=size_of, default=size_of(LARGEST), help=about)
     about = f"fail counties that take longer than N seconds (default: {SECONDS})"
     command.add_argument("--seconds", metavar="N", type=count_of, default=SECONDS, help=about)
-    about = "leave out files and folders whose name or path in a SOURCE matches this glob; it can be given several times"
+    about = "leave out files and folders whose name or path in a SOURCE matches this glob; can be given several times"
     command.add_argument("--exclude", metavar="GLOB", action="append", default=[], help=about)
-    command.add_argument("--verbose", action="store_true", help="name each file that is skipped, since it isn't a county's")
+    command.add_argument("--verbose", action="store_true", help="name each file that is skipped because it belongs to no county")
     add_shared(command, *(["--no-sources", "--no-reserved"] if with_flags else []), "--json")
 
 
 def add_judging_commands(commands: Any) -> None:
     about = "print or write a manifest: the fingerprint and the name of each county"
     command = add_command(commands, "fingerprint", about, runs.fingerprint)
-    about = "write the manifest to this file; counties that it already lists are skipped, refused ones too"
+    about = "write the manifest to this file; counties that it already lists are skipped, including refused ones"
     command.add_argument("-o", "--output", metavar="MANIFEST", type=name_of, help=about)
-    about = "with -o: check again the counties whose files have another size or time than in the manifest"
+    about = "with -o: check a county again if the size or time of a file differs from the manifest"
     command.add_argument("--update", action="store_true", help=about)
     command.add_argument("--again", action="store_true", help="with -o: check again all counties that were refused")
-    about = "with --update: take out of the manifest the counties below a SOURCE that are gone"
+    about = "with --update: remove counties below a SOURCE from the manifest if they are gone"
     command.add_argument("--prune", action="store_true", help=about)
     about = "reject a county if a file is missing, or if the file of type 1, 2 or I is empty"
     command.add_argument("--strict", action="store_true", help=about)
@@ -152,7 +152,7 @@ def add_judging_commands(commands: Any) -> None:
     about = "check counties against their fingerprints in a manifest: OK, FAILED or MISSING for each"
     command = add_command(commands, "verify", about, runs.verify)
     command.add_argument("--quiet", action="store_true", help="don't print counties that are OK")
-    about = "check only counties whose files have another size or time than in the manifest"
+    about = "check only counties with a file whose size or time differs from the manifest"
     command.add_argument("--quick", action="store_true", help=about)
     command.add_argument("--root", metavar="FOLDER", type=name_of, help="look for the names in the manifest below this folder")
     add_judging_options(command)
@@ -181,12 +181,12 @@ def add_other_commands(commands: Any) -> None:
     command = add_command(commands, "changes", about, listing.list_changes)
     command.description = f"{command.description} Counties are matched by their names without folder, case and ending."
     command.add_argument("--quiet", action="store_true", help="don't print counties that are the same")
-    about = "take the counties below this folder as an edition, if there is one manifest; give it for each edition, in order"
+    about = "with one manifest: the folder of an edition; give one for each edition, in order"
     command.add_argument("--edition", metavar="FOLDER", type=name_of, action="append", default=[], help=about)
     add_shared(command, "--json")
     about = "print how many chains, landmarks, polygons and names are only in the first map, only in the second, or changed"
     command.add_argument("--stat", action="store_true", help=about)
-    about = "write a page with a map for each county that changed, and an index; pages that are there already stay"
+    about = "write a page with a map for each county that changed, and an index; existing pages stay"
     command.add_argument("--pages", metavar="FOLDER", type=name_of, help=about)
     about = "with --pages or --stat: look for the names in the manifests below this folder"
     command.add_argument("--root", metavar="FOLDER", type=name_of, help=about)
@@ -206,17 +206,17 @@ def add_other_commands(commands: Any) -> None:
     differences.add_arguments(command, name_of)
 
     command = add_command(commands, "table", "write the chains of a county as a table, in CSV or GeoJSON", tables.run)
-    command.description = f"{command.description} CSV has the points as WKT. DuckDB, pandas and GDAL read both."
+    command.description = f"{command.description} In CSV the points are WKT. DuckDB, pandas and GDAL read both."
     add_shared(command, "--program")
     command.add_argument("--geojson", action="store_true", help="write GeoJSON")
-    command.add_argument("-o", "--output", metavar="FILE", type=name_of, help="write to this file and not to standard output")
+    command.add_argument("-o", "--output", metavar="FILE", type=name_of, help="write to this file instead of standard output")
     add_shared(command, "--force")
-    command.add_argument("county", metavar="COUNTY", help="a zip, a file with all records, or the stem or a file of the nine")
+    command.add_argument("county", metavar="COUNTY", help="a zip, a file with all records, or the stem or one of the nine files")
 
     about = "explain a refusal: its meaning, an example, and what to do; with a county, show the place too"
     command = add_command(commands, "explain", about, explanations.run)
     add_shared(command, "--program")
-    about = "the line that the program printed, or the refusal's number or name; a COUNTY may follow it, or be given instead"
+    about = "the line that the program printed, or the refusal's number or name; add a COUNTY, or give only a COUNTY"
     command.add_argument("line", metavar="LINE", nargs="+", help=about)
 
 
