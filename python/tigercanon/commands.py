@@ -62,13 +62,30 @@ def count_of(word: str) -> int:
 
 
 class Parser(argparse.ArgumentParser):
-    """A parser whose errors take one line, with the name of the command."""
+    """A parser whose errors take one line, with the name of the command. The options of a command may also come between its names."""
 
     def parse_known_args(self, args: Any = None, namespace: Any = None) -> Any:
+        if args is not None and self._subparsers is None:
+            args = self.with_options_first(args)
         options, others = super().parse_known_args(args, namespace)
         if others:
             self.error(f"unrecognized arguments: {' '.join(others)}")
         return options, others
+
+    def with_options_first(self, words: Sequence[str]) -> list[str]:
+        """Returns the words of a command with its options first: argparse doesn't take names from two places."""
+        options, names, left = list[str](), list[str](), list(words)
+        while left:
+            word = left.pop(0)
+            if word == "--":
+                names += left
+                break
+            is_option = word.startswith("-") and word != "-"
+            (options if is_option else names).append(word)
+            action = self._option_string_actions.get(word)
+            if action and action.nargs is None and left:  # it has a value
+                options.append(left.pop(0))
+        return [*options, *(["--", *names] if names else [])]
 
     def _print_message(self, message: str, file: Any = None) -> None:
         """Prints help as the commands print: with an error if it can't be written."""
