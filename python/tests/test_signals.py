@@ -169,6 +169,24 @@ def test_a_comparison(room: Path, fake: Path, number: signal.Signals) -> None:
     assert (ended.out, sorted(os.listdir("."))) == ("", before)
 
 
+@pytest.mark.parametrize("option", ["--pages=pages", "--stat"])
+def test_comparisons_of_changes(room: Path, fake: Path, option: str) -> None:
+    """They end with the command, which leaves no part of a page, no folder and no program."""
+    put("waits")
+    for edition, text in (("2004", b"waits\n"), ("2006", b"waits too\n")):
+        for stem in (f"{edition}/TGR1", f"{edition}/TGR3"):
+            complete(stem, text)
+            zip_up(stem)
+        put(edition + ".manifest", manifest({f"{edition}/TGR1": text, f"{edition}/TGR3": text}).encode())
+    run = begin("changes", "--jobs", "2", option, "2004.manifest", "2006.manifest")
+    assert await_that(lambda: len(left_behind()) == 4 and count_of_lines("calls") == 4)
+    run.send_signal(signal.SIGINT)
+    assert run.wait(5) == -signal.SIGINT
+    assert end(run).lines[-1] == f"stopped by INT: 0 of 2 {'pages' if 'pages' in option else 'counties'} done"
+    assert_nothing_is_left(room)
+    assert os.listdir("pages" if "pages" in option else "tmp") == []
+
+
 def test_a_command_that_can_not_go_on(archive: Path) -> None:
     """It ends at once, and doesn't wait for the counties that are being judged: here the manifest takes only one more line."""
     put("waits")

@@ -90,7 +90,7 @@ class Comparing:
     def run(self, change: Change, words: Sequence[str], resources: Resources) -> tuple[bytes, str]:
         """Returns what diff prints, and why it has failed if it has."""
         words = ["diff", *words, "--program", self.program, *self.flags, "--", *self.names_of(change)]
-        ended = resources.run([sys.executable, "-B", "-c", START, PACKAGES, *words])
+        ended = resources.run([sys.executable, "-B", "-c", START, PACKAGES, *words], is_tool=True)
         lines = ended.stderr.decode(errors="replace").strip().splitlines()
         if ended.returncode in (0, 1):
             return ended.stdout, ""

@@ -27,6 +27,7 @@ IN_MEMORY = "/dev/shm"  # the folder in memory, if the variable doesn't name ano
 SPARE = 64 << 20  # folders are made in memory only if this many bytes stay free there
 STALE = 60.0  # a folder that nobody holds is removed by a later run once it is this many seconds old
 PATIENCE = 0.3  # a thread that is printing or writing keeps the end of the run waiting for at most this many seconds
+PATIENCE_FOR_A_TOOL = 2.0  # a command of these tools that was started has this many seconds to remove what it has made
 MOST_SECONDS = 2_000_000  # 23 days: the system counts a wait in milliseconds, with 31 bits
 T = TypeVar("T")
 
@@ -48,6 +49,7 @@ class Resources:
         self.contexts, self.is_closed = ExitStack(), False
         self.room = ""  # where the last temporary folder is
         self.parts: list[Resources] = []
+        self.tools: list[subprocess.Popen[bytes]] = whole.tools if whole else []
 
     def part(self) -> Resources:
         """Returns the resources of a part of the work, which ends earlier."""
@@ -88,17 +90,21 @@ class Resources:
         """Closes all of it before the process ends, in any thread. The lock is taken and never returned, so that the other threads stop
         where they would start, make or write something."""
         self.lock.acquire(timeout=PATIENCE)
+        for tool in self.tools:  # all of them at once
+            tool.terminate()
         self.close()
 
     def run(
-        self, words: Sequence[str], memory: int | None = None, seconds: int | None = None
+        self, words: Sequence[str], memory: int | None = None, seconds: int | None = None, is_tool: bool = False
     ) -> subprocess.CompletedProcess[bytes]:
-        """Runs the program in a separate session, so that all of it can be ended. memory limits its address space. Raises TimeoutExpired
-        if it takes longer than these seconds, unless they are more than the system can count."""
+        """Runs the program, or a command of these tools, in a separate session, so that all of it can be ended. memory limits its address
+        space. Raises TimeoutExpired if it takes longer than these seconds, unless they are more than the system can count."""
         if memory is not None:
             words = ["/bin/sh", "-c", f'ulimit -v {memory // 1024} && exec "$@"', "sh", *words]
         with self.part() as part:
-            child = part.keep(started(words))
+            child = part.keep(started(words, is_tool))
+            if is_tool:
+                self.tools.append(child)
             out, err = child.communicate(timeout=None if seconds is None or seconds > MOST_SECONDS else seconds)
         return subprocess.CompletedProcess(words, child.returncode, out, err)
 
@@ -116,13 +122,17 @@ class Resources:
 
 
 @contextmanager
-def started(words: Sequence[str]) -> Iterator[subprocess.Popen[bytes]]:
-    """Starts a process, which is ended if it still runs."""
+def started(words: Sequence[str], is_tool: bool) -> Iterator[subprocess.Popen[bytes]]:
+    """Starts a process, which is ended if it still runs. A command of these tools first gets a signal, by which it ends itself."""
     pipe, nothing, environment = subprocess.PIPE, subprocess.DEVNULL, {"GLIBC_TUNABLES": TUNABLES, **os.environ}
     child = subprocess.Popen(words, stdin=nothing, stdout=pipe, stderr=pipe, env=environment, start_new_session=True)
     try:
         yield child
     finally:
+        if is_tool:
+            child.terminate()
+            with suppress(subprocess.TimeoutExpired):
+                child.wait(PATIENCE_FOR_A_TOOL)
         kill(child)
 
 
