@@ -7,7 +7,7 @@ from typing import Iterable, NamedTuple, Optional, Sequence
 
 from .errors import Failure
 from .layout import Name, key_of
-from .manifests import Line, loaded, named, without_mark
+from .manifests import Flags, Line, loaded, named, without_mark
 
 KINDS = ("same", "changed", "added", "removed", "renamed", "refused", "failed", "accepted")
 Lines = dict[str, Line]
@@ -100,9 +100,9 @@ class Group(NamedTuple):
         return [str(Line(self.fingerprint, county)) for county in self.counties]
 
 
-def editions_of(names: Sequence[str], folders: Sequence[str] = ()) -> list[Edition]:
-    """Returns the editions in these manifests: one in each, or all of them in one, below a folder each. Raises Failure if there
-    is only one, or if their fingerprints can't be compared."""
+def editions_of(names: Sequence[str], folders: Sequence[str] = ()) -> tuple[list[Edition], Flags]:
+    """Returns the editions in these manifests: one in each, or all of them in one, below a folder each; and the flags that leave fields
+    out. Raises Failure if there is only one, or if their fingerprints can't be compared."""
     if folders and len(names) > 1:
         raise Failure(f"--edition needs one manifest with all editions, and there are {len(names)}")
     manifests = [(name, *loaded(name)) for name in names]
@@ -110,11 +110,12 @@ def editions_of(names: Sequence[str], folders: Sequence[str] = ()) -> list[Editi
         if without_mark(flags) != without_mark(manifests[0][1]):
             both = f"{names[0]} was made with {named(manifests[0][1])} and {name} with {named(flags)}"
             raise Failure(f"{both}: their fingerprints can't be compared")
+    left_out = without_mark(manifests[0][1]) if manifests else ()
     if len(manifests) == 1:
-        return parted(names[0], manifests[0][2], folders)
+        return parted(names[0], manifests[0][2], folders), left_out
     bases = [os.path.basename(name) for name in names]
     shown = bases if len({*bases}) == len(bases) else names
-    return [Edition(label, by_key(name, lines)) for label, (name, _, lines) in zip(shown, manifests)]
+    return [Edition(label, by_key(name, lines)) for label, (name, _, lines) in zip(shown, manifests)], left_out
 
 
 def parted(name: str, lines: list[Line], folders: Sequence[str]) -> list[Edition]:
@@ -186,4 +187,4 @@ def duplicates(manifest: Name) -> list[Group]:
 def changes(*manifests: Name, editions: Sequence[str] = ()) -> list[History]:
     """Returns the counties of several manifests, one for each edition, or of one with all editions, through these editions.
     Raises Failure."""
-    return histories(editions_of([os.fspath(name) for name in manifests], editions))
+    return histories(editions_of([os.fspath(name) for name in manifests], editions)[0])

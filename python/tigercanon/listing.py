@@ -7,8 +7,9 @@ from collections import Counter
 from typing import Any, Iterator, Sequence
 
 from .diff import words
-from .editions import KINDS, History, changes, duplicates
+from .editions import KINDS, History, duplicates, editions_of, histories
 from .errors import Failure
+from .manifests import Flags
 from .pages import Comparing, Counts, Pages, counts_of
 from .progress import Console, Progress, as_json, counted, print_lines
 from .resources import Resources
@@ -33,27 +34,31 @@ def list_duplicates(options: argparse.Namespace, console: Console, resources: Re
 
 def list_changes(options: argparse.Namespace, console: Console, resources: Resources) -> int:
     resources.inputs(options.manifests)
-    histories = changes(*options.manifests, editions=options.edition)
+    editions, flags = editions_of(options.manifests, options.edition)
+    every = histories(editions)
     if any((options.root, options.program, options.jobs)) and not (options.pages or options.stat):
         raise Failure("--root, --program and --jobs need --pages or --stat")
     if options.force and not options.pages:
         raise Failure("--force needs --pages")
-    shown = [each for each in histories if not (options.quiet and each.is_same)]
+    shown = [each for each in every if not (options.quiet and each.is_same)]
     if options.stat:
-        list_counts(histories, options, console, resources)
+        list_counts(every, flags, options, console, resources)
     elif options.json:
         print_lines(map(as_json, map(row_of, shown)))
     else:
-        print_lines(of_two(shown) if histories and len(histories[0].editions) == 2 else table(shown))
-    report_counts(histories, console)
+        print_lines(of_two(shown) if len(editions) == 2 else table(shown))
+    report_counts(every, console)
     if options.pages:
-        list_pages(histories, options, console, resources)
-    return int(any(not each.is_same for each in histories))
+        list_pages(every, flags, options, console, resources)
+    return int(any(not each.is_same for each in every))
 
 
-def list_pages(histories: Sequence[History], options: argparse.Namespace, console: Console, resources: Resources) -> None:
+def list_pages(
+    histories: Sequence[History], flags: Flags, options: argparse.Namespace, console: Console, resources: Resources
+) -> None:
     """Writes the pages of the option --pages."""
-    pages = Pages(histories, options.pages, options.manifests, resources, options.root, options.program, options.force)
+    comparing = Comparing(flags, options.root, options.program)
+    pages = Pages(histories, options.pages, options.manifests, comparing, resources, options.force)
     if pages.are_there:
         console.report(f"pages that are there already: {pages.are_there:,} of {len(pages.changes):,}")
     for change, why in pages.write(Progress(console, "page"), options.jobs):
@@ -62,17 +67,12 @@ def list_pages(histories: Sequence[History], options: argparse.Namespace, consol
     console.report(f"{counted(len(pages.changes) - len(pages.reasons), 'page')} and index.html are in {options.pages}")
 
 
-def list_counts(histories: Sequence[History], options: argparse.Namespace, console: Console, resources: Resources) -> None:
+def list_counts(
+    histories: Sequence[History], flags: Flags, options: argparse.Namespace, console: Console, resources: Resources
+) -> None:
     """Prints how many things differ in each county that changed."""
-    counts = [
-        *counts_of(
-            histories,
-            Comparing(options.manifests, options.root, options.program),
-            resources,
-            Progress(console, "county"),
-            options.jobs,
-        )
-    ]
+    comparing = Comparing(flags, options.root, options.program)
+    counts = [*counts_of(histories, comparing, resources, Progress(console), options.jobs)]
     if options.json:
         keys = [{"county": each.change.county, "editions": each.change.editions} for each in counts]
         print_lines(as_json({**key, "counts": each.counts or None, "reason": each.why or None}) for key, each in zip(keys, counts))

@@ -18,7 +18,7 @@ from .diff.words import SUBJECTS
 from .editions import History
 from .errors import printable, reported
 from .inputs import is_own_page, refuse_other_files, what_begins
-from .manifests import Line, loaded, without_mark
+from .manifests import Flags, Line
 from .program import find_program
 from .progress import Tally
 from .resources import Resources, new_files
@@ -77,11 +77,10 @@ def carried_for(change: Change, folder: Path) -> Carried | None:
 
 
 class Comparing:
-    """The command diff over the counties of changes, each by a separate process."""
+    """The command diff over the counties of changes, each by a separate process, with the flags of the manifests."""
 
-    def __init__(self, manifests: Sequence[str], root: str | None = None, program: str | None = None) -> None:
-        self.root, self.program = root, find_program(program)
-        self.flags = without_mark(loaded(manifests[0])[0])
+    def __init__(self, flags: Flags, root: str | None = None, program: str | None = None) -> None:
+        self.flags, self.root, self.program = flags, root, find_program(program)
 
     def names_of(self, change: Change) -> list[str]:
         """Returns the names of a county in both editions."""
@@ -137,14 +136,13 @@ class Pages:
         histories: Sequence[History],
         folder: str,
         manifests: Sequence[str],
+        comparing: Comparing,
         resources: Resources,
-        root: str | None = None,
-        program: str | None = None,
         is_forced: bool = False,
     ) -> None:
         """Raises Failure if a page can't be written, before one is."""
         self.folder, self.changes, self.resources = Path(folder), [*changed(histories)], resources
-        self.comparing = Comparing(manifests, root, program)
+        self.comparing = comparing
         self.index, template = str(self.folder / "index.html"), find_page()
         finder = Finder()
         counties = [finder.of_name(name) for change in self.changes for name in self.comparing.names_of(change)]
