@@ -170,7 +170,7 @@ def test_a_second_year(archive: Archive) -> None:
     assert (ended.status, listed("m").splitlines()[1:]) == (1, expected)
     assert {stem for stem in failed if stem not in ended.reports} == set()
     assert {f"{new}: moved from {old}" for old, new in moved.items()} <= {*ended.lines}
-    assert {f"{stem}: gone; --prune takes its line out" for stem in chosen["gone"]} <= {*ended.lines}
+    assert {f"{stem}: gone; --prune removes its line" for stem in chosen["gone"]} <= {*ended.lines}
     numbers = {
         noun: int(count)
         for count, noun in re.findall(
@@ -189,7 +189,7 @@ def test_a_second_year(archive: Archive) -> None:
     assert verdicts == {"OK": len(archive.lines) - 1 - 4 * CHANGED, "FAILED": 3 * CHANGED, "MISSING": CHANGED, "REFUSED": refused}
     pruned = call(*FINGERPRINT, "--update", "--prune")
     assert {line[66:] for line in listed("m").splitlines()[1:]} == {line[66:] for line in expected} - {*chosen["gone"]}
-    assert {f"{stem}: gone, and taken out" for stem in chosen["gone"]} <= {*pruned.lines}
+    assert {f"{stem}: gone, and its line removed" for stem in chosen["gone"]} <= {*pruned.lines}
 
 
 class Engine:

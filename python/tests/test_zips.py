@@ -184,6 +184,6 @@ def test_a_store_that_sends_too_little(room: Path, monkeypatch: pytest.MonkeyPat
         storage.fetch("s3://a", len(TEXT), "target")
         assert Path("target").read_bytes() == TEXT
     else:
-        with pytest.raises(Unreadable, match="can't be read: only 140 of its 280 bytes came .three attempts."):
+        with pytest.raises(Unreadable, match="can't be read: only 140 of its 280 bytes arrived .three attempts."):
             storage.fetch("s3://a", len(TEXT), "target")
     assert len(list(sent)) == max(0, 2 - short)

@@ -61,7 +61,7 @@ def refuse_other_files(names: Iterable[str]) -> None:
     for name in names:
         why = "it is a symbolic link" if os.path.islink(name) else what_begins(name)
         if why:
-            raise Failure(f"{name}: can't be written: {why}; --force writes it nevertheless")
+            raise Failure(f"{name}: can't be written: {why}; --force overwrites it")
 
 
 def what_begins(name: str) -> str:

@@ -91,7 +91,7 @@ def report_survey(survey: Survey, progress: Progress, console: Console) -> None:
     for stem, place in survey.moved.items():
         console.report(f"{place}: moved from {stem}")
     for line in survey.gone:
-        console.report(f"{line.stem}: gone{', and taken out' if survey.choice.prune else '; --prune takes its line out'}")
+        console.report(f"{line.stem}: gone{', and its line removed' if survey.choice.prune else '; --prune removes its line'}")
     known = {"in the manifest already": survey.known, "refused before": survey.refused_before}
     accepted, refused = progress.accepted, sum(progress.refused.values())
     words = [f"{count:,} {what}" for what, count in known.items() if count]
@@ -99,7 +99,7 @@ def report_survey(survey: Survey, progress: Progress, console: Console) -> None:
     words += [f"{refused:,} refused", f"{progress.failed:,} failed", *([f"{len(survey.gone):,} gone"] if survey.gone else [])]
     report_end(console, survey.judging, progress, progress.counties - progress.doubles + sum(known.values()), words)
     if survey.refused_before:
-        console.report("what was refused before isn't tried again: --update tries what changed on disk, and --again all of it")
+        console.report("counties refused before aren't tried again: --update tries those that changed on disk, and --again all")
 
 
 def verify(options: argparse.Namespace, console: Console, resources: Resources) -> int:

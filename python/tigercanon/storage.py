@@ -189,7 +189,7 @@ def fetch(url: str, size: int | None, target: str) -> None:
             came = os.path.getsize(target)
             if size is None or came >= size:
                 return
-            why = f"only {came} of its {size} bytes came"
+            why = f"only {came} of its {size} bytes arrived"
         except Exception as error:
             if isinstance(error, MemoryError) or getattr(error, "errno", None) in NO_ROOM:
                 raise
