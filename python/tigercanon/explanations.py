@@ -85,26 +85,39 @@ class Explanation:
 def explain(
     refusal: Union[str, int, Exception] = "", county: Optional[Name] = None, *, program: Optional[Name] = None
 ) -> Optional[Explanation]:
-    """Explains a refusal: the program's line, the refusal's number or name, or the exception Refusal. If a county is named, its places
-    there are looked up; without a refusal it is the county's, and None if it is accepted. Raises Failure."""
+    """Explains a refusal: the program's line, the refusal's number or name, or the exception Refusal. If a county is named and gets this
+    refusal, its places there are looked up; without a refusal it is the county's, and None if it is accepted. Raises Failure."""
     with Resources() as resources:
         return explanation(str(refusal), None if county is None else os.fspath(county), program, resources)
 
 
 def explanation(refusal: str, name: str | None, program: Optional[Name], resources: Resources) -> Explanation | None:
-    """Explains a refusal, in the county of this name if there is a name."""
+    """Explains a refusal. If there is a name, it also has the places in the county of this name, provided that the county gets this
+    refusal."""
+    text = page()
     if name is None:
-        return Explanation(bare(refusal), (), tuple(explained(refusal, page())))
+        return Explanation(bare(refusal), (), tuple(explained(refusal, text)))
     with resources.part() as part:
         source, _ = opened(name, found(name, False), part)
-        if not refusal:
-            ended = source.run(find_program(program), "check", (), part)
-            if ended.returncode == 0:
-                return None
-            refusal = source.complaint(ended)[0]
-        heading, *lines = explained(refusal, page())
-        faults, advice = faults_of(bare(refusal), source.files, source.names), hint(bare(refusal), source.files)
-        return Explanation(bare(refusal), tuple(faults), (heading, *(["", advice] if advice else []), *lines))
+        ended = source.run(find_program(program), "check", (), part)
+        own = source.complaint(ended)[0] if ended.returncode else ""
+        if not refusal and not own:
+            return None
+        if not is_of(refusal, own, text):
+            heading, *lines = explained(refusal, text)
+            why = f"{printable(name)} isn't refused for this: check prints {own or 'accepted'}"
+            return Explanation(bare(refusal), (), (heading, "", why, *lines))
+        heading, *lines = explained(own, text)
+        faults, advice = faults_of(own, source.files, source.names), hint(own, source.files)
+        return Explanation(own, tuple(faults), (heading, *(["", advice] if advice else []), *lines))
+
+
+def is_of(refusal: str, own: str, text: str) -> bool:
+    """Returns whether a refusal is the one that a county gets: the same line, or its number or name, without places."""
+    given = re.sub(" in set [12]$", "", bare(refusal))
+    words = REFUSAL.fullmatch(given)
+    is_number = words is not None and not words[3] and number_in(given, text) == number_in(own, text)
+    return given in ("", own) or is_number
 
 
 def run(options: argparse.Namespace, console: Console, resources: Resources) -> int:

@@ -70,9 +70,11 @@ def faults_of(refusal: str, files: Sequence[str], names: Sequence[str]) -> list[
                 for why in [unreadable(file, is_first=file == files[0])]
                 if why
             ]
-        return list(islice(in_county(number, places, files, names), MOST_LINES))
-    except (OSError, ValueError, IndexError, StopIteration):
-        return []
+        if number in RECORDS or number in (12, 13):
+            return list(islice(in_county(number, places, files, names), MOST_LINES))
+    except (OSError, ValueError, IndexError, KeyError):
+        pass
+    return []
 
 
 def unreadable(file: str, is_first: bool) -> str:
