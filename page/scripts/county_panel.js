@@ -36,6 +36,10 @@ export class CountyPanel {
     this.done(this);
   }
 
+  get isDone() {
+    return Boolean(this.result || this.trouble);
+  }
+
   get isAccepted() {
     return Boolean(this.result?.isAccepted);
   }

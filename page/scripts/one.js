@@ -37,6 +37,10 @@ export class OneCounty {
     replace(this.place, this.map.node);
   }
 
+  get isRefused() {
+    return this.panel.isDone && !this.panel.isAccepted;
+  }
+
   contents(counts) {
     const rows = CONTENTS_SHOWN.map(([type, what]) => h("div", {}, h("dt", {}, what), h("dd", {}, counted(counts[type]))));
     const all = Object.values(counts).reduce((sum, count) => sum + count, 0);

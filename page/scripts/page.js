@@ -89,9 +89,10 @@ function take(files, adds) {
   return state.taking;
 }
 
-// Shows counties and manifests: a second county beside the first one, and more in a table. A manifest is compared with what is there.
+// Shows counties and manifests: a second county beside the first one, unless that was refused, and more in a table. A manifest is compared
+// with what is there.
 function put({ counties, manifests, skipped }, adds) {
-  const isSecond = state.counties.length === 1 && counties.length === 1 && !manifests.length;
+  const isSecond = state.counties.length === 1 && counties.length === 1 && !manifests.length && !state.view?.isRefused;
   const keeps = adds || isSecond || !counties.length || state.view instanceof ManyCounties;
   const before = { counties: state.counties, manifests: state.manifests, skipped: state.skipped };
   const kept = keeps ? before : NOTHING;

@@ -38,7 +38,7 @@ export class TwoCounties {
   }
 
   finishOne() {
-    if (!this.panels.every((panel) => panel.result || panel.trouble)) return;
+    if (!this.panels.every((panel) => panel.isDone)) return;
     if (this.panels.every((panel) => panel.isAccepted)) this.compare();
     else this.tell("They can't be compared: not both are accepted.");
   }
