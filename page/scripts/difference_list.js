@@ -9,8 +9,8 @@ const MOST_PRINTED = 2000;
 
 export class DifferenceList {
   // onchoose is called with an entry, its item of the list, and whether it was chosen by the keyboard.
-  constructor({ total, assistant, hidden, onchoose }) {
-    Object.assign(this, { total, assistant, hidden, onchoose, items: new Map(), from: 0, asked: 0 });
+  constructor({ total, ask, hidden, onchoose }) {
+    Object.assign(this, { total, ask, hidden, onchoose, items: new Map(), from: 0, asked: 0 });
     this.filter = h("input", { type: "search", id: "filter", autocomplete: "off", spellcheck: false, placeholder: "name, TLID, field or value", oninput: () => this.refreshSoon() });
     this.status = h("p", { class: "quiet listed", role: "status" });
     this.printed = h("p", { class: "printed" });
@@ -34,14 +34,14 @@ export class DifferenceList {
     return this.load({ from: 0 });
   }
 
-  ask({ from, most }) {
-    return this.assistant.ask("list", { text: this.filter.value, hidden: this.hidden, from, most });
+  pieceOf({ from, most }) {
+    return this.ask("list", { text: this.filter.value, hidden: this.hidden, from, most });
   }
 
   async load({ from, most }) {
     this.asked += 1;
     const { asked } = this;
-    const { count, piece } = await this.ask({ from, most });
+    const { count, piece } = await this.pieceOf({ from, most });
     if (asked !== this.asked) return [];
     if (from === 0) {
       this.items.clear();
@@ -95,7 +95,7 @@ export class DifferenceList {
 
   // Shows the numbers of what is listed, which came after the list.
   async showNumbers() {
-    const { piece } = await this.ask({ from: 0, most: this.from });
+    const { piece } = await this.pieceOf({ from: 0, most: this.from });
     for (const { number, numbers } of piece) {
       const place = this.items.get(number)?.querySelector(".numbers");
       if (place) place.textContent = numbers;

@@ -22,7 +22,8 @@ export class Differing {
     this.kinds = new KindsTable(found, (hidden, key) => this.hide(hidden, key));
     this.map.hide(this.kinds.hidden);
     const onchoose = (entry, item, isFocused) => this.openItem(entry, item, isFocused);
-    this.list = new DifferenceList({ total: found.total, assistant, hidden: [...this.kinds.hidden], onchoose });
+    const ask = (job, question) => this.ask(job, question);
+    this.list = new DifferenceList({ total: found.total, ask, hidden: [...this.kinds.hidden], onchoose });
     this.side = h("div", { class: "side" }, this.kinds.node, this.list.node, this.actions());
     this.node = h("div", { class: "compared" }, this.map.node, this.side);
     this.readNumbers();
@@ -40,10 +41,20 @@ export class Differing {
     });
   }
 
+  // The worker's answer. If it has none, the reason is shown, unless the comparison is gone, and what waits for the answer goes no further.
+  async ask(job, question) {
+    try {
+      return await this.assistant.ask(job, question);
+    } catch (error) {
+      if (!this.isGone) replace(this.state, troubleOf(error.message));
+      return new Promise(() => {});
+    }
+  }
+
   async hide(hidden, key) {
     if (key === ALIKE_POLYGONS && !this.hasAlikePolygons) {
       this.hasAlikePolygons = true;
-      const points = await this.assistant.ask("alikePolygons");
+      const points = await this.ask("alikePolygons");
       this.map.addPoints(points.map((point) => ({ ...point, place: shifted(point.place, this.found.shapes.chains.shift) })));
     }
     this.map.hide(hidden);
@@ -76,9 +87,9 @@ export class Differing {
   }
 
   detailsOf(found, number) {
-    if (number !== undefined) return this.assistant.ask("details", { number });
+    if (number !== undefined) return this.ask("details", { number });
     if (found.point) return { what: found.point.subject, kind: ALIKE, title: found.point.title, about: "", numbers: "", rows: [] };
-    return this.assistant.ask("detailsOfAlike", { chain: found.chain });
+    return this.ask("detailsOfAlike", { chain: found.chain });
   }
 
   // Opens an entry of the list: in a card on the map, or, where there is no place for one, in the list.
@@ -90,7 +101,7 @@ export class Differing {
     this.list.mark(entry.number);
     const places = entry.places.map((place) => shifted(place, this.found.shapes.chains.shift));
     if (places.length) this.showOnMap(entry, places);
-    const content = differenceCard(await this.assistant.ask("details", { number: entry.number }));
+    const content = differenceCard(await this.ask("details", { number: entry.number }));
     if (places.length && this.wide.matches) this.map.openCard(content, northernmost(places), isFocused);
     else this.openInside(item, content);
   }
