@@ -97,3 +97,13 @@ test("addresses beyond 2 GiB are read as they are meant", () => {
   // All blocks lie at one place: the array of the parts was written last, with the address and the length of the part.
   assert.equal(found, hexadecimal(Uint8Array.from([0, 0, 0, 0x80, 0, 0, 0, 0, 3, ...new Array(23).fill(0)])));
 });
+
+test("a text beyond 2 GiB is read where it is", () => {
+  const address = [0x80, 0x80, 0x80, 0x80, 0x78];
+  // The call writes that the text begins at 2^31, where this is written, and has nine bytes.
+  const begin = [0x41, ...address, 0x42, 0x80, 0x80, 0x80, 0x80, 0x08, 0x37, 3, 0];
+  const length = [0x41, ...address, 0x42, 9, 0x37, 3, 8];
+  const module = made(32769, address, "tigercanon_normalise", [64, 64, 32, 32, 64, 64], [...begin, ...length, 0x41, 0]);
+  const { status, text } = normalise(module, [Uint8Array.from([7, 8, 9])], masks);
+  assert.deepEqual([status, [...text]], [DONE, [0, 0, 0, 0x80, 0, 0, 0, 0, 9]]);
+});
