@@ -126,8 +126,8 @@ class Chromium(Browser):
             return "chromium and chromium-driver aren't installed"
         return "" if find_spec("selenium") else "python3-selenium isn't installed"
 
-    def command(self, name: str, **arguments: Any) -> None:
-        self.driver.execute_cdp_cmd(name, arguments)
+    def command(self, name: str, **arguments: Any) -> Any:
+        return self.driver.execute_cdp_cmd(name, arguments)
 
     def go(self, address: str) -> None:
         self.driver.get(address)

@@ -2,6 +2,7 @@
 
 from __future__ import annotations
 
+import gzip
 import os
 import time
 from itertools import islice
@@ -10,6 +11,7 @@ from typing import Any
 
 import pairs
 from dev.testing import run
+from given import autauga, zipped
 from in_browser import EXAMPLES, TOOLS, Page
 from tigercanon.diff.matching import Tie
 from tigercanon.diff.words import Thing, things, tie_line
@@ -91,4 +93,23 @@ def try_saved_comparison(page: Page) -> None:
     page.holds("there are differences", wanted)
 
 
-CASES = (try_random_pairs, try_saved_comparison)
+def try_saved_files(page: Page) -> None:
+    """A comparison of files of each form can be saved, and shows the same when it is opened."""
+    nine = sorted((EXAMPLES / "autauga").glob("TGR01001.RT*"))
+    zip_file = zipped(page.room / "TGR01002.zip", autauga("autauga-renumbered"))
+    packed = page.room / "town.txt.gz"
+    packed.write_bytes(gzip.compress((EXAMPLES / "two-maps/first.txt").read_bytes()))
+    saved = page.room / "saved.html"
+    for files, name in (
+        ([*nine, zip_file], "TGR01001-TGR01002"),
+        ([packed, EXAMPLES / "two-maps/second.txt"], "second-town.txt.gz"),
+    ):
+        page.show(files, COMPARED)
+        wanted = page.browser.texts(".verdict, .sets code, .sets .name")
+        page.browser.execute("Array.from(document.querySelectorAll('.sets button')).at(-1).click()")
+        saved.write_bytes(page.browser.downloaded(f"{name}.html"))
+        page.holds(f"{name} is compared", open_page(page, saved), page.browser.text("main"))
+        page.equal(f"what is shown of {name}", wanted, page.browser.texts(".verdict, .sets code, .sets .name"))
+
+
+CASES = (try_random_pairs, try_saved_comparison, try_saved_files)

@@ -1,21 +1,20 @@
-"""What the page takes in a browser: drops, zips and broken files, many counties, manifests, and one thing after another."""
+"""What the page takes in a browser: drops, zips and broken files, and what is left at a new start."""
 
 from __future__ import annotations
 
 import gzip
-import re
+import json
+import os
 import struct
 import time
 import zipfile
 from pathlib import Path
 
-from in_browser import EXAMPLES, RESULT, TABLE, TOOLS, VERDICT, Page
-from dev.testing import make_county, run
+from in_browser import EXAMPLES, RESULT, TABLE, VERDICT, Page
+from showing import TOWN
 
-MANY = 300
-SECONDS_FOR_MANY = 10.0  # until a manifest is compared with so many counties that were judged before
-VERIFIED = "document.querySelector('.verified')"
-JUDGED = f"{TABLE} || document.querySelector('.fingerprint, .refusal')"
+AUTAUGA = EXAMPLES / "autauga/all.txt"
+
 ROWS = "Array.from(document.querySelectorAll('.counties tbody tr'), (row) => [row.cells[0].innerText, row.cells[1].innerText])"
 
 
@@ -90,6 +89,13 @@ def try_second_drop(page: Page) -> None:
         page.browser.drop([second])
         page.browser.wait_for(VERDICT)
         page.equal(f"{second.name} that was dropped second", verdict, page.browser.text(".verdict h2, .verdict .none"))
+    again = page.room / "again/all.txt"
+    again.parent.mkdir(exist_ok=True)
+    again.write_bytes((EXAMPLES / "autauga-renumbered/all.txt").read_bytes())
+    page.show([first])
+    page.browser.give([again])
+    page.browser.wait_for(VERDICT)
+    page.equal("two files of one name", ["all.txt", "all.txt (2)"], page.browser.texts(".sets .name"))
 
 
 def try_zips(page: Page) -> None:
@@ -162,9 +168,9 @@ def try_nothing(page: Page) -> None:
     page.equal("a complaint beside a county", "", page.browser.text("#complaint"))
 
 
-# Keeps the workers that aren't ended, and begins anew as soon as something is shown.
+# Keeps the workers that aren't ended. As soon as something is shown it clicks on something, or else has all workers fail.
 STOPPED_AT = """
-const [shown] = arguments;
+const [shown, clicked] = arguments;
 globalThis.workers ??= new Set();
 globalThis.Worker = class extends (globalThis.OwnWorker ??= Worker) {
   constructor(...words) {
@@ -181,189 +187,232 @@ document.getElementById("announced").textContent = "";
 new MutationObserver((_, observer) => {
   if (!document.querySelector(shown)) return;
   observer.disconnect();
-  document.getElementById("again").click();
+  if (clicked) document.querySelector(clicked).click();
+  else for (const worker of workers) worker.dispatchEvent(new ErrorEvent("error", { cancelable: true }));
   document.body.dataset.stopped = `${workers.size} workers`;
 }).observe(document.getElementById("results"), { childList: true, subtree: true, attributes: true });
 """
+
+
+def leave(page: Page, files: list[Path], shown: str) -> str:
+    """Begins anew as soon as something is shown of these files, and returns what was announced."""
+    what = f"{len(files)} files at {shown}"
+    page.browser.start_again()
+    page.browser.execute(STOPPED_AT, shown, "#again")
+    page.browser.give(files)
+    page.browser.wait_for("document.body.dataset.stopped")
+    page.equal(f"what goes on of {what}", "0 workers", page.browser.evaluate("document.body.dataset.stopped"))
+    time.sleep(0.5)  # an announcement waits for a twentieth of a second
+    page.equal(f"workers for {what} that are gone", 0, page.browser.evaluate("workers.size"))
+    page.equal(f"what is shown of {what}", "", page.browser.text("#results"))
+    return str(page.browser.evaluate("document.getElementById('announced').textContent"))
 
 
 def try_gone(page: Page) -> None:
     """What was given before a new start isn't judged to its end, and nothing is said of it."""
     manifest = page.room / "flagged.manifest"
     manifest.write_text(f"# tigercanon form 1 --no-sources\n{'0' * 64}  first.txt\n")
-    files = [EXAMPLES / "two-maps/first.txt", EXAMPLES / "two-maps/second.txt", EXAMPLES / "autauga/all.txt", manifest]
-    for count, shown, said in (
-        (1, ".stages .now", "first.txt: judging"),
-        (2, ".stages .now", "second.txt: judging"),
-        (3, ".many", ""),
-        (4, ".many", ""),
-        (3, ".counties .link", ""),
+    for files, shown, said in (
+        (TOWN[:1], ".stages .now", "first.txt: judging"),
+        (TOWN, ".stages .now", "second.txt: judging"),
+        ([*TOWN, AUTAUGA], ".many", ""),
+        ([*TOWN, AUTAUGA, manifest], ".many", ""),
+        ([*TOWN, AUTAUGA], ".counties .link", ""),
     ):
-        page.browser.start_again()
-        page.browser.execute(STOPPED_AT, shown)
-        page.browser.give(files[:count])
-        page.browser.wait_for("document.body.dataset.stopped")
-        page.equal(f"what goes on of {count}", "0 workers", page.browser.evaluate("document.body.dataset.stopped"))
-        time.sleep(0.5)  # an announcement waits for a twentieth of a second
-        page.equal(f"workers for {count} that are gone", 0, page.browser.evaluate("workers.size"))
-        page.equal(f"what is said of {count}", said, page.browser.evaluate("document.getElementById('announced').textContent"))
-        page.equal(f"what is shown of {count}", "", page.browser.text("#results"))
+        page.equal(f"what is said of {len(files)} at {shown}", said, leave(page, files, shown))
     boxes = "['checked', 'disabled'].map((is) => document.getElementById('no-sources')[is])"
     page.equal("the flag of a manifest that is gone", [False, False], page.browser.evaluate(boxes))
     page.browser.execute("globalThis.Worker = OwnWorker")
 
 
-def archive(page: Page) -> Path:
-    """A folder of counties: zips and single files, accepted and refused ones, and other files."""
-    folder = page.room / "tiger"
-    folder.mkdir()
-    zipped(folder / "TGR01001.ZIP", autauga())
-    zipped(folder / "TGR01002.zip", autauga("autauga-renumbered"))
-    for number in (3, 4, 5):
-        make_county("--stem", "--seed", number, 200, folder / f"TGR0100{number}")
-    (folder / "TGR01005.RT7").unlink()
-    (folder / "TGR01004.RT2").rename(folder / "tgr01004.rt2")
-    (folder / "TGR01006.RT1").write_bytes((EXAMPLES / "broken.txt").read_bytes())
-    make_county("--seed", 3, 200, folder / "TGR01003.txt")
-    for name, text in {
-        "TGR01007": b"nothing",
-        "TGR01008.RT1.gz": gzip.compress(b"1"),
-        "TGR01010.txt": b"",
-        "cut.txt.gz": gzip.compress(b"1" * 300)[:20],
-        "readme.pdf": b"",
-        "words.txt": b"nothing",
-    }.items():
-        (folder / name).write_bytes(text)
-    return folder
+def try_gone_comparison(page: Page) -> None:
+    """A comparison that is left goes on nowhere."""
+    other = page.room / "other.txt"
+    other.write_bytes((EXAMPLES / "autauga-renumbered/all.txt").read_bytes())
+    for files, shown in ((TOWN, ".verdict .stages"), (TOWN, ".differences"), ([AUTAUGA, other], ".ways")):
+        leave(page, files, shown)
+    page.browser.execute("globalThis.Worker = OwnWorker")
 
 
-def unmarked(lines: list[bytes]) -> list[bytes]:
-    """The lines of a manifest without the mark of an unproved program."""
-    return [line.replace(b" unproved", b"") if line.startswith(b"# ") else line for line in lines]
+def try_stopped(page: Page) -> None:
+    """A button stops what goes on, which is then said in its place."""
+    for files, shown, button, place in (
+        (TOWN[:1], ".stages .now", ".stages button", ".refusal .line"),
+        (TOWN, ".verdict .stages", ".verdict .stages button", ".verdict .line"),
+        ([*TOWN, AUTAUGA], ".summary:not(:empty)", ".many .bar button", ".counties td:nth-child(3)"),
+    ):
+        page.browser.start_again()
+        page.browser.execute(STOPPED_AT, shown, button)
+        page.browser.give(files)
+        page.browser.wait_for(f"document.querySelector('{place}')?.textContent === 'This was stopped.'")
+        page.equal(f"what is said at {place}", {"This was stopped."}, set(page.browser.texts(place)))
+        page.equal("workers after that", 0, page.browser.evaluate("workers.size"))
+    page.equal("counties that were stopped", {"Failed"}, set(states(page).values()))
+    page.browser.execute("globalThis.Worker = OwnWorker")
 
 
-def try_many(page: Page) -> None:
-    folder = archive(page)
-    page.show([folder], TABLE, to="folder")
-    page.browser.click(".many .actions .main")
-    saved = page.browser.downloaded("counties.manifest")
-    run([TOOLS, "fingerprint", "--program", page.program, "-o", "manifest", "tiger"], cwd=page.room)
-    lines_of_tools = [line for line in (page.room / "manifest").read_bytes().splitlines() if not re.match(rb"# [0-9?]", line)]
-    page.equal("the manifest of the page and of the tools", unmarked(lines_of_tools), unmarked(saved.splitlines()))
-    text = page.browser.text(".summary")
-    page.holds("skipped files are counted", "1 .pdf, 1 .txt" in text and "3 refused, 3 failed" in text, text)
-    page.holds(
-        "counties of one map", "tiger/TGR01001, tiger/TGR01002" in page.browser.text(".many .note"), page.browser.text(".many")
-    )
-    lines = saved.decode().splitlines(keepends=True)
-    lines[2] = "0" * 64 + lines[2][64:]
-    changed = page.room / "changed"
-    comments = (
-        "# 12 2026-11-29T22:20:40.7Z, 3 ?  tiger/TGR01001\n# 5 2026-11-29T22:20:40Z  refused 4 BadNumber 1 4 6  tiger/TGR01006\n"
-    )
-    changed.write_text("".join(lines[:-1]) + f"{comments}{'1' * 64}  tiger/TGR01009\n{'1' * 64}  tiger/words.txt\n")
-    page.browser.give([changed])
-    compared(page, changed, folder, "a manifest after the counties")
-    page.equal(
-        "a listed file isn't skipped", "Other files were skipped: 1 .pdf.", page.browser.text(".summary").partition("failed. ")[2]
-    )
-    page.equal("its flags", "It was made with no flags.", page.browser.text(".verified")[-26:])
-    page.browser.click("tbody tr button")
-    page.holds("a county of the table", page.browser.wait_for(RESULT), page.browser.text("main"))
-    page.browser.execute("history.back()")
-    compared(page, changed, folder, "the way back from a county")
-    page.browser.start_again()
-    page.browser.drop([folder, changed])
-    compared(page, changed, folder, "a manifest with the counties")
-    masked = page.room / "masked"
-    run([TOOLS, "fingerprint", "--program", page.program, "--no-sources", "-o", masked, "tiger"], cwd=page.room)
-    page.browser.give([masked])
-    compared(page, masked, folder, "a manifest with a flag")
-    page.equal("the flag of a manifest", "It was made with --no-sources.", page.browser.text(".verified")[-30:])
-    is_fixed = [True, True]
-    page.equal(
-        "the box of its flag",
-        is_fixed,
-        page.browser.evaluate("['checked', 'disabled'].map((is) => document.getElementById('no-sources')[is])"),
-    )
-    page.browser.start_again()
-    page.equal("the box at a new start", False, page.browser.evaluate("document.getElementById('no-sources').checked"))
+def try_failing_workers(page: Page) -> None:
+    """If the browser ends the work, for want of memory, that is said in the place of the result."""
+    for files, shown, place in (
+        (TOWN[:1], ".stages .now", ".refusal .line"),
+        (TOWN, ".verdict .stages", ".verdict .line"),
+        (TOWN, ".differences", ".side .actions .line"),
+    ):
+        page.browser.start_again()
+        page.browser.execute(STOPPED_AT, shown, "")
+        page.browser.give(files)
+        page.browser.wait_for(f"document.querySelector('{place}')")
+        sentence = "The browser ended the work on this, most likely since there wasn't enough memory."
+        page.equal(f"what is said at {place}", sentence, page.browser.text(place))
+    page.browser.execute("globalThis.Worker = OwnWorker")
 
 
-def compared(page: Page, manifest: Path, folder: Path, name: str) -> None:
-    """Each badge is the tools' verdict about the county."""
-    name_of_manifest = f"document.querySelector('.verified')?.innerText.startsWith('Compared with {manifest.name}')"
-    page.holds(f"{name} is compared", page.browser.wait_for(name_of_manifest), page.browser.text("main"))
-    verified = run([TOOLS, "verify", "--program", page.program, manifest, folder.name], cwd=page.room).out.decode()
-    wanted = {line.split(": ")[0]: line.split(": ")[1].split()[0] for line in verified.splitlines()}
-    page.equal(name, wanted, {stem: state for stem, state in states(page).items() if stem in wanted})
+STARTED = "['start', 'again'].map((id) => document.getElementById(id).hidden).concat(document.activeElement.id)"
 
 
-def many_counties(page: Page) -> Path:
-    """A folder of counties that are different maps: a landmark has another name in each."""
-    folder = page.room / "many"
-    folder.mkdir()
-    text = (EXAMPLES / "autauga/all.txt").read_bytes()
-    place = next(match.start() for match in re.finditer(rb"(?m)^7", text)) + 24
-    for number in range(MANY):
-        (folder / f"{number:05}.txt").write_bytes(text[:place] + b"%-30d" % number + text[place + 30 :])
-    return folder
+def try_examples(page: Page) -> None:
+    """Each example of the start page shows what it says, with the names of its files."""
+    accepted = page.printed("fingerprint", EXAMPLES / "autauga/all.txt")
+    refused = page.printed("check", EXAMPLES / "broken.txt")
+    for name, selector, wanted, names in (
+        ("one", "#fingerprint", accepted, ["autauga.txt"]),
+        ("twoAlike", ".verdict h2", "Same map", ["autauga-renumbered.txt", "autauga.txt"]),
+        ("two", ".verdict h2", "Different maps", ["first.txt", "second.txt"]),
+        ("broken", ".refusal .line code", refused, ["broken.txt"]),
+    ):
+        page.browser.start_again()
+        page.equal("the start page", [False, True, "choose-files"], page.browser.evaluate(STARTED))
+        page.browser.click(f"[data-example={name}]")
+        page.browser.wait_for(f"document.querySelector('{selector}')")
+        page.equal(
+            f"the example {name}", wanted, page.browser.evaluate("document.querySelector(arguments[0])?.textContent", selector)
+        )
+        page.equal(f"the names of {name}", names, page.browser.texts(".card h2 bdi, .sets .name"))
+        page.equal("what is hidden behind the start page", [True, False, "results"], page.browser.evaluate(STARTED))
 
 
-def try_very_many(page: Page) -> None:
-    folder = many_counties(page)
-    page.browser.start_again()
-    begun = time.monotonic()
-    page.browser.drop([folder])
-    page.holds(f"{MANY} counties", page.browser.wait_for(TABLE), page.browser.text(".summary"))
-    judged = time.monotonic() - begun
-    manifest = page.room / "many.manifest"
-    page.browser.click(".many .actions .main")
-    saved = page.browser.downloaded("counties.manifest")
-    wrong = f"many/{MANY - 3:05}.txt"
-    manifest.write_bytes(re.sub(rb"(?m)^.*(  %s)$" % wrong.encode(), rb"%s\1" % (b"0" * 64), saved))
-    begun = time.monotonic()
-    page.browser.drop([manifest])
-    page.holds(f"a manifest after {MANY} counties", page.browser.wait_for(VERIFIED), page.browser.text(".summary"))
-    verified = time.monotonic() - begun
-    found = states(page)
-    page.equal("what isn't OK", {wrong: "FAILED"}, {stem: state for stem, state in found.items() if state != "OK"})
-    page.equal("rows", MANY, len(found))
-    page.holds("the page isn't frozen by a manifest", verified < SECONDS_FOR_MANY, f"{verified:.1f} s after {judged:.1f} s")
-
-
-SLOW_TO_BE_FOUND = """
-const { prototype } = FileSystemFileHandle, { getFile } = prototype;
-prototype.getFile = async function () {
-  if (this.name === "00000.txt") await new Promise((resume) => setTimeout(resume, 1000));
-  return getFile.call(this);
-};
+CHOSEN = """
+window.chosen = [];
+for (const id of ["files", "folder"]) document.getElementById(id).addEventListener("click", (event) => {
+  event.preventDefault();
+  window.chosen.push(id);
+});
 """
 
 
-def try_one_after_another(page: Page) -> None:
-    """A later county is shown later, however long the first one takes to be found."""
-    first, second = EXAMPLES / "two-maps/first.txt", EXAMPLES / "two-maps/second.txt"
-    prints = {path: page.printed("fingerprint", path) for path in (first, second)}
-    page.browser.execute(SLOW_TO_BE_FOUND)
-    page.browser.start_again()
-    page.browser.drop([page.room / "many"])
-    page.browser.drop([first])
-    page.browser.wait_for(f"document.querySelector('.summary')?.innerText.includes(' of {MANY + 1:,} ')")
-    page.equal("a county after many", ["first.txt"], [stem for stem in states(page) if "/" not in stem])
-    page.browser.drop([page.room / "many"])
-    page.show([first])
-    page.equal("what was dropped before a new start", {}, states(page))
-    page.browser.give([second])
-    page.holds(
-        "the differences of both", page.browser.wait_for("document.querySelector('.differences li')"), page.browser.text("main")
+def click_button(page: Page, text: str) -> None:
+    page.browser.execute(
+        "[...document.querySelectorAll('main button')].find((each) => each.offsetParent && each.textContent.startsWith(arguments[0])).click()",
+        text,
     )
-    page.equal("both fingerprints", list(prints.values()), fingerprints(page))
-    page.browser.click("#no-sources")
-    page.browser.wait_for("document.querySelector('.differences li')")
-    masked = [page.printed("fingerprint", "--no-sources", path) for path in (first, second)]
-    page.equal("both fingerprints without sources", masked, fingerprints(page))
-    page.browser.click("#no-sources")
+
+
+def try_choosing(page: Page) -> None:
+    """Buttons let the user choose files or a folder, which come beside an accepted county and in the place of a refused one."""
+    first, second, broken = EXAMPLES / "two-maps/first.txt", EXAMPLES / "two-maps/second.txt", EXAMPLES / "broken.txt"
+    page.browser.start_again()
+    page.browser.execute(CHOSEN)
+    click_button(page, "Choose files")
+    click_button(page, "Choose a folder")
+    page.show([broken])
+    click_button(page, "Choose another file")
+    page.browser.give([first])
+    page.browser.wait_for("document.getElementById('fingerprint')")
+    page.equal("another file in place of a refused one", page.printed("fingerprint", first), fingerprint(page))
+    click_button(page, "Compare with another county")
+    page.browser.give([second, broken])
+    page.browser.wait_for(TABLE)
+    page.equal("counties beside the first", {"first.txt", "second.txt", "broken.txt"}, set(states(page)))
+    click_button(page, "Compare with a manifest")
+    page.equal("what was asked for", ["files", "folder", "files", "files", "files"], page.browser.evaluate("chosen"))
+    page.show([first])
+    page.browser.drop([second, broken])
+    page.browser.wait_for(VERDICT)
+    page.equal("two counties in place of one", ["broken.txt", "second.txt"], page.browser.texts(".card h2 bdi"))
+    page.equal("nothing is said of the one", "", page.browser.text("#notice"))
+
+
+STAGES = """
+window.stages = [];
+new MutationObserver(() => {
+  const items = [...document.querySelectorAll('.stages li')], now = items.find((item) => item.className === 'now');
+  const told = JSON.stringify([items.map((item) => item.textContent), items.filter((item) => item.className === 'past').length, now?.textContent, now?.ariaCurrent]);
+  if (now && stages.at(-1) !== told) stages.push(told);
+}).observe(document.getElementById('results'), { childList: true, subtree: true, attributes: true });
+"""
+
+
+def try_stages(page: Page) -> None:
+    """While a county is judged its stages are shown: those that are past, and the present one. A zip has one more."""
+    zip_file = zipped(page.room / "TGR01001.ZIP", autauga())
+    for file, names in (
+        (EXAMPLES / "autauga/all.txt", ["Reading", "Judging", "Fingerprint", "Drawing the map"]),
+        (zip_file, ["Reading", "Unpacking", "Judging", "Fingerprint", "Drawing the map"]),
+    ):
+        page.browser.start_again()
+        page.browser.execute(STAGES)
+        page.show([file])
+        found = [json.loads(each) for each in page.browser.evaluate("stages")]
+        page.holds(f"stages of {file.name}", found)
+        wanted = [[names, names.index(now), now, "step"] for _, _, now, _ in found]
+        page.equal(f"what is shown at the stages of {file.name}", wanted, found)
+        page.equal(f"their order for {file.name}", sorted(found, key=lambda each: each[1]), found)
+    page.show([EXAMPLES / "autauga/all.txt", zip_file], VERDICT)
+
+
+def try_notes(page: Page) -> None:
+    """What is left out of a county's files is noted, beside one county and beside two."""
+    zip_file = zipped(page.room / "TGR01001.ZIP", autauga())
+    note = "Its single files are read, and not TGR01001.ZIP."
+    nine = sorted((EXAMPLES / "autauga").glob("TGR01001.RT*"))
+    page.show([*nine, zip_file])
+    page.equal("a note on a zip", [note], page.browser.texts(".note p"))
+    page.browser.give([EXAMPLES / "two-maps/first.txt"])
+    page.browser.wait_for(VERDICT)
+    page.equal("a note on one of two", [f"TGR01001: {note}"], page.browser.texts(".note p"))
+
+
+BROKEN_READING = """
+const { prototype } = FileSystemFileHandle, { getFile } = prototype;
+prototype.getFile = () => Promise.reject(new Error("it is locked"));
+window.mend = () => { prototype.getFile = getFile; };
+"""
+
+
+def try_unreadable(page: Page) -> None:
+    """If files that were dropped can't be read, or the browser is too old, that is said."""
+    page.browser.start_again()
+    page.browser.execute(BROKEN_READING)
+    page.browser.drop([EXAMPLES / "broken.txt"])
+    page.browser.wait_for("!document.getElementById('complaint').hidden")
+    page.equal("files that can't be read", "The files can't be read: it is locked", page.browser.text("#complaint"))
+    page.browser.execute("mend()")
+    # docs/archive.md has the browsers.
+    needed = "This page needs a browser of 2023 or later: Chrome or Edge 103, Firefox 113, Safari 16.4."
+    for lack, wanted in (
+        ("delete window.DecompressionStream", needed),
+        ("delete window.WebAssembly", needed),
+        ("WebAssembly.compile = () => Promise.reject(new Error('no'))", f"The engine can't be started: no. {needed}"),
+        ("", ""),
+    ):
+        script = page.browser.command("Page.addScriptToEvaluateOnNewDocument", source=lack)
+        page.browser.open(Path(os.environ["TIGERCANON_PAGE"]))
+        page.equal(f"what is said after {lack}", wanted, page.browser.text("#complaint"))
+        page.browser.command("Page.removeScriptToEvaluateOnNewDocument", identifier=script["identifier"])
+
+
+def try_dragging(page: Page) -> None:
+    """The page shows that something can be dropped while it is dragged over it, and no longer."""
+    page.browser.start_again()
+    shown = "document.body.classList.contains('dropping')"
+    data = {"items": [], "files": [str(EXAMPLES / "broken.txt")], "dragOperationsMask": 1}
+    for steps, wanted in ((["dragEnter", "dragOver"], True), ([], False), (["dragOver"], True), (["drop"], False)):
+        for step in steps:
+            page.browser.command("Input.dispatchDragEvent", type=step, x=400, y=300, data=data)
+        if not steps:
+            page.browser.execute("dispatchEvent(new DragEvent('dragleave'))")
+        page.holds(f"what is shown after {steps}", page.browser.wait_for(f"{shown} === {str(wanted).lower()}"))
+    page.holds("what was dropped is shown", page.browser.wait_for(RESULT))
 
 
 CASES = (
@@ -373,8 +422,14 @@ CASES = (
     try_broken_files,
     try_nothing,
     try_gone,
-    try_many,
-    try_very_many,
-    try_one_after_another,
+    try_gone_comparison,
+    try_stopped,
+    try_failing_workers,
+    try_examples,
+    try_choosing,
+    try_dragging,
+    try_stages,
+    try_notes,
+    try_unreadable,
 )
 IN_FIREFOX = (try_drops, try_second_drop)  # the others drop nothing, or need handles, or choose a folder

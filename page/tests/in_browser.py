@@ -96,6 +96,13 @@ def try_refusals(page: Page) -> None:
         page.show([path])
         page.equal(path.name, page.printed("check", path), page.browser.text(".refusal .line code"))
         page.holds(f"{path.name} shows a line", page.browser.texts(".columns mark"), page.browser.text(".refusal"))
+        lines = {line.rstrip() for line in path.read_text("latin-1").split("\n")}
+        shown = page.browser.evaluate("[...document.querySelectorAll('.columns .text')].map((each) => each.textContent)")
+        page.equal(
+            f"{path.name}: what is shown as its lines",
+            [],
+            [text for text in shown if text.replace("\xa0", " ").rstrip() not in lines],
+        )
 
 
 def try_same(page: Page) -> None:

@@ -4,6 +4,7 @@ import { equal, take } from "./scripts.mjs";
 const { CLASSES, classOf } = await take("classes");
 const { boundsOf, byStyle, chainNear, draw, drawOne, specksOf, Squares, strokesOf } = await take("drawing");
 const { ALIKE, CHANGED, FIRST, KIND_LINES, SECOND } = await take("kinds");
+const { widthAt } = await take("looks");
 const { drawMark } = await take("marks");
 const { shift } = await take("shapes");
 const { View } = await take("view");
@@ -78,6 +79,9 @@ for (let round = 0; round < 40; round += 1) wide.zoom(0.5);
 equal("the least scale is a quarter of all", before / 4, wide.scale);
 for (let round = 0; round < 90; round += 1) wide.zoom(2);
 equal("the greatest scale", 2, wide.scale);
+
+// Lines have their full width up to 4 metres to a pixel, and are thinner the more of the map is shown.
+equal("how wide lines are", [1, 1, 0.68, 0.35, 0.35], [1, 4, Math.sqrt(4 * 60), 60, 200].map((metres) => Math.round(100 * widthAt({ metresToPixel: () => metres })) / 100));
 
 // A line of a kind that differs has a casing, a hollow one shows what is below its middle, and very many are thin lines.
 const style = (kind) => ({ ...KIND_LINES[kind], color: "ink", isCased: kind !== ALIKE });

@@ -2,10 +2,11 @@
 
 from __future__ import annotations
 
+import json
 import re
 from typing import Any, Callable
 
-from dev.testing import run
+from dev.testing import make_county, run
 from in_browser import EXAMPLES, TOOLS, VERDICT, Page
 
 TOWN = [EXAMPLES / "two-maps/first.txt", EXAMPLES / "two-maps/second.txt"]
@@ -14,6 +15,7 @@ DRAWN = "document.querySelector('.map')?.dataset.drawn"
 NUMBERED = "document.querySelector('.compared')?.dataset.numbered"
 CLOSED = "document.querySelector('.place-card').hidden"
 CARD = "document.querySelector('.place-card:not([hidden]) h3')"
+FOCUSED_ITEM = "[...document.querySelectorAll('.differences > li')].indexOf(document.activeElement.parentElement)"
 LAPTOP, PHONE = (1280, 800), (390, 844)
 
 
@@ -35,8 +37,8 @@ def report(page: Page, *flags: str) -> str:
 
 
 def press(page: Page, key: str) -> None:
-    code = {"Enter": 13, "Escape": 27, "End": 35, "Home": 36, "ArrowUp": 38, "ArrowDown": 40, "Tab": 9}[key]
-    text = {"text": "\r"} if key == "Enter" else {}
+    code = {"Enter": 13, "Escape": 27, "End": 35, "Home": 36, "ArrowUp": 38, "ArrowDown": 40, "Tab": 9}.get(key, 0)
+    text = {"text": "\r" if key == "Enter" else key} if key == "Enter" or len(key) == 1 else {}
     for kind in ("keyDown", "keyUp"):
         page.browser.command("Input.dispatchKeyEvent", type=kind, key=key, code=key, windowsVirtualKeyCode=code, **text)
 
@@ -127,6 +129,13 @@ def try_search(page: Page) -> None:
     page.equal("all", 25, len(search(page, "")))
 
 
+def rulers(page: Page) -> list[tuple[str, float]]:
+    """The unit of each ruler of the map, and how many metres a pixel has by it."""
+    texts = "[...document.querySelectorAll('.rulers div')].map((each) => [...each.textContent.split(' '), each.getBoundingClientRect().width])"
+    metres = {"m": 1.0, "km": 1000.0, "ft": 0.3048, "mi": 1609.344}
+    return [(unit, float(length) * metres[unit] / pixels) for length, unit, pixels in page.browser.evaluate(texts)]
+
+
 COLOURED = """
 const [name] = arguments;
 const canvas = document.querySelector('.map canvas');
@@ -183,38 +192,32 @@ def try_kinds(page: Page) -> None:
     page.holds("polygons that are alike", page.browser.wait(lambda: coloured(page, "alike") > before), before)
 
 
+def open_item(page: Page, number: int) -> None:
+    """Opens an item of the list in a card on the map."""
+    page.browser.click(f".differences li:nth-child({number}) > button")
+    page.browser.wait_for(CARD)
+
+
 def try_card(page: Page) -> None:
-    """A card opens on the map, at the place of the chosen difference, with both values. It closes by the Escape key."""
+    """A card opens on the map for the chosen difference, with both values. It closes by its button."""
     show_town(page)
+    page.equal("a card before something was chosen", True, page.browser.evaluate(CLOSED))
     page.browser.wait_for(NUMBERED)
-    page.browser.click(".differences li:nth-child(14) > button")
-    page.holds("a card", page.browser.wait_for(CARD), page.browser.text(".chart"))
+    open_item(page, 14)
     text = page.browser.text(".place-card")
-    page.holds(
-        "the card's words",
-        all(
-            word in text
-            for word in ("≠ chain changed", "Hickory Ave (A41)", "900", "998", "TLID 178 and 1977", "28 fields are the same")
-        ),
-        text,
-    )
-    box, chart = page.browser.evaluate(
-        "['.place-card', '.chart'].map((each) => { const { left, top, right, bottom } = document.querySelector(each).getBoundingClientRect(); return [left, top, right, bottom]; })"
-    )
-    page.holds(
-        "the card is on the map",
-        box[0] >= chart[0] and box[1] >= chart[1] and box[2] <= chart[2] and box[3] <= chart[3],
-        [box, chart],
-    )
-    page.equal(
-        "the item of the list",
-        "true",
-        page.browser.evaluate("document.querySelector('.differences li:nth-child(14) > button').getAttribute('aria-current')"),
-    )
+    words = ("≠ chain changed", "Hickory Ave (A41)", "900", "998", "TLID 178 and 1977", "28 fields are the same")
+    page.holds("the card's words", all(word in text for word in words), text)
+    current = "document.querySelector('.differences li:nth-child(14) > button').getAttribute('aria-current')"
+    page.equal("the item of the list", "true", page.browser.evaluate(current))
     page.holds("the chosen chain is marked", coloured(page, "chosen") > 50, coloured(page, "chosen"))
     page.browser.click(".place-card .close")
     page.equal("a closed card", True, page.browser.evaluate(CLOSED))
     page.equal("nothing is marked", 0, coloured(page, "chosen"))
+
+
+def try_rows_of_cards(page: Page) -> None:
+    """A card has a column for each map that has the thing."""
+    show_town(page)
     cells = "[...new Set([...document.querySelectorAll('.place-card .content > .fields tr')].map(({ cells }) => cells.length))]"
     for kind, wanted in (("changed", 3), ("first", 2), ("second", 2)):
         page.browser.click(f".differences li:has(.sign.{kind}) > button")
@@ -222,152 +225,18 @@ def try_card(page: Page) -> None:
         page.equal(f"cells in a row of a thing {kind}", [wanted], page.browser.evaluate(cells))
 
 
-def click_map(page: Page, x: float, y: float) -> None:
-    left, top = page.browser.evaluate("(({ left, top }) => [left, top])(document.querySelector('.map').getBoundingClientRect())")
-    for kind in ("mousePressed", "mouseReleased"):
-        page.browser.command("Input.dispatchMouseEvent", type=kind, x=left + x, y=top + y, button="left", clickCount=1)
-
-
-def try_click(page: Page) -> None:
-    """A click on the map opens a card there: of a difference, and of a chain that is alike."""
+def try_keys_of_list(page: Page) -> None:
+    """The list is one stop of the tabulator key, and arrow keys go along it."""
     show_town(page)
-    page.browser.click(".differences li:nth-child(14) > button")
-    page.browser.wait_for(CARD)
-    x, y = page.browser.evaluate(
-        "(({ left, bottom, width }) => { const map = document.querySelector('.map').getBoundingClientRect(); return [left + width / 2 - map.left, bottom - map.top]; })(document.querySelector('.place-card').getBoundingClientRect())"
-    )
-    page.browser.click(".place-card .close")
-    click_map(page, x - 4, y + 50)  # the chain begins below the card
-    page.browser.wait_for("document.querySelector('.place-card .kind.changed')")
-    page.holds("a card at a click", "900" in page.browser.text(".place-card"), page.browser.text(".place-card"))
-    resize(page, LAPTOP)
-    page.show(TOWN[:1])
-    page.browser.wait_for(DRAWN)
-    page.browser.execute("document.querySelector('.map').focus()")
-    press(page, "Enter")
-    page.holds("a card of one county", page.browser.wait_for(CARD), page.browser.text("main"))
-    page.holds("its fields", "CFCC" in page.browser.text(".place-card"), page.browser.text(".place-card"))
-
-
-def rulers(page: Page) -> list[tuple[str, float]]:
-    """The unit of each ruler of the map, and how many metres a pixel has by it."""
-    texts = "[...document.querySelectorAll('.rulers div')].map((each) => [...each.textContent.split(' '), each.getBoundingClientRect().width])"
-    metres = {"m": 1.0, "km": 1000.0, "ft": 0.3048, "mi": 1609.344}
-    return [(unit, float(length) * metres[unit] / pixels) for length, unit, pixels in page.browser.evaluate(texts)]
-
-
-def try_rulers(page: Page) -> None:
-    """The map's scale is in metres and in feet."""
-    show_town(page)
-    (one, metres), (other, also) = rulers(page)
-    page.equal("units", ["m", "ft"], [one, other])
-    page.holds("metres to a pixel", abs(metres / also - 1) < 0.01, [metres, also])
-    # 0.016 degrees of latitude are 1,781 m, and the town is 0.0155 degrees high.
-    page.holds("the town's height", 2.5 < metres < 4.5, metres)
-
-
-def try_points(page: Page) -> None:
-    """One county without chains has no map, and two have one that shows all their landmarks."""
-    files = [page.room / "points.txt", page.room / "others.txt"]
-    places = (("-086010000", "+32400000"), ("-086000000", "+32420000"))
-    for file, cfcc in zip(files, ("D43", "D85")):
-        file.write_text("".join(f"7200601001{number:10} {cfcc}{'':30}{x}{y}\n" for number, (x, y) in enumerate(places, 1)))
-    resize(page, LAPTOP)
-    page.show(files[:1])
-    page.equal("a county without chains", "This set has no chains, so there is nothing to draw.", page.browser.text(".chart"))
-    page.show(files, LISTED)
-    page.browser.wait_for(DRAWN)
-    # 0.02 degrees of latitude are 2,226 m, and the map has a margin of 24 pixels.
-    wanted, found = 2226.4 / (page.browser.evaluate("document.querySelector('.map').clientHeight") - 48), rulers(page)[0][1]
-    page.holds("metres to a pixel between two landmarks", abs(found / wanted - 1) < 0.01, [wanted, found])
-
-
-PLACE = "(({ e, f }) => [e, f])(new DOMMatrix(getComputedStyle(document.querySelector('.place-card')).transform))"
-# Presses a key on the map, and returns whether the map takes it.
-KEY = "!document.querySelector('.map').dispatchEvent(new KeyboardEvent('keydown', { key: arguments[0], [arguments[1]]: true, cancelable: true }))"
-
-
-def moved(page: Page, act: Callable[[], object]) -> tuple[list[float], float]:
-    """By how many pixels the card on the map moves, and how many times more a pixel shows."""
-    before, metres = page.browser.evaluate(PLACE), rulers(page)[0][1]
-    act()
-    page.browser.wait_for(DRAWN)
-    after = page.browser.evaluate(PLACE)
-    return [after[at] - before[at] for at in (0, 1)], round(rulers(page)[0][1] / metres, 3)
-
-
-def mouse(page: Page, kind: str, x: int, y: int, **more: Any) -> None:
-    page.browser.command("Input.dispatchMouseEvent", type=kind, x=x, y=y, **more)
-
-
-def drag(page: Page) -> None:
-    left, top = map(
-        int, page.browser.evaluate("(({ left, top }) => [left, top])(document.querySelector('.map').getBoundingClientRect())")
-    )
-    for kind, x, y in (("mousePressed", 50, 60), ("mouseMoved", 65, 70), ("mouseMoved", 80, 40), ("mouseReleased", 80, 40)):
-        mouse(page, kind, left + x, top + y, button="left", buttons=1, clickCount=1)
-
-
-def try_moving(page: Page) -> None:
-    """Keys, buttons and the pointer move and zoom the map, and the card with it. Keys with Ctrl, Alt or Meta are the browser's."""
-    show_town(page)
-    whole = rulers(page)
-    page.browser.click(".differences li:nth-child(14) > button")
-    page.browser.wait_for(CARD)
-    arrows = {"ArrowLeft": [80, 0], "ArrowRight": [-80, 0], "ArrowUp": [0, 80], "ArrowDown": [0, -80], "x": [0, 0]}
-    for key, wanted in arrows.items():
-        taken = []
-        found = moved(page, lambda: taken.append(page.browser.evaluate(KEY, key, "bubbles")))
-        page.equal(f"the key {key}", ((wanted, 1.0), [key != "x"]), (found, taken))
-    for held in ("ctrlKey", "altKey", "metaKey"):
-        for key in ("ArrowLeft", "-"):
-            page.equal(f"{held} and {key}", ([0, 0], 1.0), moved(page, lambda: page.browser.evaluate(KEY, key, held)))
-    zooms = {"+": 0.625, "-": 1.6, "=": 0.625}
-    for key, factor in zooms.items():
-        page.equal(f"the key {key}", factor, moved(page, lambda: page.browser.evaluate(KEY, key, "bubbles"))[1])
-    for number, factor in ((2, 1.6), (1, 0.625)):
-        page.equal("a button", factor, moved(page, lambda: page.browser.click(f".tools button:nth-child({number})"))[1])
-    page.equal("a pointer that drags", ([30, -20], 1.0), moved(page, lambda: drag(page)))
-    page.equal("a card stays", False, page.browser.evaluate(CLOSED))
-    for act in (lambda: page.browser.evaluate(KEY, "0", "bubbles"), lambda: page.browser.click(".tools button:nth-child(3)")):
-        page.browser.evaluate(KEY, "+", "bubbles")
-        act()
-        page.browser.wait_for(DRAWN)
-        page.equal("the whole map", whole, rulers(page))
-
-
-def try_keyboard(page: Page) -> None:
-    """The list is one stop of the tabulator key, arrow keys go along it, and chains can be reached on the map."""
-    show_town(page)
-    page.equal(
-        "stops in the list",
-        1,
-        page.browser.evaluate(
-            "document.querySelectorAll('.differences [tabindex=\"0\"], .differences button:not([tabindex])').length"
-        ),
-    )
-    focused = "[...document.querySelectorAll('.differences li')].indexOf(document.activeElement.parentElement)"
+    stops = "document.querySelectorAll('.differences [tabindex=\"0\"], .differences button:not([tabindex])').length"
+    page.equal("stops in the list", 1, page.browser.evaluate(stops))
     page.browser.execute("document.querySelector('.differences button[tabindex=\"0\"]').focus()")
     found = []
     for key in ("ArrowDown", "ArrowDown", "ArrowUp", "End", "ArrowDown", "Home", "ArrowUp"):
         press(page, key)
-        found.append(page.browser.evaluate(focused))
+        found.append(page.browser.evaluate(FOCUSED_ITEM))
     page.equal("the items that keys go to", [1, 2, 1, 24, 24, 0, 0], found)
-    press(page, "Enter")
-    page.holds(
-        "a card by the keyboard",
-        page.browser.wait_for("document.activeElement.closest('.place-card')"),
-        page.browser.text(".chart"),
-    )
-    press(page, "Escape")
-    page.equal("back in the list", [0, True], page.browser.evaluate(f"[{focused}, {CLOSED}]"))
-    page.browser.execute("document.querySelector('.map').focus()")
-    press(page, "Enter")
-    page.holds(
-        "a chain of the map", page.browser.wait_for("document.activeElement.closest('.place-card')"), page.browser.text(".chart")
-    )
-    press(page, "Escape")
-    page.equal("a closed card", True, page.browser.evaluate(CLOSED))
+    page.equal("stops after that", 1, page.browser.evaluate(stops))
 
 
 def try_exchange(page: Page) -> None:
@@ -383,6 +252,51 @@ def try_exchange(page: Page) -> None:
     page.equal("a changed value", True, "ZIPR 36068 → 36067" in page.browser.text(".differences"))
     found = page.browser.texts(".kinds td:not(:first-child)")
     page.equal("the counts", counts[4:8] + counts[:4], found[:8])
+    page.browser.wait_for(NUMBERED)
+    for button, name in (
+        (".sets tr:last-child button:last-child", "second-first.html"),
+        (".side .actions .main", "second-first.geojson"),
+    ):
+        page.browser.click(button)
+        page.holds(f"{name} is saved", page.browser.downloaded(name))
+
+
+def try_two_at_once(page: Page) -> None:
+    """Of two differences that are opened one right after the other, the second one stays open."""
+    show_town(page)
+    page.browser.wait_for(NUMBERED)
+    click = "document.querySelectorAll('.differences > li > button')[arguments[{}]].click()"
+    for first, second in ((13, 1), (1, 13)):
+        page.browser.execute("; ".join(click.format(number) for number in (0, 1)), first, second)
+        title = page.browser.evaluate("document.querySelectorAll('.differences .name')[arguments[0]].textContent", second)
+        page.holds(f"the card of {title}", page.browser.wait_for(f"{CARD}?.textContent === {json.dumps(title)}"))
+
+
+def try_pieces(page: Page) -> None:
+    """A long list is shown in pieces, and printed from its beginning."""
+    files = [page.room / "grid.txt", page.room / "other-grid.txt"]
+    for seed, file in enumerate(files):
+        make_county("--seed", seed, 400, file)
+    resize(page, LAPTOP)
+    page.show(files, LISTED)
+    count = int(re.sub(r"\D", "", page.browser.text(".listed")))
+    shown = "document.querySelectorAll('.differences > li').length"
+    text = f"Show more of {count - 200}"
+    page.equal("the first piece", [200, text], page.browser.evaluate(f"[{shown}, document.querySelector('.more').innerText]"))
+    rest = "and of each at most three fields. The saved GeoJSON has all differences and all fields."
+    printed = f"Printed: the first 200 of all {count} differences, {rest}"
+    page.equal("what would be printed", printed, page.browser.evaluate("document.querySelector('.printed').textContent"))
+    page.browser.click(".more")
+    page.browser.wait_for(f"{shown} > 200")
+    page.equal("the second piece, and its first item", [400, 200], page.browser.evaluate(f"[{shown}, {FOCUSED_ITEM}]"))
+    page.browser.execute("window.print = () => { document.body.dataset.printed = 'yes'; }")
+    click_last = "[...document.querySelectorAll('.side .actions button')].at(-1).click()"
+    page.browser.execute(click_last)
+    page.browser.wait_for("document.body.dataset.printed")
+    page.equal("all that is printed", [count, True], page.browser.evaluate(f"[{shown}, document.querySelector('.more').hidden]"))
+    page.equal(
+        "stops in a long list", 1, page.browser.evaluate("document.querySelectorAll('.differences [tabindex=\"0\"]').length")
+    )
 
 
 def try_third(page: Page) -> None:
@@ -399,51 +313,6 @@ def try_third(page: Page) -> None:
     page.browser.click("#notice button")
     page.holds("back", page.browser.wait_for(LISTED), page.browser.text("main"))
     page.equal("the notice is gone", "", page.browser.text("#notice:not([hidden])"))
-
-
-def try_table(page: Page) -> None:
-    """The table of many counties has its faults first, is sorted by its columns and filtered, and shows wanted fingerprints."""
-    resize(page, LAPTOP)
-    files = [TOWN[1], EXAMPLES / "broken.txt", EXAMPLES / "autauga/all.txt", TOWN[0]]
-    page.show(files, "document.querySelector('.many .actions button')")
-    names = ".counties tbody tr:not([hidden]) th"
-    page.equal("faults first, then by names", ["broken.txt", "all.txt", "first.txt", "second.txt"], page.browser.texts(names))
-    heads = ".counties thead button"
-    found = []
-    for column in (0, 0, 1):
-        page.browser.execute("document.querySelectorAll(arguments[0])[arguments[1]].click()", heads, column)
-        found.append(page.browser.texts(names))
-    page.equal("by name", ["all.txt", "broken.txt", "first.txt", "second.txt"], found[0])
-    page.equal("by name, the other way round", ["second.txt", "first.txt", "broken.txt", "all.txt"], found[1])
-    page.equal("by result", "broken.txt", found[2][-1])
-    page.equal("the sorted column", ["Result"], page.browser.texts(".counties [aria-sort='ascending']"))
-    page.browser.execute(
-        "const box = document.getElementById('county-filter'); box.value = 'accepted s'; box.dispatchEvent(new Event('input'))"
-    )
-    page.equal("a filter of two words", ["first.txt", "second.txt"], sorted(page.browser.texts(names)))
-    page.equal("how many there are", "2 of 4", page.browser.text(".county-table .listed"))
-    for flags in (["--no-sources"], []):
-        page.browser.click("#no-sources")
-        fingerprint = page.printed("fingerprint", *flags, TOWN[0])
-        shown = f"document.querySelector('.counties code[title=\"{fingerprint}\"]')"
-        page.holds(f"the table is judged again with {flags}", page.browser.wait_for(shown), page.browser.text(".many"))
-    page.browser.wait_for("document.querySelector('.many .actions button')")
-    manifest = page.room / "wanted.manifest"
-    manifest.write_text(f"# tigercanon form 1\n{fingerprint}  first.txt\n{'a' * 64}  second.txt\n{'b' * 64}  broken.txt\n")
-    page.browser.give([manifest])
-    page.holds("compared", page.browser.wait_for("document.querySelector('.verified')"), page.browser.text("main"))
-    rows = {text.split()[0]: text for text in page.browser.texts(".counties tbody tr")}
-    page.holds(
-        "a failed county's wanted fingerprint",
-        "FAILED" in rows["second.txt"] and f"in the manifest: {'a' * 16}" in rows["second.txt"],
-        rows,
-    )
-    page.holds(
-        "a refused county's wanted fingerprint",
-        "FAILED" in rows["broken.txt"] and f"in the manifest: {'b' * 16}" in rows["broken.txt"],
-        rows,
-    )
-    page.equal("failed ones first", ["broken.txt", "second.txt"], page.browser.texts(names)[:2])
 
 
 def try_one_map(page: Page) -> None:
@@ -477,13 +346,11 @@ CASES = (
     try_search,
     try_kinds,
     try_card,
-    try_click,
-    try_rulers,
-    try_points,
-    try_moving,
-    try_keyboard,
+    try_rows_of_cards,
+    try_keys_of_list,
     try_exchange,
+    try_two_at_once,
+    try_pieces,
     try_third,
-    try_table,
     try_one_map,
 )
