@@ -171,7 +171,7 @@ compile_program() {
     has_kit || stop "the program has to be compiled, and $lacking"
     make_stage || stop "$root/out can't be written"
     say "compiling the sources as they are, which takes some $compiling_takes; the program stays in out/unproved until they are edited"
-    attend setsid "$root/scripts/compile-unproved" --program "$stage/tigercanon" >&2 || exit "${status_of_stop-1}"
+    attend setsid "$root/scripts/compile-unproved" --program "$stage" >&2 || exit "${status_of_stop-1}"
     keep "$stage" "$root/out/unproved" "$sources" || stop "$root/out can't be written"
 }
 
