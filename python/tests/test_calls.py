@@ -2,6 +2,8 @@
 
 import os
 import shutil
+import subprocess
+import sys
 import threading
 import types
 import typing
@@ -10,7 +12,7 @@ from typing import Callable
 
 import pytest
 from dev.testing import ROOT, await_that
-from support import Four, complete, digest, left_behind, listed, manifest, packed, processes, put, zip_up
+from support import Four, complete, digest, environment, left_behind, listed, manifest, packed, processes, put, zip_up
 
 import tigercanon
 from tigercanon.contents import contents
@@ -189,3 +191,23 @@ def test_one_file_lists_no_folder(room: Path, monkeypatch: pytest.MonkeyPatch) -
     put("in/TGR01001.ZIP", packed({"TGR01001.RT1": b"1\n"}))
     monkeypatch.setattr(os, "scandir", lambda *_: pytest.fail("a folder is listed"))
     assert contents("in/a.txt") == [b"1\n"] and contents("in/TGR01001.ZIP")[0] == b"1\n"
+
+
+CUTS = "import os\nwhile True:\n    os.truncate('all.txt', 0)\n    os.truncate('all.txt', 1 << 24)\n"
+READS = """\
+import time
+from tigercanon.judge import types_missing
+end = time.monotonic() + 2
+while time.monotonic() < end:
+    types_missing("all.txt")
+"""
+
+
+def test_a_file_that_is_cut_off_while_it_is_read(room: Path) -> None:
+    """It ends no run, as it would one that had mapped the file."""
+    put("all.txt")
+    start = [sys.executable, "-c"]
+    with subprocess.Popen([*start, CUTS]) as cutting:
+        ended = subprocess.run([*start, READS], env=environment(), capture_output=True)
+        cutting.kill()
+    assert (ended.returncode, ended.stderr) == (0, b"")

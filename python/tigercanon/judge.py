@@ -6,7 +6,6 @@ are dataclasses, since a NamedTuple can't be sent like this.
 
 from __future__ import annotations
 
-import mmap
 import os
 import re
 import shutil
@@ -20,7 +19,7 @@ from .faults import Fault, faults_of
 from .hints import hint
 from .layout import TYPES, file_name
 from .resources import Resources, remove_stale_folders
-from .storage import NO_ROOM, fetch, is_packed, is_url, members_of, opened_zip, pieces_of, stamp, unpacked
+from .storage import NO_ROOM, PIECE, fetch, is_packed, is_url, members_of, opened_zip, pieces_of, stamp, unpacked
 
 ANSWERS = {"fingerprint": re.compile(rb"[0-9a-f]{64}\n"), "check": re.compile(b"accepted\n")}
 """What the program prints for a county that it accepts."""
@@ -292,11 +291,14 @@ def note_records(path: str, order: Order, notes: list[str]) -> None:
 
 
 def types_missing(path: str) -> list[str]:
-    """Returns the record types that a file has no line of."""
-    if os.path.getsize(path) == 0:
-        return [*TYPES]
-    with open(path, "rb") as file, mmap.mmap(file.fileno(), 0, access=mmap.ACCESS_READ) as text:
-        return [kind for kind in TYPES if text[:1] != kind.encode() and text.find(f"\n{kind}".encode()) < 0]
+    """Returns the record types that a file has no line of. The file isn't mapped, since another process may cut it off meanwhile."""
+    missing, last = {*TYPES}, b"\n"
+    with open(path, "rb") as file:
+        while missing and (piece := file.read(PIECE)):
+            text = last + piece
+            missing = {kind for kind in missing if f"\n{kind}".encode() not in text}
+            last = piece[-1:]
+    return [kind for kind in TYPES if kind in missing]
 
 
 def endings(kinds: Iterable[str]) -> str:
