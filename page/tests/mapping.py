@@ -4,10 +4,27 @@ from __future__ import annotations
 
 import json
 import math
+import re
 from typing import Any, Callable
 
+from dev.testing import ROOT
 from in_browser import EXAMPLES, Page
-from showing import CARD, CLOSED, DRAWN, FOCUSED_ITEM, LAPTOP, LISTED, PHONE, TOWN, open_item, press, resize, rulers, show_town
+from showing import (
+    CARD,
+    CLOSED,
+    DRAWN,
+    FOCUSED_ITEM,
+    LAPTOP,
+    LISTED,
+    PHONE,
+    TOWN,
+    coloured,
+    open_item,
+    press,
+    resize,
+    rulers,
+    show_town,
+)
 
 STREET = EXAMPLES / "one-street/first.txt"
 ENDS = ((-86477532, 32464118), (-86474190, 32464331))  # of its only chain, in millionths of a degree
@@ -240,6 +257,35 @@ def try_click(page: Page) -> None:
     page.holds("its fields", "CFCC" in page.browser.text(".place-card"), page.browser.text(".place-card"))
 
 
+def try_fields(page: Page) -> None:
+    """The card of a chain has the fields of its record in the canonical text."""
+    show_street(page)
+    press_on_map(page, "Enter")
+    page.browser.wait_for(CARD)
+    # The columns of type 1 from SIDE1 to BLOCKR, as docs/format.md has them.
+    layout = re.findall(r"(?m)^\| (\d+)-?(\d*) \| (\w+) \| B \|", (ROOT / "docs/format.md").read_text().partition("BLOCKR")[0])
+    line = page.printed("normalise", STREET).split("\n")[0]
+    values = {name: line[int(first) - 1 : int(last or first)].strip() for first, last, name in layout}
+    rows = "[...document.querySelectorAll('.place-card .fields tr')].map(({ cells }) => [cells[0].firstChild.textContent, cells[1].textContent])"
+    values["BLOCKR"] = line[186:190].strip()
+    page.equal("the fields of a chain", {name: value for name, value in values.items() if value}, dict(page.browser.evaluate(rows)))
+
+
+def try_classes(page: Page) -> None:
+    """Each class of chains is drawn in its colour, and named in the key."""
+    classes = {"A11": "highway", "A21": "main", "A41": "road", "B11": "rail", "H11": "water", "F10": "boundary", "X00": "other"}
+    file = page.room / "class.txt"
+    for cfcc, name in classes.items():
+        file.write_bytes(STREET.read_bytes().replace(b"A41", cfcc.encode()))
+        page.show([file])
+        page.browser.wait_for(DRAWN)
+        page.browser.execute("dispatchEvent(new Event('beforeprint'))")
+        page.holds(f"the colour of {cfcc}", coloured(page, f"map-{name}") > 100)
+        page.browser.execute("dispatchEvent(new Event('afterprint'))")
+    key = ["highway", "main road", "road", "rail", "water", "boundary", "landmark"]
+    page.equal("the key", key, page.browser.texts(".key li"))
+
+
 def try_places_of_cards(page: Page) -> None:
     """Each card of the list is on the map, and above or below its place, which is a little below the middle."""
     show_town(page)
@@ -275,6 +321,8 @@ def try_keyboard(page: Page) -> None:
             page.show(files)
         press_on_map(page, "Enter")
         page.holds(f"a card of {what}", page.browser.wait_for(in_card), page.browser.text(".chart"))
+        heads = [] if files else ["field", "in both"]
+        page.equal(f"the heads of {what}", heads, page.browser.texts(".place-card thead th"))
         press(page, "Escape")
         page.equal(
             f"back on the map from {what}",
@@ -371,6 +419,8 @@ CASES = (
     try_pointing,
     try_clicking,
     try_click,
+    try_fields,
+    try_classes,
     try_places_of_cards,
     try_keyboard,
     try_rulers,

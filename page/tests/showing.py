@@ -125,8 +125,9 @@ def try_search(page: Page) -> None:
     page.equal("words in any order", ["Hickory Ave (A41)"], search(page, "hickory  TOADDR 900"))
     page.equal("a TLID of the second file", ["Hickory Ave (A41)"], search(page, "TLID 1977"))
     page.equal("a value", ["Maple Ave (A41)"], search(page, "ZIPR 36068"))
+    page.equal("how many there are", "1 of 25", page.browser.text(".listed"))
     page.equal("nothing", [], search(page, "hickory maple"))
-    page.equal("all", 25, len(search(page, "")))
+    page.equal("all", (25, "25 in all"), (len(search(page, "")), page.browser.text(".listed")))
 
 
 def rulers(page: Page) -> list[tuple[str, float]]:
@@ -272,6 +273,23 @@ def try_two_at_once(page: Page) -> None:
         page.holds(f"the card of {title}", page.browser.wait_for(f"{CARD}?.textContent === {json.dumps(title)}"))
 
 
+def try_tie(page: Page) -> None:
+    """Of two maps that differ only in a node that is two, the list and its card show where, as the tools do."""
+    one, two = EXAMPLES / "autauga/all.txt", page.room / "two-nodes.txt"
+    node = b"I030601001   2845007        11"
+    two.write_bytes(one.read_bytes().replace(node, node[:-2] + b"99"))
+    resize(page, LAPTOP)
+    page.show([one, two], LISTED)
+    printed = run([TOOLS, "diff", "--program", page.program, one, two]).out.decode().splitlines()
+    places = [line.strip() for line in printed[printed.index("  one node in the first, 2 in the second:") + 1 :]]
+    page.equal("what the list has", "one node in the first, 2 in the second", page.browser.text(".differences .name"))
+    page.equal("the count", "Joined differently: 1.", page.browser.text(".kinds-box p"))
+    page.holds("the verdict", page.browser.text(".verdict p").startswith("All chains"), page.browser.text(".verdict p"))
+    open_item(page, 1)
+    page.equal("what the card says", "≠ joined differently", page.browser.text(".place-card .kind"))
+    page.equal("its places", places, page.browser.texts(".place-card li"))
+
+
 def try_pieces(page: Page) -> None:
     """A long list is shown in pieces, and printed from its beginning."""
     files = [page.room / "grid.txt", page.room / "other-grid.txt"]
@@ -350,6 +368,7 @@ CASES = (
     try_keys_of_list,
     try_exchange,
     try_two_at_once,
+    try_tie,
     try_pieces,
     try_third,
     try_one_map,
