@@ -90,6 +90,8 @@ def try_saved_comparison(page: Page) -> None:
     page.holds("the saved page compares them", open_page(page, saved), page.browser.text("main"))
     page.equal("the list of the saved page", wanted, items(page))
     page.equal("its verdict", shown, page.browser.text(".verdict"))
+    page.browser.start_again()
+    page.equal("the flag at a new start", False, page.browser.evaluate("document.getElementById('no-sources').checked"))
     page.holds("there are differences", wanted)
 
 

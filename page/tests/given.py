@@ -168,7 +168,7 @@ def try_nothing(page: Page) -> None:
     page.equal("a complaint beside a county", "", page.browser.text("#complaint"))
 
 
-# Keeps the workers that aren't ended. As soon as something is shown it clicks on something, or else has all workers fail.
+# Keeps the workers that aren't ended, and clicks as soon as something is shown.
 STOPPED_AT = """
 const [shown, clicked] = arguments;
 globalThis.workers ??= new Set();
@@ -187,8 +187,7 @@ document.getElementById("announced").textContent = "";
 new MutationObserver((_, observer) => {
   if (!document.querySelector(shown)) return;
   observer.disconnect();
-  if (clicked) document.querySelector(clicked).click();
-  else for (const worker of workers) worker.dispatchEvent(new ErrorEvent("error", { cancelable: true }));
+  document.querySelector(clicked).click();
   document.body.dataset.stopped = `${workers.size} workers`;
 }).observe(document.getElementById("results"), { childList: true, subtree: true, attributes: true });
 """
@@ -251,23 +250,48 @@ def try_stopped(page: Page) -> None:
     page.browser.execute("globalThis.Worker = OwnWorker")
 
 
+# Workers fail at a job, as if the browser had ended them.
+FAILING = """
+const [failing] = arguments;
+globalThis.Worker = class extends (globalThis.OwnWorker ??= Worker) {
+  postMessage(question, ...more) {
+    if (question.job !== failing) super.postMessage(question, ...more);
+    else setTimeout(() => this.dispatchEvent(new ErrorEvent("error", { cancelable: true })));
+  }
+};
+"""
+
+
 def try_failing_workers(page: Page) -> None:
     """If the browser ends the work, for want of memory, that is said in the place of the result."""
-    for files, shown, place in (
-        (TOWN[:1], ".stages .now", ".refusal .line"),
-        (TOWN, ".verdict .stages", ".verdict .line"),
-        (TOWN, ".differences", ".side .actions .line"),
+    other = page.room / "other.txt"
+    other.write_bytes((EXAMPLES / "autauga-renumbered/all.txt").read_bytes())
+    sentence = "The browser ended the work on this, most likely since there wasn't enough memory."
+    for files, job, clicked, place in (
+        (TOWN[:1], "judge", "", ".refusal .line"),
+        (TOWN, "compareTexts", "", ".verdict .line"),
+        (TOWN, "list", "", ".side .actions .line"),
+        (TOWN, "details", ".differences button", ".side .actions .line"),
+        (TOWN, "saveDifferences", ".side .actions .main", ".side .actions .line"),
+        (TOWN, "numbersOf", "", ".list > .quiet"),
+        ([AUTAUGA, other], "compareFiles", "", ".ways .line"),
+        ([*TOWN, AUTAUGA], "judgeOfMany", "", ".counties td:nth-child(3)"),
     ):
         page.browser.start_again()
-        page.browser.execute(STOPPED_AT, shown, "")
+        page.browser.execute(FAILING, job)
         page.browser.give(files)
-        page.browser.wait_for(f"document.querySelector('{place}')")
-        sentence = "The browser ended the work on this, most likely since there wasn't enough memory."
-        page.equal(f"what is said at {place}", sentence, page.browser.text(place))
+        if clicked:
+            page.browser.wait_for(f"document.querySelector('{clicked}')")
+            page.browser.click(clicked)
+        page.browser.wait_for(f"document.querySelector('{place}')?.textContent")
+        page.holds(f"what is said of {job}", page.browser.text(place).endswith(sentence), page.browser.text("main"))
+        page.equal("buttons that stay disabled", [], page.browser.texts("main button:disabled:not(.many *)"))
     page.browser.execute("globalThis.Worker = OwnWorker")
 
 
-STARTED = "['start', 'again'].map((id) => document.getElementById(id).hidden).concat(document.activeElement.id)"
+STARTED = (
+    "['start', 'again'].map((id) => document.getElementById(id).hidden).concat(document.activeElement.id, document.body.className)"
+)
 
 
 def try_examples(page: Page) -> None:
@@ -281,14 +305,15 @@ def try_examples(page: Page) -> None:
         ("broken", ".refusal .line code", refused, ["broken.txt"]),
     ):
         page.browser.start_again()
-        page.equal("the start page", [False, True, "choose-files"], page.browser.evaluate(STARTED))
+        page.equal("the start page", [False, True, "choose-files", "at-start"], page.browser.evaluate(STARTED))
         page.browser.click(f"[data-example={name}]")
         page.browser.wait_for(f"document.querySelector('{selector}')")
         page.equal(
             f"the example {name}", wanted, page.browser.evaluate("document.querySelector(arguments[0])?.textContent", selector)
         )
         page.equal(f"the names of {name}", names, page.browser.texts(".card h2 bdi, .sets .name"))
-        page.equal("what is hidden behind the start page", [True, False, "results"], page.browser.evaluate(STARTED))
+        layout = "one-screen" if len(names) == 2 else ""
+        page.equal("what is hidden behind the start page", [True, False, "results", layout], page.browser.evaluate(STARTED))
 
 
 CHOSEN = """
@@ -333,10 +358,12 @@ def try_choosing(page: Page) -> None:
 
 
 STAGES = """
-window.stages = [];
+Object.assign(window, { stages: [], far: [] });
 new MutationObserver(() => {
   const items = [...document.querySelectorAll('.stages li')], now = items.find((item) => item.className === 'now');
   const told = JSON.stringify([items.map((item) => item.textContent), items.filter((item) => item.className === 'past').length, now?.textContent, now?.ariaCurrent]);
+  const [bar, far] = ['progress', '.far'].map((each) => document.querySelector(`.stages ${each}`));
+  if (now) window.far.push([far.textContent !== '', bar.position >= 0]);
   if (now && stages.at(-1) !== told) stages.push(told);
 }).observe(document.getElementById('results'), { childList: true, subtree: true, attributes: true });
 """
@@ -357,6 +384,10 @@ def try_stages(page: Page) -> None:
         wanted = [[names, names.index(now), now, "step"] for _, _, now, _ in found]
         page.equal(f"what is shown at the stages of {file.name}", wanted, found)
         page.equal(f"their order for {file.name}", sorted(found, key=lambda each: each[1]), found)
+        far = page.browser.evaluate("far")
+        page.holds(
+            f"how far it is, in words and as a bar: {file.name}", [True, True] in far and all(text == bar for text, bar in far), far
+        )
     page.show([EXAMPLES / "autauga/all.txt", zip_file], VERDICT)
 
 

@@ -53,6 +53,8 @@ def try_one(page: Page) -> None:
     page.holds(
         "a note on missing files", "no .RT2 .RT4 .RT5 .RT6 .RT7 .RT8" in page.browser.text(".note"), page.browser.text("main")
     )
+    why = "If a missing file belongs to the county, this is another map, with another fingerprint."
+    page.equal("and what it means", [why], page.browser.texts(".note p")[1:])
 
 
 def try_masks(page: Page) -> None:
@@ -92,12 +94,33 @@ def try_refusals(page: Page) -> None:
     page.holds(
         "the text of the page on refusals", page.browser.text(".guide").startswith(section[:40]), page.browser.text(".guide")
     )
+    page.equal(
+        "what is said of it",
+        ["A right value:        500, digits, with blanks or zeros around them."],
+        page.browser.evaluate("[...document.querySelectorAll('.refusal .right')].map((each) => each.textContent)"),
+    )
+    marked = page.room / "marked.txt"
+    marked.write_bytes(b"\xef\xbb\xbf" + broken.read_bytes())
+    page.show([marked])
+    advice = [
+        "A right value: one of 1 2 4 5 6 7 8 I P.",
+        "Look at this: the file begins with a byte order mark: remove its first three bytes.",
+    ]
+    page.equal("advice", advice, page.browser.texts(".refusal .right"))
+
+
+def try_refused_lines(page: Page) -> None:
+    """Each example of a refusal is shown with its lines, below the numbers of their columns."""
     for path in sorted((EXAMPLES / "refused").glob("*.txt")):
         page.show([path])
         page.equal(path.name, page.printed("check", path), page.browser.text(".refusal .line code"))
         page.holds(f"{path.name} shows a line", page.browser.texts(".columns mark"), page.browser.text(".refusal"))
-        lines = {line.rstrip() for line in path.read_text("latin-1").split("\n")}
         shown = page.browser.evaluate("[...document.querySelectorAll('.columns .text')].map((each) => each.textContent)")
+        rulers = page.browser.evaluate("[...document.querySelectorAll('.columns .ruler-line')].map((each) => each.textContent)")
+        tens = "".join(f"{number:·>10}" for number in range(10, 250, 10))
+        wanted = [tens[: max(10, len(text.rstrip("…")))] for text in shown]
+        page.equal(f"{path.name}: the rulers above its lines", wanted, rulers)
+        lines = {line.rstrip() for line in path.read_text("latin-1").split("\n")}
         page.equal(
             f"{path.name}: what is shown as its lines",
             [],
@@ -235,5 +258,5 @@ def try_names(page: Page) -> None:
         page.holds("an announcement", page.browser.wait_for("document.getElementById('announced').textContent"))
 
 
-IN_FIREFOX = (try_one, try_masks, try_refusals, try_same, try_different, try_names, try_network)
+IN_FIREFOX = (try_one, try_masks, try_refusals, try_refused_lines, try_same, try_different, try_names, try_network)
 CASES = (try_large, *IN_FIREFOX)
