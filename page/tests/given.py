@@ -361,10 +361,10 @@ STAGES = """
 Object.assign(window, { stages: [], far: [] });
 new MutationObserver(() => {
   const items = [...document.querySelectorAll('.stages li')], now = items.find((item) => item.className === 'now');
-  const told = JSON.stringify([items.map((item) => item.textContent), items.filter((item) => item.className === 'past').length, now?.textContent, now?.ariaCurrent]);
+  const stage = JSON.stringify([items.map((item) => item.textContent), items.filter((item) => item.className === 'past').length, now?.textContent, now?.ariaCurrent]);
   const [bar, far] = ['progress', '.far'].map((each) => document.querySelector(`.stages ${each}`));
   if (now) window.far.push([far.textContent !== '', bar.position >= 0]);
-  if (now && stages.at(-1) !== told) stages.push(told);
+  if (now && stages.at(-1) !== stage) stages.push(stage);
 }).observe(document.getElementById('results'), { childList: true, subtree: true, attributes: true });
 """
 

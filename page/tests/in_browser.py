@@ -99,8 +99,12 @@ def try_refusals(page: Page) -> None:
         ["A right value:        500, digits, with blanks or zeros around them."],
         page.browser.evaluate("[...document.querySelectorAll('.refusal .right')].map((each) => each.textContent)"),
     )
+
+
+def try_advice(page: Page) -> None:
+    """Advice about a mark at the beginning of a file follows what a right value is."""
     marked = page.room / "marked.txt"
-    marked.write_bytes(b"\xef\xbb\xbf" + broken.read_bytes())
+    marked.write_bytes(b"\xef\xbb\xbf" + (EXAMPLES / "broken.txt").read_bytes())
     page.show([marked])
     advice = [
         "A right value: one of 1 2 4 5 6 7 8 I P.",
@@ -258,5 +262,5 @@ def try_names(page: Page) -> None:
         page.holds("an announcement", page.browser.wait_for("document.getElementById('announced').textContent"))
 
 
-IN_FIREFOX = (try_one, try_masks, try_refusals, try_refused_lines, try_same, try_different, try_names, try_network)
+IN_FIREFOX = (try_one, try_masks, try_refusals, try_advice, try_refused_lines, try_same, try_different, try_names, try_network)
 CASES = (try_large, *IN_FIREFOX)
