@@ -4,7 +4,7 @@ from __future__ import annotations
 
 import json
 import re
-from typing import Any, Callable
+from typing import Any
 
 from dev.testing import make_county, run
 from in_browser import EXAMPLES, TOOLS, VERDICT, Page
