@@ -355,6 +355,8 @@ def try_choosing(page: Page) -> None:
     page.browser.wait_for(VERDICT)
     page.equal("two counties in place of one", ["broken.txt", "second.txt"], page.browser.texts(".card h2 bdi"))
     page.equal("nothing is said of the one", "", page.browser.text("#notice"))
+    page.browser.start_again()
+    click_button(page, "Choose files")  # so that what is given next isn't added to a county
 
 
 STAGES = """
