@@ -22,7 +22,7 @@ pub use Rattle.canonical_form.proofs.Numbering.NewNumbers.{key_seen, key_unseen,
 pub use Rattle.canonical_form.proofs.Numbering.SeenKeys.{place_found}
 pub use Rattle.canonical_form.proofs.Unique.SameNames.{name_key_keys}
 pub use Rattle.canonical_form.proofs.Views.ArrangedViews.{whole_arrangement}
-pub use Rattle.canonical_form.proofs.Views.DirectedChains.{among-get, feats_placed}
+pub use Rattle.canonical_form.proofs.Views.DirectedChains.{feats_placed}
 pub use Rattle.canonical_form.proofs.Views.ViewChains.{arranges, bodies_read, chains, chains_arranged_by, numbered_past, numbered_there, read_length, read_nowhere, read_there, tlids_arranged_by, values}
 pub use Rattle.canonical_form.specs.Arrangement.{Arrangement, arranged_tlids, landmarks_in_order, names_in_order, nodes_in_order, placed, polygons_in_order, renaming_of, turned_tlids, under_cenid}
 pub use Rattle.canonical_form.specs.ByNumber.{under_number}
@@ -49,7 +49,7 @@ pub use Rattle.county_chart.specs.declared.directed_chain.DirectedChain.{Directe
 pub use Rattle.ordered_lists.proofs.ByKey.KeyedLists.{in_order-filter, in_order-from_sorted}
 pub use Rattle.ordered_lists.proofs.ByKey.Keys.{IsApart, IsKeyOrder, Known, apart-permutation, apart_from_sorted, nat_keys, times-append}
 pub use Rattle.ordered_lists.proofs.ByKey.Numbers.{distinct-in_order}
-pub use Rattle.ordered_lists.proofs.Lists.Among.{all_among}
+pub use Rattle.ordered_lists.proofs.Lists.Among.{all_among, among-get}
 pub use Rattle.ordered_lists.proofs.Lists.AtPlaces.{all_at_places}
 pub use Rattle.ordered_lists.proofs.Lists.Distinct.{has_repeat-apart}
 pub use Rattle.ordered_lists.proofs.Lists.Elements.{all_map, all_weaker, flat_map-map, map-map}

@@ -7,7 +7,7 @@ pub use Rattle.canonical_form.proofs.Lists.Counting.{places_from_decide}
 pub use Rattle.canonical_form.proofs.Lists.ListPlaces.{get_dropped, get_taken, length_headed, lone, map-append, parted, some-same, then_assoc}
 pub use Rattle.canonical_form.proofs.Packing.PackedCounty.{packed_county}
 pub use Rattle.canonical_form.proofs.Unique.SameNumbers.{kept_entry}
-pub use Rattle.canonical_form.proofs.Views.ChainPlaces.{ChainThere, all_at, chain_there, ends_at, few_inner, first_at, inner_at, last_at, part_of, some_at}
+pub use Rattle.canonical_form.proofs.Views.ChainPlaces.{ChainThere, chain_there, ends_at, few_inner, first_at, inner_at, last_at, part_of}
 pub use Rattle.canonical_form.proofs.Views.ViewChains.{arranges, bodies_read, chains, chains_arranged_by, read_there}
 pub use Rattle.canonical_form.specs.Arrangement.{arranged_tlids, placed, renaming_of}
 pub use Rattle.canonical_form.specs.ByNumber.{entry_polyid, polygons_by_number}
@@ -28,7 +28,7 @@ pub use Rattle.county_chart.specs.PolygonKeys.{PolygonKey}
 pub use Rattle.county_chart.specs.Renumbering.{AreSame}
 pub use Rattle.county_chart.specs.declared.directed_chain.DirectedChain.{DirectedChain}
 pub use Rattle.ordered_lists.proofs.ByKey.Numbers.{all-in_order, length-in_order}
-pub use Rattle.ordered_lists.proofs.Lists.ByPlace.{same_next}
+pub use Rattle.ordered_lists.proofs.Lists.ByPlace.{all-get, same_next, some_at}
 pub use Rattle.ordered_lists.proofs.Lists.Counted.{all_drop, all_take}
 pub use Rattle.ordered_lists.proofs.Lists.Elements.{all_append, all_left, all_right, all_unmap, all_weaker}
 pub use Rattle.ordered_lists.proofs.Lists.InOrder.{in_order-in_order}

@@ -36,8 +36,7 @@ pub use Rattle.canonical_form.proofs.Unique.SameLandmarks.{landmark_key_keys}
 pub use Rattle.canonical_form.proofs.Unique.SameNames.{name_key_keys}
 pub use Rattle.canonical_form.proofs.Unique.SameNumbers.{kept_entry}
 pub use Rattle.canonical_form.proofs.Views.ArrangedViews.{whole_arrangement}
-pub use Rattle.canonical_form.proofs.Views.ChainPlaces.{some_at}
-pub use Rattle.canonical_form.proofs.Views.DirectedChains.{among-get, one_here}
+pub use Rattle.canonical_form.proofs.Views.DirectedChains.{one_here}
 pub use Rattle.canonical_form.proofs.Views.ViewChains.{arranges, bodies_read, chains, read_length}
 pub use Rattle.canonical_form.specs.ArrangedCounty.{IsArranged, IsTidy, entry_points}
 pub use Rattle.canonical_form.specs.Arrangement.{Arrangement, Arranges, arranged, ascending, comes_turned, entries_of, entry_shape, landmarks_in_order, links_relinked, names_in_order, placed, polygons_in_order, relinked, renaming_of, under_cenid}
@@ -81,9 +80,9 @@ pub use Rattle.ordered_lists.proofs.ByKey.KeyOrders.{bytes_keys, lists_keys, the
 pub use Rattle.ordered_lists.proofs.ByKey.KeyedLists.{in_order-filter}
 pub use Rattle.ordered_lists.proofs.ByKey.Keys.{IsApart, IsKeyOrder, Known, all_known, apart-filter, apart-permutation, apart_from_sorted, apart_tail, contains-filter, differ, differ_apart, filter_all, images-lefts, known-append, known-here, known-later, known-left, known-permutation, known-right, known_all, known_cases, nat_keys, order_antisymm, order_itself, same-itself, same-true, same_or_not, times-append, times-filter, times-no, times-permutation, times-yes}
 pub use Rattle.ordered_lists.proofs.ByKey.Numbers.{all-in_order, all_themselves, count-map, distinct-in_order, each_from, from_in_order, length-in_order}
-pub use Rattle.ordered_lists.proofs.Lists.Among.{Among, all_among, among_right}
+pub use Rattle.ordered_lists.proofs.Lists.Among.{Among, all_among, among-get, among_right}
 pub use Rattle.ordered_lists.proofs.Lists.AtPlaces.{map-at_places}
-pub use Rattle.ordered_lists.proofs.Lists.ByPlace.{all_at}
+pub use Rattle.ordered_lists.proofs.Lists.ByPlace.{all_at, some_at}
 pub use Rattle.ordered_lists.proofs.Lists.Counted.{all_take, filter-agree}
 pub use Rattle.ordered_lists.proofs.Lists.Elements.{all_append, all_both, all_everywhere, all_filter, all_left, all_map, all_pieces, all_right, all_unmap, all_weaker, flat_map-map, flat_map_agree, map-map, map_agree_all}
 pub use Rattle.ordered_lists.proofs.Lists.EntryLists.{in_order-strict}

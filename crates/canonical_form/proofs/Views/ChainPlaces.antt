@@ -1,17 +1,7 @@
 -- The chain at a place of a county within its limits.
-use Rattle.canonical_form.proofs.Common.{AllByRecursion, Chain, Coordinates, County, FitsNumbers, IfSome, IsCounty, IsNumber, IsNumberOrNone, IsWithinLimits, List, ListsFit, None, Option, Some, [], ap, arith, chain_at, first_point, inner_points, last_point, length, most_records, most_shape_points, option_map, points_of, refl, slice_get, slice_get-map, subst, suc, sym, tlids, without_last, zero, ℕ, ◌+◌, ◌-◌, ◌<◌, ◌∙◌, ◌∷◌, ◌≡◌, ◌≤◌}
+use Rattle.canonical_form.proofs.Common.{Chain, Coordinates, County, FitsNumbers, IfSome, IsCounty, IsNumber, IsNumberOrNone, IsWithinLimits, List, ListsFit, None, Option, Some, [], ap, arith, chain_at, first_point, inner_points, last_point, length, most_records, most_shape_points, option_map, points_of, refl, slice_get, slice_get-map, subst, suc, sym, tlids, without_last, zero, ℕ, ◌+◌, ◌-◌, ◌<◌, ◌∙◌, ◌∷◌, ◌≡◌, ◌≤◌}
+use Rattle.ordered_lists.proofs.Lists.ByPlace.{all-get, some_at}
 use Rattle.canonical_form.proofs.Lists.ListPlaces.{some-same}
-
--- a property of all elements of a list is a property of the element at a place
-pub all_at : {X : Type 0} (P : X → Type 0) (xs : List X) (place : ℕ) (x : X) → AllByRecursion P xs → slice_get xs place ≡ Some x → P x
-all_at P [] place x a e = cc
-all_at P (y ∷ ys) zero x a e = let same : y ≡ x = cc in subst P same a.0
-all_at P (y ∷ ys) (suc place) x a e = all_at P ys place x a.1 e
-
-pub some_at : {X : Type 0} (xs : List X) (place : ℕ) → place < length xs → (x : X) × (slice_get xs place ≡ Some x)
-some_at [] place h = absurd (omega (arith, h))
-some_at (x ∷ xs) zero h = (x, refl)
-some_at (x ∷ xs) (suc place) h = some_at xs place (omega (arith, h))
 
 pub record ChainThere (county : County) (place : ℕ) : Type 0 where
   pub entry : ℕ × Chain
@@ -32,10 +22,10 @@ chain_there county is within place h =
       get = at.1;
       tlid = slice_get-map (λ (e : ℕ × Chain). e.0) county.chains place ∙ ap (option_map (λ (e : ℕ × Chain). e.0)) at.1;
       chain = slice_get-map (λ (e : ℕ × Chain). e.1) county.chains place ∙ ap (option_map (λ (e : ℕ × Chain). e.1)) at.1;
-      two = all_at (λ (e : ℕ × Chain). 2 ≤ length e.1.points) county.chains place at.0 is.whole.points at.1;
-      is_number = all_at (λ (e : ℕ × Chain). IsNumber 10 e.0) county.chains place at.0 within.numbers.chains at.1;
-      named = all_at (λ (e : ℕ × Chain). FitsNumbers e.1) county.chains place at.0 within.numbers.named at.1;
-      lists = all_at (λ (e : ℕ × Chain). ListsFit e.1) county.chains place at.0 within.lists at.1;
+      two = all-get (λ (e : ℕ × Chain). 2 ≤ length e.1.points) county.chains place at.0 is.whole.points at.1;
+      is_number = all-get (λ (e : ℕ × Chain). IsNumber 10 e.0) county.chains place at.0 within.numbers.chains at.1;
+      named = all-get (λ (e : ℕ × Chain). FitsNumbers e.1) county.chains place at.0 within.numbers.named at.1;
+      lists = all-get (λ (e : ℕ × Chain). ListsFit e.1) county.chains place at.0 within.lists at.1;
     }
 
 -- the ends of a chain, and the points between them
@@ -87,7 +77,7 @@ few_inner county within place k h = go (slice_get county.chains place) refl
     go (Some entry) e = omega (
       arith,
       subst (λ c. k < length (inner_points (points_of c))) (chain_is (Some entry) e) h,
-      (all_at (λ (e : ℕ × Chain). ListsFit e.1) county.chains place entry within.lists e).points,
+      (all-get (λ (e : ℕ × Chain). ListsFit e.1) county.chains place entry within.lists e).points,
     )
 
 -- a part read of the chain at a place is its part

@@ -1,13 +1,8 @@
 -- The chains of an arrangement given by directed chains are those at their places.
-use Rattle.canonical_form.proofs.Common.{Among, Arrangement, Chain, County, DirectedChain, HasChainsOf, IsCounty, List, None, Option, Some, [], ap, apart_from_sorted, append-nil, ap₂, arith, arrangement_of, chain_at, directed_chain, entries_of, eq-eqb, feats_of, flat_map, flat_map-append, flat_map_agree, get_or_from_slice_get, inl, inr, length, map, nat_keys, numbered_from, option_map, placed, refl, rights-numbered_from, slice_get, slice_get-map, suc, sym, times-of_number, tlid_at, tlids, to_filter, turned_if, zero, ℕ, ◌++◌, ◌<◌, ◌==◌, ◌∙◌, ◌∷◌, ◌≡◌, ◌≤◌, ◌⊎◌}
+use Rattle.canonical_form.proofs.Common.{Among, Arrangement, Chain, County, DirectedChain, HasChainsOf, IsCounty, List, None, Option, Some, [], ap, apart_from_sorted, append-nil, ap₂, arith, arrangement_of, chain_at, directed_chain, entries_of, eq-eqb, feats_of, flat_map, flat_map-append, flat_map_agree, get_or_from_slice_get, inl, inr, length, map, nat_keys, numbered_from, option_map, placed, refl, rights-numbered_from, slice_get, slice_get-map, sym, times-of_number, tlid_at, tlids, to_filter, turned_if, ℕ, ◌++◌, ◌<◌, ◌==◌, ◌∙◌, ◌∷◌, ◌≡◌, ◌≤◌, ◌⊎◌}
+use Rattle.ordered_lists.proofs.Lists.Among.{among-get}
 use Rattle.ordered_lists.proofs.Lists.Elements.{flat_map-map}
-use Rattle.canonical_form.proofs.Views.ChainPlaces.{some_at}
-
--- the element at a place is in the list
-pub among-get : {X : Type 0} (xs : List X) (i : ℕ) (x : X) → slice_get xs i ≡ Some x → Among x xs
-among-get [] i x e = cc
-among-get (y ∷ ys) zero x e = let t : x ≡ y = cc in inl t
-among-get (y ∷ ys) (suc i) x e = inr (among-get ys i x e)
+use Rattle.ordered_lists.proofs.Lists.ByPlace.{some_at}
 
 alone : {X : Type 0} (x : X) (xs : List X) → Among x xs → length xs ≤ 1 → xs ≡ x ∷ []
 alone x [] m h = absurd m

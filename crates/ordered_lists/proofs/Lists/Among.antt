@@ -1,5 +1,5 @@
 -- Elements that are in a list.
-use Rattle.std.proofs.Common.{List, Ordering, [], ap, arith, false, inl, inr, is_eq, map, subst, sym, ◌++◌, ◌∷◌, ◌≡◌, ◌⊎◌}
+use Rattle.std.proofs.Common.{List, Ordering, Some, [], ap, arith, false, inl, inr, is_eq, map, slice_get, subst, suc, sym, zero, ℕ, ◌++◌, ◌∷◌, ◌≡◌, ◌⊎◌}
 use Rattle.std.specs.List.{AllByRecursion}
 use Rattle.ordered_lists.proofs.ByKey.Keys.{IsKeyOrder, Known, known_cases}
 
@@ -12,6 +12,12 @@ pub all_among : {X : Type 0} (P : X → Type 0) (x : X) (ys : List X) → AllByR
 all_among P x [] a h = absurd h
 all_among P x (y ∷ ys) a (inl e) = subst P (sym e) a.0
 all_among P x (y ∷ ys) a (inr h) = all_among P x ys a.1 h
+
+-- the element at a place is in the list
+pub among-get : {X : Type 0} (xs : List X) (i : ℕ) (x : X) → slice_get xs i ≡ Some x → Among x xs
+among-get [] i x e = cc
+among-get (y ∷ ys) zero x e = let t : x ≡ y = cc in inl t
+among-get (y ∷ ys) (suc i) x e = inr (among-get ys i x e)
 
 pub among_left : {X : Type 0} (x : X) (ys zs : List X) → Among x ys → Among x (ys ++ zs)
 among_left x [] zs h = absurd h

@@ -1,5 +1,5 @@
 -- Lists that are read place by place, and tests that decide a property.
-use Rattle.ordered_lists.proofs.Common.{AllByRecursion, AllWithin, Bool, Decides, HoldsAt, IfSome, IsInOrder, IsPermutation, IsPermutation-sym, IsPermutation-trans, List, MatchBool, Ordering, [], add-one, ap, arith, false, false≢true, get_or-range_with_len, in_order, length, length-range_with_len, range_with_len, refl, slice_get, subst, suc, sym, take, take_all, true, zero, zero-add, ℕ, ◌+◌, ◌<◌, ◌∙◌, ◌∷◌, ◌≡◌, ◌≤◌}
+use Rattle.ordered_lists.proofs.Common.{AllByRecursion, AllWithin, Bool, Decides, HoldsAt, IfSome, IsInOrder, IsPermutation, IsPermutation-sym, IsPermutation-trans, List, MatchBool, Ordering, Some, [], add-one, ap, arith, false, false≢true, get_or-range_with_len, in_order, length, length-range_with_len, range_with_len, refl, slice_get, subst, suc, sym, take, take_all, true, zero, zero-add, ℕ, ◌+◌, ◌<◌, ◌∙◌, ◌∷◌, ◌≡◌, ◌≤◌}
 use Rattle.ordered_lists.proofs.Lists.InOrder.{in_order-in_order, in_order-permutation}
 use Rattle.ordered_lists.proofs.ByKey.Keys.{IsKeyOrder}
 use Rattle.ordered_lists.proofs.Lists.Permutations.{in_order-is_permutation}
@@ -19,6 +19,12 @@ decides_over b x x' y y' p q d = (λ t. sym p ∙ d.0 t ∙ q, λ e. d.1 (p ∙ 
 pub taken_all : {X : Type 0} (xs ys : List X) (i n : ℕ) → ys ≡ take i xs → length xs ≡ n → n ≤ i → ys ≡ xs
 taken_all xs ys i n e l h = e ∙ take_all i xs (omega (arith, l, h))
 
+-- at a place below the length there is an element
+pub some_at : {X : Type 0} (xs : List X) (place : ℕ) → place < length xs → (x : X) × (slice_get xs place ≡ Some x)
+some_at [] place h = absurd (omega (arith, h))
+some_at (x ∷ xs) zero h = (x, refl)
+some_at (x ∷ xs) (suc place) h = some_at xs place (omega (arith, h))
+
 -- a property of the elements at all places
 module _ {X : Type 0} (P : X → Type 0) where
   pub all_by_place : (xs : List X) → ((i : ℕ) → i < length xs → IfSome (slice_get xs i) P) → AllByRecursion P xs
@@ -29,6 +35,10 @@ module _ {X : Type 0} (P : X → Type 0) where
   all_at [] a i = tt
   all_at (x ∷ xs) a zero = a.0
   all_at (x ∷ xs) a (suc i) = all_at xs a.1 i
+
+  -- a property of all elements is one of the element found at a place
+  pub all-get : (xs : List X) (place : ℕ) (x : X) → AllByRecursion P xs → slice_get xs place ≡ Some x → P x
+  all-get xs place x a e = subst (λ found. IfSome found P) e (all_at xs a place)
 
   -- what a search of all places for one without the property says of all elements
   pub places_decide : (xs : List X) (n : ℕ) → length xs ≡ n → (r : Bool) → MatchBool r

@@ -1,5 +1,5 @@
 -- The name, the landmark and the polygon at a place of a county within its limits.
-use Rattle.record_groups.proofs.Common.{AllByRecursion, Body5, Body7, BodyP, County, IsNumber, IsText, IsWithinLimits, List, Option, PolygonKey, Some, all-in_order, all_at, ap, entry_polyid, entry_values, group_at, length, length-in_order, length-map, map, most_records, nat_cmp, on, option_map, option_to_list, packed_p, polygons_by_number, slice_get, slice_get-map, some_at, subst, sym, type_p_by_number, ℕ, ◌<◌, ◌∙◌, ◌≡◌}
+use Rattle.record_groups.proofs.Common.{AllByRecursion, Body5, Body7, BodyP, County, IsNumber, IsText, IsWithinLimits, List, Option, PolygonKey, Some, all-get, all-in_order, ap, entry_polyid, entry_values, group_at, length, length-in_order, length-map, map, most_records, nat_cmp, on, option_map, option_to_list, packed_p, polygons_by_number, slice_get, slice_get-map, some_at, subst, sym, type_p_by_number, ℕ, ◌<◌, ◌∙◌, ◌≡◌}
 use Rattle.record_groups.proofs.Records.Grouped.{group_of}
 
 -- the entry at a place, with its number and its value
@@ -19,7 +19,7 @@ entry_of_group {V} width entries fit place f h =
       get = at.1;
       number = slice_get-map (λ (e : ℕ × V). e.0) entries place ∙ ap (option_map (λ (e : ℕ × V). e.0)) at.1;
       value = slice_get-map (λ (e : ℕ × V). e.1) entries place ∙ ap (option_map (λ (e : ℕ × V). e.1)) at.1;
-      is_number = all_at (λ (e : ℕ × V). IsNumber width e.0) entries place at.0 fit at.1;
+      is_number = all-get (λ (e : ℕ × V). IsNumber width e.0) entries place at.0 fit at.1;
     }
 
 module _ (county : County) (within : IsWithinLimits most_records county) (place : ℕ) where
@@ -34,10 +34,10 @@ module _ (county : County) (within : IsWithinLimits most_records county) (place 
   pub polygon_fits : (entry : PolygonKey × Option BodyP) → slice_get (polygons_by_number county) place ≡ Some entry
       → IsText 5 entry.0.0 × IsNumber 10 entry.0.1
   polygon_fits entry e = (
-    all_at (λ (e : PolygonKey × Option BodyP). IsText 5 e.0.0) (polygons_by_number county) place entry
+    all-get (λ (e : PolygonKey × Option BodyP). IsText 5 e.0.0) (polygons_by_number county) place entry
         (all-in_order (λ (e : PolygonKey × Option BodyP). IsText 5 e.0.0) (on entry_polyid nat_cmp) county.polygons within.contents.cenids)
         e,
-    all_at (λ (e : PolygonKey × Option BodyP). IsNumber 10 e.0.1) (polygons_by_number county) place entry
+    all-get (λ (e : PolygonKey × Option BodyP). IsNumber 10 e.0.1) (polygons_by_number county) place entry
         (all-in_order (λ (e : PolygonKey × Option BodyP). IsNumber 10 e.0.1) (on entry_polyid nat_cmp) county.polygons
         within.numbers.polygons) e,
   )

@@ -2,13 +2,13 @@ use Rattle.std.proofs.Common.{List, [], arith, get_or, length, ℕ, ◌*◌, ◌
 use Rattle.county_chart.specs.Choices.{most_choices}
 use Rattle.std.specs.List.{AllByRecursion}
 use Rattle.std.proofs.lemmas.Option.{slice_get-get_or}
-use Rattle.canonical_form.proofs.Views.ChainPlaces.{all_at}
+use Rattle.ordered_lists.proofs.Lists.ByPlace.{all-get}
 use Rattle.tl_number.proofs.type_1_choices.combine.Goals as goal
 
 -- a digit and each of the numbers make up a number below the most choices
 few_at : (ways : ℕ) (digits numbers : List ℕ) → AllByRecursion (λ digit. AllByRecursion (λ number. digit * ways + number < most_choices) numbers) digits
     → (i : ℕ) → i < length digits → AllByRecursion (λ number. get_or digits i 0 * ways + number < most_choices) numbers
-few_at ways digits numbers few i l = all_at (λ digit. AllByRecursion (λ number. digit * ways + number < most_choices) numbers) digits i (get_or digits i 0) few
+few_at ways digits numbers few i l = all-get (λ digit. AllByRecursion (λ number. digit * ways + number < most_choices) numbers) digits i (get_or digits i 0) few
     (slice_get-get_or digits i 0 l)
 
 -- so the digit itself does

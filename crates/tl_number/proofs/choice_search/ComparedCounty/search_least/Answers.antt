@@ -1,5 +1,5 @@
 use Rattle.tl_number.proofs.Common.{AllByRecursion, Equal, IfSome, IsChosen, Some, ap, arith, arranged_county, choices_cmp, chosen_county, cond, false, get_or, is_gt, lesser_choice, ones_cmp, slice_get, slice_get-get_or, subst, sym, take, true, ◌+◌, ◌∙◌, ◌≡◌}
-use Rattle.canonical_form.proofs.Views.ChainPlaces.{all_at}
+use Rattle.ordered_lists.proofs.Lists.ByPlace.{all-get}
 use Rattle.tl_number.specs.LeastOnes.{IsLeastAmong}
 use Rattle.tl_number.proofs.Choices.ChoiceSteps.{greater_from, lesser_least, not_greater_from}
 use Rattle.tl_number.proofs.Choices.LeastNumbers.{first_among}
@@ -15,7 +15,7 @@ loop-place-init g c =
       chosen = c.in_ok-least.ensures.chosen;
       least = subst (IsLeastAmong county (take 1 numbers)) (sym c.in_ok-least.ensures.number) (first_among county numbers c.requires.some);
       tied = subst (λ n. AllByRecursion (λ m. ones_cmp county n m ≡ Equal) numbers) (sym c.in_ok-least.ensures.number)
-          (all_at (λ n. AllByRecursion (λ m. ones_cmp county n m ≡ Equal) numbers) numbers 0 (get_or numbers 0 0) c.requires.ones
+          (all-get (λ n. AllByRecursion (λ m. ones_cmp county n m ≡ Equal) numbers) numbers 0 (get_or numbers 0 0) c.requires.ones
           (slice_get-get_or numbers 0 0 c.requires.some));
       other = c.in_ok-other.ensures.chosen;
       arranged = subst (λ kept. IfSome kept (λ view. arranged_county view ≡ chosen_county county c.in_ok-least.least.number)) (sym c.requires.none) tt;
@@ -65,7 +65,7 @@ loop-place-preserved g c =
       chosen = subst (IsChosen c.args.self.now.shape_order.now) (sym c.swap.ensures.x_after) c.choose_again.ensures.chosen;
       least = subst (IsLeastAmong county (take (place + 1) numbers)) (same ∙ number) (lesser_next g at);
       tied = subst (λ n. AllByRecursion (λ m. ones_cmp county n m ≡ Equal) numbers) number
-          (all_at (λ n. AllByRecursion (λ m. ones_cmp county n m ≡ Equal) numbers) numbers place next c.requires.ones (next_there g at));
+          (all-get (λ n. AllByRecursion (λ m. ones_cmp county n m ≡ Equal) numbers) numbers place next c.requires.ones (next_there g at));
       other = subst (IsChosen c.args.self.now.shape_order.now) (sym c.swap.ensures.y_after) c.loop-place.invariant.chosen;
       arranged = subst (λ n. IfSome c.compare_ties.new.arranged (λ view. arranged_county view ≡ chosen_county county n)) (same ∙ number)
           c.in_ok-ordering.ensures.arranged;
