@@ -12,7 +12,7 @@ mod visiting;
 pub use landmark_link_records::LandmarkLinkRecords;
 pub use polygon_records::PolygonRecords;
 pub use record_groups::{
-    ChainRecords, CountedGroups, HeadBuffers, LandmarkRecords, NameRecords, RecordEq, RecordGroups,
+    ChainRecords, CountedGroups, HeadBuffers, LandmarkRecords, NameRecords, RecordGroups,
     RecordVisitor, SequencedRecord, SequencedRecords, TopologyRecords, read_heads,
 };
 pub use sameness::same_records;

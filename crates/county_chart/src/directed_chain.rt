@@ -8,7 +8,8 @@ ghost use Rattle.tl_layout.specs.Turned.{body_towards};
 ghost use Rattle.tl_layout.specs.Type1Groups.{body_1_texts};
 
 use crate::chart::Chart;
-use crate::listed::{Listed, Same};
+use crate::listed::Listed;
+use crate::same::Same;
 use tl_layout::{Body1, BodyI, Point, Ranges, Side, Turn};
 
 /// A chain of a county in a direction: from its start node to its end node, or turned, from its end node to its start node.
@@ -21,7 +22,7 @@ pub struct DirectedChain {
 }
 
 impl Same for DirectedChain {
-    fn is_same(self, other: DirectedChain) -> bool {
+    fn is_same(&self, other: &DirectedChain) -> bool {
         self == other
     }
 }

@@ -5,116 +5,9 @@ ghost use Rattle.std.specs.Bool.{Decides};
 ghost use Rattle.std.specs.Cmp.Lexicographic.{slice_cmp};
 ghost use Rattle.std.specs.List.{AllByRecursion};
 
+use crate::same::Same;
 use std::alloc::AllocError;
 use std::cmp::Ordering;
-use tl_layout::{Body1, Body5, Body7, BodyI, BodyP, NumberOrNone, Point, Ranges, Side};
-
-/// A value that can be compared with another of its type.
-pub trait Same: Copy + Drop {
-    ghost use Rattle.std.specs.Bool.{Decides};
-    ghost use Rattle.std.specs.Prelude.{◌≡◌};
-
-    /// Checks whether the two values are equal.
-    fn is_same(self, other: Self) -> bool
-        ensures { Decides result (self ≡ other) };
-}
-
-impl Same for u32 {
-    fn is_same(self, other: u32) -> bool {
-        self == other
-    }
-}
-
-impl Same for u64 {
-    fn is_same(self, other: u64) -> bool {
-        self == other
-    }
-}
-
-impl<const N: usize> Same for [u8; N] {
-    fn is_same(self, other: [u8; N]) -> bool {
-        self == other
-    }
-}
-
-impl Same for NumberOrNone {
-    fn is_same(self, other: NumberOrNone) -> bool {
-        self == other
-    }
-}
-
-impl<A: Same, B: Same> Same for (A, B) {
-    fn is_same(self, other: (A, B)) -> bool {
-        self.0.is_same(other.0) && self.1.is_same(other.1)
-    }
-}
-
-impl Same for Point {
-    fn is_same(self, other: Point) -> bool {
-        self == other
-    }
-}
-
-impl Same for Side {
-    fn is_same(self, other: Side) -> bool {
-        self == other
-    }
-}
-
-impl Same for Ranges {
-    fn is_same(self, other: Ranges) -> bool {
-        self == other
-    }
-}
-
-impl Same for Body1 {
-    fn is_same(self, other: Body1) -> bool {
-        self == other
-    }
-}
-
-impl Same for Body5 {
-    fn is_same(self, other: Body5) -> bool {
-        self == other
-    }
-}
-
-/// Checks whether two contents of type 7 records are equal.
-fn are_same_contents(one: &Body7, other: &Body7) -> bool
-    ensures { Decides result (one.now ≡ other.now) }
-{
-    one == other
-}
-
-impl Same for Body7 {
-    fn is_same(self, other: Body7) -> bool {
-        are_same_contents(&self, &other)
-    }
-}
-
-impl Same for BodyI {
-    fn is_same(self, other: BodyI) -> bool {
-        self == other
-    }
-}
-
-impl Same for BodyP {
-    fn is_same(self, other: BodyP) -> bool {
-        self == other
-    }
-}
-
-impl<T: Same> Same for Option<T> {
-    fn is_same(self, other: Option<T>) -> bool {
-        match self {
-            Some(one) => match other {
-                Some(other) => one.is_same(other),
-                None => false,
-            },
-            None => other.is_none(),
-        }
-    }
-}
 
 /// A list that is read by place.
 pub trait Listed {
@@ -173,7 +66,7 @@ where
         return false;
     }
     for place in 0..count {
-        let same = b.item(place).is_same(a.item(place));
+        let same = b.item(place).is_same(&a.item(place));
         if !same {
             return false;
         }

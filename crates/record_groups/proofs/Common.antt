@@ -40,10 +40,9 @@ pub use Rattle.record_groups.specs.Groups.{AreHeads, group_at, grouped, rest_of}
 pub use Rattle.record_groups.specs.RecordOrder.{AreTiedAt, AreTiedBelow, groups_cmp, records_cmp, spelling_cmp, topologies_of}
 pub use Rattle.record_groups.specs.SharedGroups.{HaveSameChains, HaveSameCounts, HaveSameEntries}
 pub use Rattle.record_groups.specs.TypeOneOrder.{one_at, ones_of}
-pub use Rattle.std.proofs.Common.{Bool, Equal, Err, Greater, Less, List, None, Ok, Option, Ordering, Result, Some, [], add-one, ap, append-nil, append_assoc, ap₂, arith, below_more, codes, cond, drop, false, filter, filter_map, flat_map, get_or, inl, inr, is_gt, length, length-append, length-drop, map, min, nat_cmp, nat_eq, nat_lt, option_map, option_to_list, refl, rules, slice_get, subst, suc, sym, take, take-append-drop, true, unwrap_or, zero, ℕ, ◌%◌, ◌&&◌, ◌*◌, ◌++◌, ◌+◌, ◌-◌, ◌/◌, ◌<◌, ◌==◌, ◌^◌, ◌∙◌, ◌∷◌, ◌≡◌, ◌≢◌, ◌≤◌, ◌⊎◌}
+pub use Rattle.std.proofs.Common.{Bool, Equal, Err, Greater, Less, List, None, Ok, Option, Ordering, Result, Some, [], add-one, ap, append-nil, append_assoc, ap₂, arith, below_more, codes, cond, drop, false, filter, filter_map, flat_map, get_or, inl, inr, is_gt, length, length-append, length-drop, map, min, nat_cmp, nat_eq, nat_lt, option_map, option_to_list, refl, rules, slice_get, subst, suc, sym, take, take-append-drop, true, unwrap_or, zero, ℕ, ◌%◌, ◌*◌, ◌++◌, ◌+◌, ◌-◌, ◌/◌, ◌<◌, ◌==◌, ◌^◌, ◌∙◌, ◌∷◌, ◌≡◌, ◌≢◌, ◌≤◌, ◌⊎◌}
 pub use Rattle.std.proofs.Math.Seq.{take-add}
 pub use Rattle.std.proofs.lemmas.Bool.{eqb-false, eqb-true, false≢true, ltb-false, ltb-true}
-pub use Rattle.std.proofs.lemmas.Bool.Decides.{Decides-int_eq}
 pub use Rattle.std.proofs.lemmas.Cmp.{lists_total, nat_cmp_total, nat_list_cmp_total, on_total, ranked, tied_itself, upto}
 pub use Rattle.std.proofs.lemmas.Grind.{div_ceil_times, flat_map-append}
 pub use Rattle.std.proofs.lemmas.Iterator.{YieldsList-from_range, cases_from_all}
@@ -52,13 +51,12 @@ pub use Rattle.std.proofs.lemmas.List.Sorted.{length_permutation}
 pub use Rattle.std.proofs.lemmas.Map.Lookups.{exact_unsigned}
 pub use Rattle.std.proofs.lemmas.Option.{slice_get-get_or, slice_get-map, slice_get_past}
 pub use Rattle.std.proofs.lemmas.Result.{err_from_is_err_and}
-pub use Rattle.std.proofs.lemmas.Slice.Eq.{slice_eq-Decides}
 pub use Rattle.std.specs.Bool.{Decides, if◌then◌else◌}
 pub use Rattle.std.specs.Cmp.{IsTotalOrder, nat_cmp_is}
 pub use Rattle.std.specs.Cmp.Lexicographic.{slice_cmp}
 pub use Rattle.std.specs.List.{AllByRecursion, cons_option, push, range_with_len}
 pub use Rattle.std.specs.Option.{option_cmp}
-pub use Rattle.std.specs.Ordering.{MatchOrdering, int_eq, on, ordering_then}
+pub use Rattle.std.specs.Ordering.{MatchOrdering, on, ordering_then}
 pub use Rattle.tl_layout.specs.Bytes.{IsLine, IsText}
 pub use Rattle.tl_layout.specs.Columns.{joined}
 pub use Rattle.tl_layout.specs.Coordinates.{Coordinates}

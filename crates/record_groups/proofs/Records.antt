@@ -4,7 +4,6 @@ pub mod Grouped
 pub mod Selected
 pub mod PackedGroups
 pub mod EntryPlaces
-pub mod RecordFields
 pub mod RecordPlaces
 pub mod OneAfterAnother
 pub mod GivenGroups

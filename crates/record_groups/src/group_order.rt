@@ -13,8 +13,8 @@ ghost use Rattle.record_groups.specs.RecordOrder.{groups_cmp, records_cmp, spell
 
 use crate::cursor::{Cursor, next};
 use crate::groups::RecordGroups;
-use crate::record_eq::RecordEq;
 use crate::same_groups::is_same_group;
+use county_chart::Same;
 use std::cmp::Ordering;
 use tl_layout::{LONGEST_LINE, Layout, Tabled};
 
@@ -31,7 +31,7 @@ fn compare_lines<L: Layout>(a: &L, b: &L) -> Ordering
 }
 
 /// Compares two records of one type by their canonical spellings, byte by byte. Their lines are only made if the records differ.
-pub fn compare_records<L: RecordEq>(a: &L, b: &L) -> Ordering
+pub fn compare_records<L: Tabled + Same>(a: &L, b: &L) -> Ordering
     ensures { result ≡ spelling_cmp (L.as_record a.now) (L.as_record b.now) }
 {
     if a.is_same(b) {
@@ -41,7 +41,7 @@ pub fn compare_records<L: RecordEq>(a: &L, b: &L) -> Ordering
 }
 
 /// Compares a record with the other one at its place, if there is one.
-fn compare_with<L: RecordEq>(a: &L, b: &Option<L>) -> Ordering
+fn compare_with<L: Tabled + Same>(a: &L, b: &Option<L>) -> Ordering
     ensures { MatchOption b.now (result ≡ Greater) (λ found. result ≡ spelling_cmp (L.as_record a.now) (L.as_record found)) }
 {
     match b {
@@ -51,7 +51,7 @@ fn compare_with<L: RecordEq>(a: &L, b: &Option<L>) -> Ordering
 }
 
 /// Compares records in groups from a group on, record by record. If there are no more on one side, that side is less.
-fn compare_from<L: RecordEq, G: RecordGroups<Item = L>, H: RecordGroups<Item = L>>(
+fn compare_from<L: Tabled + Same, G: RecordGroups<Item = L>, H: RecordGroups<Item = L>>(
     a: &G,
     b: &H,
     group: usize,
@@ -73,7 +73,7 @@ fn compare_from<L: RecordEq, G: RecordGroups<Item = L>, H: RecordGroups<Item = L
 }
 
 /// Compares records in groups, record by record, by their canonical spellings. If there are no more on one side, that side is less.
-pub fn compare_groups<L: RecordEq, G: RecordGroups<Item = L>, H: RecordGroups<Item = L>>(
+pub fn compare_groups<L: Tabled + Same, G: RecordGroups<Item = L>, H: RecordGroups<Item = L>>(
     a: &G,
     b: &H,
 ) -> Ordering

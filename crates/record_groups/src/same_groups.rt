@@ -8,13 +8,12 @@ ghost use Rattle.record_groups.specs.SharedGroups.{HaveSameChains, HaveSameCount
 use crate::chain_records::{ChainRecords, SequencedRecord, SequencedRecords, TopologyRecords};
 use crate::groups::{RecordGroups, read_heads};
 use crate::heads::HeadBuffers;
-use crate::record_eq::RecordEq;
-use county_chart::Chart;
+use county_chart::{Chart, Same};
 use std::marker::PhantomData;
-use tl_layout::{Rec2, Rec4, Rec6};
+use tl_layout::{Rec2, Rec4, Rec6, Tabled};
 
 /// Checks whether a record of a group is the same in both counties.
-fn is_same_record<L: RecordEq, G: RecordGroups<Item = L>, H: RecordGroups<Item = L>>(
+fn is_same_record<L: Tabled + Same, G: RecordGroups<Item = L>, H: RecordGroups<Item = L>>(
     a: &G,
     b: &H,
     group: usize,
@@ -35,7 +34,7 @@ fn is_same_record<L: RecordEq, G: RecordGroups<Item = L>, H: RecordGroups<Item =
 }
 
 /// Checks whether a group that both counties have is the same in both, record by record.
-pub(crate) fn is_same_group<L: RecordEq, G: RecordGroups<Item = L>, H: RecordGroups<Item = L>>(
+pub(crate) fn is_same_group<L: Tabled + Same, G: RecordGroups<Item = L>, H: RecordGroups<Item = L>>(
     a: &G,
     b: &H,
     group: usize,
@@ -54,7 +53,7 @@ pub(crate) fn is_same_group<L: RecordEq, G: RecordGroups<Item = L>, H: RecordGro
 }
 
 /// Checks whether the groups with these heads, from one group on, are the same in both counties.
-fn are_same_headed<L: RecordEq, G: RecordGroups<Item = L>, H: RecordGroups<Item = L>>(
+fn are_same_headed<L: Tabled + Same, G: RecordGroups<Item = L>, H: RecordGroups<Item = L>>(
     a: &G,
     b: &H,
     first: usize,
@@ -80,7 +79,7 @@ fn are_same_headed<L: RecordEq, G: RecordGroups<Item = L>, H: RecordGroups<Item 
 }
 
 /// Checks whether records are in the same groups, group by group. The heads are read into buffers of the same size, which is above 0.
-pub fn are_same_groups<L: RecordEq, G: RecordGroups<Item = L>, H: RecordGroups<Item = L>>(
+pub fn are_same_groups<L: Tabled + Same, G: RecordGroups<Item = L>, H: RecordGroups<Item = L>>(
     a: &G,
     b: &H,
     buffer: &mut [G::Head],
@@ -140,7 +139,7 @@ fn have_same_single_records<A: Chart, B: Chart>(
 }
 
 /// Checks whether two counties have the same records of a type with a sequence number.
-fn have_same_sequenced<R: SequencedRecord + RecordEq, A: Chart, B: Chart>(
+fn have_same_sequenced<R: SequencedRecord + Same, A: Chart, B: Chart>(
     a: &A,
     b: &B,
     buffer: &mut HeadBuffers,

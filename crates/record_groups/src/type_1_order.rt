@@ -42,7 +42,7 @@ fn compare_at<C: Chart>(
     requires place { place < length (C.county chart.now).chains }
     ensures { result ≡ option_cmp spelling_cmp (one_at (C.county chart.now) one place) (one_at (C.county chart.now) other place) }
 {
-    if one.is_same(other) {
+    if one.is_same(&other) {
         return Ordering::Equal;
     }
     let first = record_of_directed(chart, one, place);

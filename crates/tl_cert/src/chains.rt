@@ -118,7 +118,7 @@ impl<'a, A: Chart, B: Chart> Chains<'a, A, B> {
     {
         let body = Some(directed.body(self.a));
         let topology = Some(directed.topology(self.a));
-        self.b.chain_body_at(other).is_same(body) && self.b.topology_at(other).is_same(topology)
+        self.b.chain_body_at(other).is_same(&body) && self.b.topology_at(other).is_same(&topology)
     }
 
     /// Checks whether it has the chain's nodes and sides under their new numbers.

@@ -31,7 +31,7 @@ impl<'a, A: Chart, B: Chart> Tested for Names<'a, A, B> {
         let other = self.b.name_place_or_end(feat);
         self.b
             .name_body_at(other)
-            .is_same(self.a.name_body_at(place))
+            .is_same(&self.a.name_body_at(place))
     }
 }
 
@@ -64,7 +64,7 @@ impl<'a, A: Chart, B: Chart> Tested for PolygonParts<'a, A, B> {
         let other = self.b.polygon_place_or_end(key);
         self.b
             .polygon_body_at(other)
-            .is_same(self.a.polygon_body_at(place))
+            .is_same(&self.a.polygon_body_at(place))
     }
 }
 

@@ -97,7 +97,7 @@ impl<C: Chart> ComparedCounty<'_, '_, C> {
     {
         for pair in self.alike {
             let known = pair.chain;
-            if known.is_same(directed) {
+            if known.is_same(&directed) {
                 return pair.representative;
             }
         }
@@ -109,10 +109,10 @@ impl<C: Chart> ComparedCounty<'_, '_, C> {
         requires { AreAlike (classed_county self.now.classes.now) self.now.alike.now }
         ensures { IsTrue result → ranges_towards (classed_county self.now.classes.now) one ≡ ranges_towards (classed_county self.now.classes.now) other }
     {
-        one.is_same(other)
+        one.is_same(&other)
             || self
                 .representative_of(one)
-                .is_same(self.representative_of(other))
+                .is_same(&self.representative_of(other))
     }
 
     /// Returns a number of places, from the first on, where two choices have chains with the same further address ranges.
