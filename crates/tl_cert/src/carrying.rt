@@ -11,12 +11,11 @@ ghost use Rattle.county_chart.specs.Renumbering.{Carries, NumbersArePaired};
 ghost use Rattle.tl_cert.specs.PartsThere.{ArePartsThere, tabled};
 
 use crate::chains::Chains;
-use crate::lent::Lent;
 use crate::links::are_links_there;
 use crate::numbers_paired::numbers_are_paired;
 use crate::parts::{Landmarks, Names, PolygonParts};
 use crate::renaming_tables::RenamingTables;
-use county_chart::{Chart, Masked, all_hold};
+use county_chart::{Chart, Lent, Masked, all_hold};
 use renamings::Renaming;
 use std::alloc::{AllocError, Global};
 use tl_layout::Mask;

@@ -8,7 +8,6 @@
 
 mod carrying;
 mod chains;
-mod lent;
 mod links;
 mod numbers_paired;
 mod pairing;
@@ -16,5 +15,4 @@ mod parts;
 mod renaming_tables;
 
 pub use carrying::{check, check_masked};
-pub use lent::Lent;
 pub use renamings::{Images, PolygonKey, Renaming, RenamingParts, SortedNumbers};

@@ -14,10 +14,9 @@ ghost use Rattle.county_chart.specs.Choices.{choices};
 
 use crate::alike_ranges::{AlikeChain, alike_chains};
 use crate::arranged_order::compare_arranged;
-use crate::county_part::Shared;
 use crate::numbered_arrangement::NumberedArrangement;
 use arranged_county::{Arranged, Classes, arrange_in_classes};
-use county_chart::Chart;
+use county_chart::{Chart, Lent};
 use std::alloc::{AllocError, Global};
 use std::cmp::Ordering;
 use std::mem::swap;
@@ -56,24 +55,24 @@ fn put<V: Drop>(kept: &mut Option<V>, value: Option<V>)
     *kept = value;
 }
 
-impl<C: Shared> ComparedCounty<'_, '_, C> {
+impl<'a, C: Chart> ComparedCounty<'_, 'a, C> {
     /// Returns the county of the choice with this number.
-    fn arrange(&self, alloc: Global, number: u64) -> Result<Arranged<C>, AllocError>
+    fn arrange(&self, alloc: Global, number: u64) -> Result<Arranged<Lent<'a, C>>, AllocError>
         requires { LeavesChoices (classed_county self.now.classes.now) self.now.shape_order.now }
         ensures { IfOk result (λ view. arranged_county view ≡ chosen_county (classed_county self.now.classes.now) number) }
     {
         let classes = self.classes;
         let choice = NumberedArrangement::new(alloc, self.shape_order, number)?;
-        arrange_in_classes(alloc, classes.chart().share(), classes, choice.chains)
+        arrange_in_classes(alloc, Lent::new(classes.chart()), classes, choice.chains)
     }
 
     /// Compares two choices with the same records of type 1. `first` is the first choice, arranged. Returns also the lesser one, arranged.
     fn compare_with_arranged(
         &self,
         alloc: Global,
-        first: Arranged<C>,
+        first: Arranged<Lent<'a, C>>,
         tie: Tie,
-    ) -> Result<(Ordering, Arranged<C>), AllocError>
+    ) -> Result<(Ordering, Arranged<Lent<'a, C>>), AllocError>
         requires known { LeavesChoices (classed_county self.now.classes.now) self.now.shape_order.now }
         requires first { arranged_county first ≡ chosen_county (classed_county self.now.classes.now) tie.one }
         requires tied { AreTied (classed_county self.now.classes.now) tie }
@@ -98,9 +97,9 @@ impl<C: Shared> ComparedCounty<'_, '_, C> {
     fn kept_or_arranged(
         &self,
         alloc: Global,
-        kept: Option<Arranged<C>>,
+        kept: Option<Arranged<Lent<'a, C>>>,
         number: u64,
-    ) -> Result<Arranged<C>, AllocError>
+    ) -> Result<Arranged<Lent<'a, C>>, AllocError>
         requires known { LeavesChoices (classed_county self.now.classes.now) self.now.shape_order.now }
         requires kept { IfSome kept (λ view. arranged_county view ≡ chosen_county (classed_county self.now.classes.now) number) }
         ensures { IfOk result (λ view. arranged_county view ≡ chosen_county (classed_county self.now.classes.now) number) }
@@ -117,7 +116,7 @@ impl<C: Shared> ComparedCounty<'_, '_, C> {
         &self,
         alloc: Global,
         tie: Tie,
-        arranged: &mut Option<Arranged<C>>,
+        arranged: &mut Option<Arranged<Lent<'a, C>>>,
     ) -> Result<Ordering, AllocError>
         requires known { LeavesChoices (classed_county self.now.classes.now) self.now.shape_order.now }
         requires tied { AreTied (classed_county self.now.classes.now) tie }
@@ -138,7 +137,7 @@ impl<C: Shared> ComparedCounty<'_, '_, C> {
         &self,
         alloc: Global,
         numbers: &[u64],
-        arranged: &mut Option<Arranged<C>>,
+        arranged: &mut Option<Arranged<Lent<'a, C>>>,
     ) -> Result<u64, AllocError>
         requires known { LeavesChoices (classed_county self.now.classes.now) self.now.shape_order.now }
         requires alike { AreAlike (classed_county self.now.classes.now) self.now.alike.now }
@@ -168,7 +167,7 @@ impl<C: Shared> ComparedCounty<'_, '_, C> {
 }
 
 /// Returns the number of the choice with the least text. It is in `numbers`, whose choices have the same records of type 1.
-pub(crate) fn least_among_choices<C: Shared>(
+pub(crate) fn least_among_choices<C: Chart>(
     alloc: Global,
     chart: &C,
     shape_order: &ShapeOrder,

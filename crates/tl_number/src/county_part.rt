@@ -15,15 +15,6 @@ use county_chart::{Chart, PolygonKey};
 use ordered_lists::place_of;
 use tl_layout::{Body1, Body5, Body7, BodyI, BodyP, Point, Ranges, Rec8, Side};
 
-/// A chart that several readers can have.
-pub(crate) trait Shared: Chart + Drop {
-    ghost use Rattle.std.specs.Prelude.{◌≡◌};
-
-    /// Returns the same county for another reader.
-    fn share(&self) -> Self
-        ensures { Self.Chart.county result ≡ Self.Chart.county self.now };
-}
-
 /// A part of a county: some of its chains, with their names and polygons, and some of its landmarks.
 #[derive(Drop)]
 pub(crate) struct CountyPart<'a, C: Chart> {
@@ -104,15 +95,6 @@ impl<'a, C: Chart> CountyPart<'a, C> {
             place,
             self.chart.landmark_count(),
         )
-    }
-}
-
-impl<'a, C: Chart> Shared for CountyPart<'a, C> {
-    fn share(&self) -> CountyPart<'a, C> {
-        CountyPart {
-            chart: self.chart,
-            tables: self.tables,
-        }
     }
 }
 

@@ -15,7 +15,7 @@ ghost use Rattle.canonical_form.specs.Tidy.{IsLeastChoice};
 ghost use Rattle.canonical_form.specs.WholeArrangements.{NamesEachOnce};
 
 use crate::choice_search::least_among_choices;
-use crate::county_part::{CountyPart, Shared};
+use crate::county_part::CountyPart;
 use crate::kept_places::find_kept;
 use crate::numbered_arrangement::NumberedArrangement;
 use crate::part_tables::part_tables;
@@ -25,7 +25,7 @@ use std::alloc::{AllocError, Global};
 use tl_profile::{ShapeOrder, order_by_shape};
 
 /// Returns the number of the choice with the least text, which is among `numbers`.
-fn least_in_part<C: Shared>(alloc: Global, part: &C, numbers: &[u64]) -> Result<u64, AllocError>
+fn least_in_part<C: Chart>(alloc: Global, part: &C, numbers: &[u64]) -> Result<u64, AllocError>
     requires few { choices (C.county part.now) ≤ most_choices }
     requires sides { AllKeysContained (polygons_along (C.county part.now).chains) (polygon_keys (C.county part.now)) }
     requires some { 0 < length numbers.now }

@@ -2,7 +2,8 @@
 
 ghost use Rattle.std.specs.Prelude.{◌≡◌};
 
-use county_chart::{Chart, PolygonKey};
+use crate::chart::Chart;
+use crate::keys::record_keys::PolygonKey;
 use tl_layout::{Body1, Body5, Body7, BodyI, BodyP, Point, Ranges, Rec8, Side};
 
 /// A reference to a chart, which is a chart of the same county.
