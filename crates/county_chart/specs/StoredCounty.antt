@@ -1,6 +1,7 @@
 -- The county that stored tables hold.
 use Rattle.std.specs.Prelude.{List, Option, flat_map, map, ℕ, ◌≡◌}
 use Rattle.std.specs.List.{AllByRecursion}
+use Rattle.ordered_lists.specs.Entries.{map_values}
 use Rattle.tl_layout.specs.declared.type5.Body5.{Body5}
 use Rattle.tl_layout.specs.declared.type7.Body7.{Body7}
 use Rattle.tl_layout.specs.declared.type_p.BodyP.{BodyP}
@@ -22,6 +23,12 @@ county_with chains names polygons landmarks = record {
   landmarks = map landmark_entry landmarks;
   links = flat_map (λ entry. entry.1.links) landmarks;
 }
+
+-- the county of tables of stored values, given what the values represent
+abbrev pub county_of_tables : {C N L : Type 0} → (C → Chain) → (N → Body5) → (L → LandmarkParts)
+    → List (ℕ × C) → List (ℕ × N) → List (PolygonKey × Option BodyP) → List (ℕ × L) → County
+county_of_tables chain name landmark chains names polygons landmarks =
+    county_with (map_values chain chains) (map_values name names) polygons (map_values landmark landmarks)
 
 -- each link is stored under its LAND
 abbrev pub LinksUnderLands : List (ℕ × LandmarkParts) → Type 0

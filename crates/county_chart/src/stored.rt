@@ -7,7 +7,7 @@ ghost use Rattle.county_chart.specs.CountyRules.{IsCounty, feats, lands, nodes a
 ghost use Rattle.county_chart.specs.ChartWords.{bodies_at, chain_at, links_at};
 ghost use Rattle.county_chart.specs.CountyProps.{IsCounty-prop, LinksUnderLands-prop};
 ghost use Rattle.county_chart.specs.Limits.{IsWithinLimits};
-ghost use Rattle.county_chart.specs.StoredCounty.{LinksUnderLands, county_with};
+ghost use Rattle.county_chart.specs.StoredCounty.{LinksUnderLands, county_of_tables};
 ghost use Rattle.county_chart.specs.County.{eight_land};
 ghost use Rattle.tl_layout.specs.Limits.{most_records};
 ghost use Rattle.county_chart.specs.PolygonKeys.{key_cmp};
@@ -39,10 +39,10 @@ pub struct StoredCounty<C: StoredChain, N: StoredName, L: StoredLandmark> {
     pub(crate) polygons: Table<PolygonKey, Option<BodyP>>,
     pub(crate) landmarks: Table<u64, L>,
     pub(crate) nodes: Vec<u64>,
-    ghost is_county: { IsCounty (county_with (map_values C.chain chains) (map_values N.name names) polygons (map_values L.landmark landmarks)) } by { IsCounty-prop (county_with (map_values C.chain chains) (map_values N.name names) polygons (map_values L.landmark landmarks)) },
-    ghost within_limits: { IsWithinLimits most_records (county_with (map_values C.chain chains) (map_values N.name names) polygons (map_values L.landmark landmarks)) } by { IsWithinLimits-prop most_records (county_with (map_values C.chain chains) (map_values N.name names) polygons (map_values L.landmark landmarks)) },
+    ghost is_county: { IsCounty (county_of_tables C.chain N.name L.landmark chains names polygons landmarks) } by { IsCounty-prop (county_of_tables C.chain N.name L.landmark chains names polygons landmarks) },
+    ghost within_limits: { IsWithinLimits most_records (county_of_tables C.chain N.name L.landmark chains names polygons landmarks) } by { IsWithinLimits-prop most_records (county_of_tables C.chain N.name L.landmark chains names polygons landmarks) },
     ghost links_under_lands: { LinksUnderLands (map_values L.landmark landmarks) } by { LinksUnderLands-prop (map_values L.landmark landmarks) },
-    ghost nodes_contained: { nodes.items ≡ nodes_in_order (county_with (map_values C.chain chains) (map_values N.name names) polygons (map_values L.landmark landmarks)) },
+    ghost nodes_contained: { nodes.items ≡ nodes_in_order (county_of_tables C.chain N.name L.landmark chains names polygons landmarks) },
 }
 
 /// The map of one county that a set of records describes, as linking makes it, with its own lists. The getters lend what linking made and
@@ -66,11 +66,11 @@ impl<C: StoredChain, N: StoredName, L: StoredLandmark> StoredCounty<C, N, L> {
         landmarks: Table<u64, L>,
         nodes: Vec<u64>,
     ) -> StoredCounty<C, N, L>
-        requires county { IsCounty (county_with (map_values C.chain chains) (map_values N.name names) polygons (map_values L.landmark landmarks)) }
-        requires limits { IsWithinLimits most_records (county_with (map_values C.chain chains) (map_values N.name names) polygons (map_values L.landmark landmarks)) }
+        requires county { IsCounty (county_of_tables C.chain N.name L.landmark chains names polygons landmarks) }
+        requires limits { IsWithinLimits most_records (county_of_tables C.chain N.name L.landmark chains names polygons landmarks) }
         requires links { LinksUnderLands (map_values L.landmark landmarks) }
-        requires nodes { nodes.items ≡ nodes_in_order (county_with (map_values C.chain chains) (map_values N.name names) polygons (map_values L.landmark landmarks)) }
-        ensures { ⟦<StoredCounty<C, N, L> as Chart>⟧.county result ≡ county_with (map_values C.chain chains) (map_values N.name names) polygons (map_values L.landmark landmarks) }
+        requires nodes { nodes.items ≡ nodes_in_order (county_of_tables C.chain N.name L.landmark chains names polygons landmarks) }
+        ensures { ⟦<StoredCounty<C, N, L> as Chart>⟧.county result ≡ county_of_tables C.chain N.name L.landmark chains names polygons landmarks }
     {
         StoredCounty {
             chains,

@@ -1,7 +1,6 @@
 //! A stored county as a chart, whichever way it is stored.
 
-ghost use Rattle.ordered_lists.specs.Entries.{map_values};
-ghost use Rattle.county_chart.specs.StoredCounty.{county_with};
+ghost use Rattle.county_chart.specs.StoredCounty.{county_of_tables};
 
 use crate::chart::Chart;
 use crate::keys::record_keys::PolygonKey;
@@ -13,7 +12,7 @@ use tl_layout::{Body1, Body5, Body7, BodyI, BodyP, Point, Ranges, Rec8, Side};
 /// Calls read the county's own tables, and its chains, names and landmarks by their own traits.
 #[tactic(auto, using(crate::proofs::Lists::StoredParts::stored_parts))]
 impl<C: StoredChain, N: StoredName, L: StoredLandmark> Chart for StoredCounty<C, N, L> {
-    ghost county = { λ k. county_with (map_values C.chain k.chains) (map_values N.name k.names) k.polygons (map_values L.landmark k.landmarks) };
+    ghost county = { λ k. county_of_tables C.chain N.name L.landmark k.chains k.names k.polygons k.landmarks };
 
     fn chain_count(&self) -> usize {
         self.chains.len()
