@@ -40,7 +40,7 @@ use crate::linking::building::{
     polygon_bodies,
 };
 use crate::linking::chain_records::{all_basics_at, topologies_at};
-use crate::linking::gathering::{Polygons, gather_polygons, linked_polygons};
+use crate::linking::gathering::{GatheredPolygons, gather_polygons, linked_polygons};
 use crate::linking::linked_records::link_in_order;
 use crate::linking::rules::{
     check_chains, check_landmarks, check_names, check_sequences, check_topologies, unnamed_use,
@@ -54,7 +54,7 @@ use county_chart::{
 use std::alloc::{AllocError, Global};
 use tl_layout::{BodyP, Rec5, Record, Tables};
 
-fn polygons_of(alloc: Global, tables: &OrderedTables) -> Result<Polygons, AllocError>
+fn polygons_of(alloc: Global, tables: &OrderedTables) -> Result<GatheredPolygons, AllocError>
     requires tables { AreInOrder (ordered_of tables.now) }
     requires topologies { IsPermutation tables.now.records.type_i.items (ordered_of tables.now).of_type_i }
     ensures keys { IfOk result (λ polygons. polygons.keys.items ≡
@@ -183,7 +183,7 @@ pub(crate) fn build_county<
 pub(crate) struct Gathered {
     pub(crate) tlids: Vec<u64>,
     pub(crate) feats: Vec<u32>,
-    pub(crate) polygons: Polygons,
+    pub(crate) polygons: GatheredPolygons,
 }
 
 /// Puts the tables in order and checks the ten rules. Returns the first rule that the records break, if any.

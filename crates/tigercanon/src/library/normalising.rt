@@ -12,7 +12,7 @@ ghost use Rattle.tl_write.specs.declared.fault.WriteFault.{WriteFault};
 
 use crate::fault::Fault;
 use crate::library::making::{make_of, make_of_linked};
-use crate::library::products::{Text, TextAndRenaming, Written};
+use crate::library::products::{TextAndRenaming, TextInMemory, Written};
 use crate::library::reading::load_sources;
 use bumpalo::Bump;
 use renamings::Renaming;
@@ -68,7 +68,7 @@ pub fn normalise_masked(alloc: Global, parts: &[&[u8]], mask: Mask) -> Result<Ve
     // For accepted parts the only fault is a failed allocation.
     ensures succeeds { (records : List Record) → IsAcceptedSet (bytes_of_parts parts.now) records → IfErr result IsWantOfMemory }
 {
-    let made = make_of(alloc, parts, Text, &mut (), mask)?;
+    let made = make_of(alloc, parts, TextInMemory, &mut (), mask)?;
     let text = made?;
     Ok(text)
 }

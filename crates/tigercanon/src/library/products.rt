@@ -72,9 +72,9 @@ impl Sink for Hashing {
 
 /// Makes the canonical text, in memory.
 #[derive(Drop)]
-pub(crate) struct Text;
+pub(crate) struct TextInMemory;
 
-impl Product<()> for Text {
+impl Product<()> for TextInMemory {
     type Out = Result<Vec<u8>, AllocError>;
 
     ghost IsReady = { λ _ _. Unit {0} };

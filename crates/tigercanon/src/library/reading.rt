@@ -71,7 +71,7 @@ pub(crate) fn load_sources<K: Collector, R: Source>(
 
 /// Reads a source to its end as the next part, even if its lines are faulty: the loader then keeps the fault. A source that has no
 /// end counts as one that can't be read.
-fn read_to_end<K: Collector, R: Source>(
+fn read_past_faults<K: Collector, R: Source>(
     loader: &mut LoaderFor<K>,
     source: &mut R,
     buffer: &mut [u8],
@@ -120,7 +120,7 @@ pub(crate) fn read_to_ends<K: Collector, R: Source>(
     let buffer = buffer.as_mut_slice();
     let mut loader = LoaderFor::<K>::new(alloc);
     for source in sources.iter_mut() {
-        read_to_end(&mut loader, source, buffer)?;
+        read_past_faults(&mut loader, source, buffer)?;
     }
     Ok(loader)
 }

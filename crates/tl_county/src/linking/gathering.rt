@@ -67,7 +67,7 @@ fn likely_cenids(alloc: Global, sides: &[RecI], points: &[RecP]) -> Result<Vec<[
 
 /// The polygons on sides and of type P records.
 #[derive(Drop)]
-pub(crate) struct Polygons {
+pub(crate) struct GatheredPolygons {
     /// The polygons in order, each once.
     pub(crate) keys: Vec<PolygonKey>,
     /// The least polygon that has a type P record and is on no side.
@@ -80,7 +80,7 @@ pub(crate) fn gather_polygons(
     alloc: Global,
     sides: &[RecI],
     points: &[RecP],
-) -> Result<Polygons, AllocError>
+) -> Result<GatheredPolygons, AllocError>
     requires { IsInOrder (on p_key key_cmp) points.now }
     ensures keys { IfOk result (λ polygons. polygons.keys.items ≡ distinct key_cmp (flat_map side_keys sides.now ++ map p_key points.now)) }
     ensures without_side { IfOk result (λ polygons.
@@ -94,5 +94,5 @@ pub(crate) fn gather_polygons(
         let cenids = cenids_of::<PolygonKey>(alloc, &keys)?;
         keys = distinct_polygons::<PolygonKey>(alloc, cenids, &keys)?;
     }
-    Ok(Polygons { keys, without_side })
+    Ok(GatheredPolygons { keys, without_side })
 }

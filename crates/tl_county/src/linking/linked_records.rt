@@ -15,7 +15,7 @@ ghost use Rattle.tl_layout.specs.declared.record_type.Record.{Record};
 use crate::linking::arena::{InArena, names_in, names_over};
 use crate::linking::building::name_bodies;
 use crate::linking::chain_over::CountyOver;
-use crate::linking::gathering::Polygons;
+use crate::linking::gathering::GatheredPolygons;
 use crate::linking::owned::Owned;
 use crate::linking::table_order::OrderedTables;
 use crate::linking::{Gathered, build_county, sort_and_check};
@@ -75,7 +75,7 @@ impl LinkedRecords {
         let gathered = Gathered {
             tlids: Vec::from_slice(alloc, &self.gathered.tlids)?,
             feats: Vec::from_slice(alloc, &self.gathered.feats)?,
-            polygons: Polygons {
+            polygons: GatheredPolygons {
                 keys: Vec::from_slice(alloc, &self.gathered.polygons.keys)?,
                 without_side: self.gathered.polygons.without_side,
             },

@@ -18,7 +18,7 @@ ghost use Rattle.tl_layout.specs.declared.record_type.Record.{Record};
 use crate::keys::absent::least_absent;
 use crate::keys::repeated::least_repeated;
 use crate::linking::gathering::uses_in_order;
-use crate::linking::table_order::{OrderedTables, Repeated, Tlids};
+use crate::linking::table_order::{ChainTlids, OrderedTables, Repeated};
 use county_chart::{LinkFault, LinkedType, PolygonKey, SequencedType, least_unknown};
 use ordered_lists::{is_marked, marks_of, place_of};
 use std::alloc::{AllocError, Global};
@@ -26,7 +26,7 @@ use tl_layout::{Rec2, Rec4, Rec5, Rec6, Rec7, Rec8};
 
 /// Rules 11 and 12: no TLID has two records of type 1, and each record of types 2, 4, 6 and I has its chain. The lists of `tlids`
 /// are searched, not the records.
-pub(crate) fn check_chains(tables: &OrderedTables, tlids: &Tlids) -> Result<(), LinkFault>
+pub(crate) fn check_chains(tables: &OrderedTables, tlids: &ChainTlids) -> Result<(), LinkFault>
     requires tables { AreInOrder (ordered_of tables.now) }
     requires chains { tlids.now.chains.items ≡ map one_tlid (ordered_of tables.now).of_type_1 }
     requires topologies { tlids.now.topologies.items ≡ map i_tlid (ordered_of tables.now).of_type_i }
@@ -76,7 +76,7 @@ pub(crate) fn check_sequences(repeated: &Repeated) -> Result<(), LinkFault>
 }
 
 /// Rules 14 and 15: each record of type 1 has its record of type I, and no TLID has two.
-pub(crate) fn check_topologies(tables: &OrderedTables, tlids: &Tlids) -> Result<(), LinkFault>
+pub(crate) fn check_topologies(tables: &OrderedTables, tlids: &ChainTlids) -> Result<(), LinkFault>
     requires tables { AreInOrder (ordered_of tables.now) }
     requires chains { tlids.now.chains.items ≡ map one_tlid (ordered_of tables.now).of_type_1 }
     requires topologies { tlids.now.topologies.items ≡ map i_tlid (ordered_of tables.now).of_type_i }

@@ -35,7 +35,7 @@ pub(crate) struct OrderedTables {
 
 /// The TLIDs of the records of types 1 and I.
 #[derive(Drop)]
-pub(crate) struct Tlids {
+pub(crate) struct ChainTlids {
     /// The TLIDs of the type 1 records.
     pub(crate) chains: Vec<u64>,
     /// The TLIDs of the type I records.
@@ -59,7 +59,7 @@ pub(crate) struct Repeated {
 #[derive(Drop)]
 pub(crate) struct Ordered {
     /// The TLIDs, in order.
-    pub(crate) tlids: Tlids,
+    pub(crate) tlids: ChainTlids,
     /// The keys that occur twice.
     pub(crate) repeated: Repeated,
 }
@@ -108,7 +108,7 @@ fn order_named(
 }
 
 /// Finds the places of the records of types 1 and I in the order of their TLIDs, and returns the TLIDs.
-fn order_chains(alloc: Global, tables: &mut OrderedTables) -> Result<Tlids, AllocError>
+fn order_chains(alloc: Global, tables: &mut OrderedTables) -> Result<ChainTlids, AllocError>
     ensures records { tables.new.records ≡ tables.old.records }
     ensures all_basics { OnOk result (IsPutInOrder (on one_tlid nat_cmp) tables.old.records.type_1.items (ordered_of tables.new).of_type_1) }
     ensures topologies { OnOk result (IsPutInOrder (on i_tlid nat_cmp) tables.old.records.type_i.items (ordered_of tables.new).of_type_i) }
@@ -119,7 +119,7 @@ fn order_chains(alloc: Global, tables: &mut OrderedTables) -> Result<Tlids, Allo
     let topologies = number_order::<RecI>(alloc, &tables.records.type_i)?;
     tables.all_basics = all_basics.places;
     tables.topologies = topologies.places;
-    Ok(Tlids {
+    Ok(ChainTlids {
         chains: all_basics.numbers,
         topologies: topologies.numbers,
     })

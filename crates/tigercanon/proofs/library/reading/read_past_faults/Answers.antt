@@ -1,6 +1,6 @@
 use Rattle.tigercanon.proofs.Common.{RoseBy, arith, gave_more, length, length-take, most_records, subst, sym, take, ℕ, ◌++◌, ◌∙◌, ◌≡◌}
 use Rattle.tigercanon.proofs.FileParts.{rose_again, still_no_device}
-use Rattle.tigercanon.proofs.library.reading.read_to_end.Goals as goal
+use Rattle.tigercanon.proofs.library.reading.read_past_faults.Goals as goal
 
 pub loop-made-preserved : goal.loop-made-preserved
 loop-made-preserved g c =

@@ -1,5 +1,5 @@
 use Rattle.tigercanon.proofs.Common.{Gave, IfSome, IsNotDevice, List, RoseBy, WasFedInto, [], most_records, ℕ, ◌≡◌}
-use Rattle.tigercanon.proofs.library.reading.read_to_end.Given as goal
+use Rattle.tigercanon.proofs.library.reading.read_past_faults.Given as goal
 
 -- the loader was fed the bytes of this many reads of the source, and the source hasn't failed
 abbrev pub invariant-loop-made : goal.invariant-loop-made
