@@ -23,7 +23,7 @@ pub use Rattle.canonical_form.proofs.Numbering.SeenKeys.{place_found}
 pub use Rattle.canonical_form.proofs.Unique.SameNames.{name_key_keys}
 pub use Rattle.canonical_form.proofs.Views.ArrangedViews.{whole_arrangement}
 pub use Rattle.canonical_form.proofs.Views.DirectedChains.{feats_placed}
-pub use Rattle.canonical_form.proofs.Views.ViewChains.{arranges, bodies_read, chains, chains_arranged_by, numbered_past, numbered_there, read_length, read_nowhere, read_there, tlids_arranged_by, values}
+pub use Rattle.canonical_form.proofs.Views.ViewChains.{arranges, bodies_read, chains, chains_arranged_by, numbered_there, read_length, read_there, tlids_arranged_by, values}
 pub use Rattle.canonical_form.specs.Arrangement.{Arrangement, arranged_tlids, landmarks_in_order, names_in_order, nodes_in_order, placed, polygons_in_order, renaming_of, turned_tlids, under_cenid}
 pub use Rattle.canonical_form.specs.ByNumber.{under_number}
 pub use Rattle.canonical_form.specs.DirectedChains.{HasChainsOf, arrangement_of, tlid_at}
@@ -32,7 +32,6 @@ pub use Rattle.canonical_form.specs.Growth.{first_seen, first_seen_after, number
 pub use Rattle.canonical_form.specs.Uses.{Use, use_cmp, uses_of_name}
 pub use Rattle.canonical_form.specs.WholeArrangements.{AreReadAt, AreWhole, NamesEachOnce, arranged_by, link_bounds, links_up_to}
 pub use Rattle.county_chart.proofs.ByKey.PlacesOfCenids.{known_at}
-pub use Rattle.county_chart.proofs.Limits.FewChains.{few_chains}
 pub use Rattle.county_chart.proofs.Packing.Pieces.{rights-numbered_from}
 pub use Rattle.county_chart.proofs.Profile.Places.{is_at, is_some_from}
 pub use Rattle.county_chart.specs.BodyOrder.{landmark_body_cmp, link_cmp, link_part, link_part_cmp, name_body_cmp}

@@ -18,7 +18,7 @@ ghost use Rattle.arranged_county.specs.ViewProps.{AreSidesContained-prop, AreWho
 use crate::arranged_tables::{Ends, LandmarkTables, NameTables, NodeTables, PolygonTables, Sides};
 use crate::numbers::is_at;
 use crate::renumbering::new_feat;
-use county_chart::{Chart, DirectedChain, PolygonKey};
+use county_chart::{Chart, DirectedChain, Listed, PolygonKey};
 use std::marker::PhantomData;
 use tl_layout::{BodyP, Rec8};
 
@@ -58,39 +58,16 @@ pub struct Arranged<C: Chart, S: Evidence = Unknown> {
     ghost stands: { ∥ S.holds (C.county chart) (arranged_by (C.county chart) arrangement.items) ∥₁ },
 }
 
-/// Returns the old place for a new one, or `None` past the last one.
-pub(crate) fn old_place(places: &[u32], place: usize) -> Option<usize>
-    ensures { result ≡ slice_get places.now place }
-{
-    match places.get(place) {
-        Some(old) => Some(*old as usize),
-        None => None,
-    }
-}
-
 impl<C: Chart, S: Evidence> Arranged<C, S> {
-    /// Returns the directed chain at a place in the new order, or `None` past the last one.
-    fn directed_at(&self, place: usize) -> Option<DirectedChain>
-        ensures { result ≡ slice_get self.now.arrangement.items place }
-    {
-        self.arrangement.as_slice().get(place).copied()
-    }
-
-    /// Returns the directed chain at a place in the new order. Past the last one it's one that the source county doesn't have.
-    pub(crate) fn directed_or_past(&self, place: usize) -> DirectedChain
+    /// Returns the directed chain at a place in the new order, which must be less than the number of chains.
+    pub(crate) fn directed_there(&self, place: usize) -> DirectedChain
+        requires { place < length (arranged_by (C.county self.now.chart) self.now.arrangement.items).chains }
         ensures chain { chain_at (arranged_by (C.county self.now.chart) self.now.arrangement.items) place
             ≡ option_map (renumbered (renaming_of (C.county self.now.chart) (arrangement_of (C.county self.now.chart) self.now.arrangement.items)))
             (directed_chain (C.county self.now.chart) result) }
-        ensures there { place < length (arranged_by (C.county self.now.chart) self.now.arrangement.items).chains
-            → result.place < length (C.county self.now.chart).chains }
+        ensures there { result.place < length (C.county self.now.chart).chains }
     {
-        match self.directed_at(place) {
-            Some(directed) => directed,
-            None => DirectedChain {
-                place: u32::MAX,
-                turned: false,
-            },
-        }
+        self.arrangement.as_slice().item(place)
     }
 
     /// Returns a further name with its new FEAT.

@@ -8,7 +8,7 @@ ghost use Rattle.std.specs.Prelude.{IfSome, Some, is_some, slice_get, ◌<◌, �
 ghost use Rattle.ordered_lists.specs.Orders.{contains};
 ghost use Rattle.canonical_form.specs.Growth.{up_to};
 
-use crate::arranged::{Arranged, Evidence, old_place};
+use crate::arranged::{Arranged, Evidence};
 use crate::landmark_links::links_of_landmark;
 use county_chart::{Chart, Listed, PolygonKey};
 use ordered_lists::place_of;
@@ -93,46 +93,48 @@ impl<C: Chart, S: Evidence> Chart for Arranged<C, S> {
     }
 
     fn chain_body_there(&self, place: usize) -> Body1 {
-        self.directed_or_past(place).body(&self.chart)
+        self.directed_there(place).body(&self.chart)
     }
 
     fn put_chain_body(&self, place: usize, turned: bool, out: &mut [u8]) {
-        let directed = self.directed_or_past(place);
+        let directed = self.directed_there(place);
         directed.put_body(&self.chart, turned, out);
     }
 
     fn chain_byte(&self, place: usize) -> u8 {
-        let directed = self.directed_or_past(place);
-        self.chart.chain_byte(directed.place as usize)
+        match self.arrangement.as_slice().get(place) {
+            Some(directed) => self.chart.chain_byte(directed.place as usize),
+            None => 0,
+        }
     }
 
-    fn point_count_at(&self, place: usize) -> usize {
-        self.directed_or_past(place).points(&self.chart).count()
+    fn point_count_there(&self, place: usize) -> usize {
+        self.directed_there(place).points(&self.chart).count()
     }
 
     fn point_there(&self, place: usize, point: usize) -> Point {
-        self.directed_or_past(place).points(&self.chart).item(point)
+        self.directed_there(place).points(&self.chart).item(point)
     }
 
-    fn feat_count_at(&self, place: usize) -> usize {
-        self.directed_or_past(place).feats(&self.chart).count()
+    fn feat_count_there(&self, place: usize) -> usize {
+        self.directed_there(place).feats(&self.chart).count()
     }
 
     fn chain_feat_there(&self, place: usize, name: usize) -> u32 {
-        let feats = self.directed_or_past(place).feats(&self.chart);
+        let feats = self.directed_there(place).feats(&self.chart);
         self.renumbered_feat(feats.item(name))
     }
 
-    fn range_count_at(&self, place: usize) -> usize {
-        self.directed_or_past(place).ranges(&self.chart).count()
+    fn range_count_there(&self, place: usize) -> usize {
+        self.directed_there(place).ranges(&self.chart).count()
     }
 
     fn range_there(&self, place: usize, range: usize) -> Ranges {
-        self.directed_or_past(place).ranges(&self.chart).item(range)
+        self.directed_there(place).ranges(&self.chart).item(range)
     }
 
     fn topology_there(&self, place: usize) -> BodyI {
-        self.directed_or_past(place).topology(&self.chart)
+        self.directed_there(place).topology(&self.chart)
     }
 
     fn ends_there(&self, place: usize) -> (Option<u64>, Option<u64>) {
@@ -154,11 +156,9 @@ impl<C: Chart, S: Evidence> Chart for Arranged<C, S> {
         self.chart.polygon_body_there(old as usize)
     }
 
-    fn body_count_at(&self, place: usize) -> usize {
-        match old_place(&self.landmarks.places, place) {
-            Some(old) => self.chart.body_count_at(old),
-            None => 0,
-        }
+    fn body_count_there(&self, place: usize) -> usize {
+        let old = self.landmarks.places.as_slice().item(place);
+        self.chart.body_count_there(old as usize)
     }
 
     fn landmark_body_there(&self, place: usize, body: usize) -> Body7 {
@@ -166,7 +166,7 @@ impl<C: Chart, S: Evidence> Chart for Arranged<C, S> {
         self.chart.landmark_body_there(old as usize, body)
     }
 
-    fn link_count_at(&self, place: usize) -> usize {
+    fn link_count_there(&self, place: usize) -> usize {
         links_of_landmark(&self.landmarks.links, &self.landmarks.bounds, place).len()
     }
 

@@ -120,8 +120,10 @@ pub trait Chart {
         0
     }
 
-    /// Returns the number of points of the chain at a place: its start node, its shape points (record type 2) and its end node.
-    fn point_count_at(&self, place: usize) -> usize
+    /// Returns the number of points of the chain at a place: its start node, its shape points (record type 2) and its end node. The place
+    /// must be less than the number of chains.
+    fn point_count_there(&self, place: usize) -> usize
+        requires { place < length (county self.now).chains }
         ensures { result ≡ length (points_of (chain_at (county self.now) place)) };
 
     /// Returns a point of the chain at a place. Point 0 is at the start node; `point` must be less than the number of the chain's points.
@@ -129,8 +131,9 @@ pub trait Chart {
         requires { point < length (points_of (chain_at (county self.now) place)) }
         ensures { Some result ≡ slice_get (points_of (chain_at (county self.now) place)) point };
 
-    /// Returns the number of further names (record type 4) of the chain at a place.
-    fn feat_count_at(&self, place: usize) -> usize
+    /// Returns the number of further names (record type 4) of the chain at a place, which must be less than the number of chains.
+    fn feat_count_there(&self, place: usize) -> usize
+        requires { place < length (county self.now).chains }
         ensures { result ≡ length (feats_of (chain_at (county self.now) place)) };
 
     /// Returns the FEAT of a further name (record type 4) of the chain at a place. `name` must be less than the number of its further
@@ -139,8 +142,9 @@ pub trait Chart {
         requires { name < length (feats_of (chain_at (county self.now) place)) }
         ensures { Some result ≡ slice_get (feats_of (chain_at (county self.now) place)) name };
 
-    /// Returns the number of further address ranges (record type 6) of the chain at a place.
-    fn range_count_at(&self, place: usize) -> usize
+    /// Returns the number of further address ranges (record type 6) of the chain at a place, which must be less than the number of chains.
+    fn range_count_there(&self, place: usize) -> usize
+        requires { place < length (county self.now).chains }
         ensures { result ≡ length (ranges_of (chain_at (county self.now) place)) };
 
     /// Returns a further address range (record type 6) of the chain at a place. `range` must be less than the number of its further ranges.
@@ -175,8 +179,9 @@ pub trait Chart {
         requires { place < length (county self.now).polygons }
         ensures { Some result ≡ polygon_at (county self.now) place };
 
-    /// Returns the number of type 7 records of the landmark at a place.
-    fn body_count_at(&self, place: usize) -> usize
+    /// Returns the number of type 7 records of the landmark at a place, which must be less than the number of landmarks.
+    fn body_count_there(&self, place: usize) -> usize
+        requires { place < length (county self.now).landmarks }
         ensures { result ≡ length (bodies_at (county self.now) place) };
 
     /// Returns the content of a type 7 record of the landmark at a place. `body` must be less than the number of its type 7 records.
@@ -184,8 +189,9 @@ pub trait Chart {
         requires { body < length (bodies_at (county self.now) place) }
         ensures { Some result ≡ slice_get (bodies_at (county self.now) place) body };
 
-    /// Returns the number of type 8 records of the landmark at a place.
-    fn link_count_at(&self, place: usize) -> usize
+    /// Returns the number of type 8 records of the landmark at a place, which must be less than the number of landmarks.
+    fn link_count_there(&self, place: usize) -> usize
+        requires { place < length (county self.now).landmarks }
         ensures { result ≡ length (links_at (county self.now) place) };
 
     /// Returns a type 8 record of the landmark at a place. `link` must be less than the number of its type 8 records.
@@ -276,6 +282,17 @@ pub trait Chart {
         (place < self.chain_count()).then(|| self.sides_there(place).1)
     }
 
+    /// The number of points of the chain at a place (record types 1 and 2), or 0 past the last chain.
+    final fn point_count_at(&self, place: usize) -> usize
+        ensures { result ≡ length (points_of (chain_at (county self.now) place)) }
+    {
+        if place < self.chain_count() {
+            self.point_count_there(place)
+        } else {
+            0
+        }
+    }
+
     /// A point of the chain at a place (record types 1 and 2). Point 0 is at the start node.
     final fn point_at(&self, place: usize, point: usize) -> Option<Point>
         ensures { result ≡ slice_get (points_of (chain_at (county self.now) place)) point }
@@ -283,11 +300,33 @@ pub trait Chart {
         (point < self.point_count_at(place)).then(|| self.point_there(place, point))
     }
 
+    /// The number of further names (record type 4) of the chain at a place, or 0 past the last chain.
+    final fn feat_count_at(&self, place: usize) -> usize
+        ensures { result ≡ length (feats_of (chain_at (county self.now) place)) }
+    {
+        if place < self.chain_count() {
+            self.feat_count_there(place)
+        } else {
+            0
+        }
+    }
+
     /// The FEAT of a further name (record type 4) of the chain at a place.
     final fn chain_feat_at(&self, place: usize, name: usize) -> Option<u32>
         ensures { result ≡ slice_get (feats_of (chain_at (county self.now) place)) name }
     {
         (name < self.feat_count_at(place)).then(|| self.chain_feat_there(place, name))
+    }
+
+    /// The number of further address ranges (record type 6) of the chain at a place, or 0 past the last chain.
+    final fn range_count_at(&self, place: usize) -> usize
+        ensures { result ≡ length (ranges_of (chain_at (county self.now) place)) }
+    {
+        if place < self.chain_count() {
+            self.range_count_there(place)
+        } else {
+            0
+        }
     }
 
     /// A further address range (record type 6) of the chain at a place.
@@ -311,11 +350,33 @@ pub trait Chart {
         (place < self.polygon_count()).then(|| self.polygon_body_there(place))
     }
 
+    /// The number of type 7 records of the landmark at a place, or 0 past the last landmark.
+    final fn body_count_at(&self, place: usize) -> usize
+        ensures { result ≡ length (bodies_at (county self.now) place) }
+    {
+        if place < self.landmark_count() {
+            self.body_count_there(place)
+        } else {
+            0
+        }
+    }
+
     /// The content of a type 7 record of the landmark at a place.
     final fn landmark_body_at(&self, place: usize, body: usize) -> Option<Body7>
         ensures { result ≡ slice_get (bodies_at (county self.now) place) body }
     {
         (body < self.body_count_at(place)).then(|| self.landmark_body_there(place, body))
+    }
+
+    /// The number of type 8 records of the landmark at a place, or 0 past the last landmark.
+    final fn link_count_at(&self, place: usize) -> usize
+        ensures { result ≡ length (links_at (county self.now) place) }
+    {
+        if place < self.landmark_count() {
+            self.link_count_there(place)
+        } else {
+            0
+        }
     }
 
     /// A type 8 record of the landmark at a place.

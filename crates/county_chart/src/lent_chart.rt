@@ -89,24 +89,24 @@ impl<'a, C: Chart> Chart for Lent<'a, C> {
         self.chart.chain_body_there(place)
     }
 
-    fn point_count_at(&self, place: usize) -> usize {
-        self.chart.point_count_at(place)
+    fn point_count_there(&self, place: usize) -> usize {
+        self.chart.point_count_there(place)
     }
 
     fn point_there(&self, place: usize, point: usize) -> Point {
         self.chart.point_there(place, point)
     }
 
-    fn feat_count_at(&self, place: usize) -> usize {
-        self.chart.feat_count_at(place)
+    fn feat_count_there(&self, place: usize) -> usize {
+        self.chart.feat_count_there(place)
     }
 
     fn chain_feat_there(&self, place: usize, name: usize) -> u32 {
         self.chart.chain_feat_there(place, name)
     }
 
-    fn range_count_at(&self, place: usize) -> usize {
-        self.chart.range_count_at(place)
+    fn range_count_there(&self, place: usize) -> usize {
+        self.chart.range_count_there(place)
     }
 
     fn range_there(&self, place: usize, range: usize) -> Ranges {
@@ -133,16 +133,16 @@ impl<'a, C: Chart> Chart for Lent<'a, C> {
         self.chart.polygon_body_there(place)
     }
 
-    fn body_count_at(&self, place: usize) -> usize {
-        self.chart.body_count_at(place)
+    fn body_count_there(&self, place: usize) -> usize {
+        self.chart.body_count_there(place)
     }
 
     fn landmark_body_there(&self, place: usize, body: usize) -> Body7 {
         self.chart.landmark_body_there(place, body)
     }
 
-    fn link_count_at(&self, place: usize) -> usize {
-        self.chart.link_count_at(place)
+    fn link_count_there(&self, place: usize) -> usize {
+        self.chart.link_count_there(place)
     }
 
     fn landmark_link_there(&self, place: usize, link: usize) -> Rec8 {

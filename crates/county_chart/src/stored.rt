@@ -1,6 +1,6 @@
 //! A county: chains, names, polygons and landmarks under their numbers, in each of the ways to store them.
 
-ghost use Rattle.std.specs.Prelude.{Some, [], length, option_map, unwrap_or, ◌<◌, ◌≡◌};
+ghost use Rattle.std.specs.Prelude.{Some, [], length, unwrap_or, ◌<◌, ◌≡◌};
 ghost use Rattle.std.specs.Option.{option_and_then, option_copied};
 ghost use Rattle.std.specs.Ordering.{nat_cmp};
 ghost use Rattle.county_chart.specs.CountyRules.{IsCounty, feats, lands, nodes as nodes_in_order, polygon_keys, tlids};
@@ -126,13 +126,6 @@ impl<C: StoredChain, N: StoredName, L: StoredLandmark> StoredCounty<C, N, L> {
         self.nodes.as_slice()
     }
 
-    /// Returns the chain at a place, or none after the last one.
-    pub(crate) fn chain_of_place(&self, place: usize) -> Option<&C>
-        ensures { option_map C.chain (option_copied result) ≡ chain_at (⟦<StoredCounty<C, N, L> as Chart>⟧.county self.now) place }
-    {
-        self.chains.value_at(place)
-    }
-
     /// Returns the chain at a place, which must be less than the number of chains.
     pub(crate) fn chain_there(&self, place: usize) -> &C
         requires { place < length (⟦<StoredCounty<C, N, L> as Chart>⟧.county self.now).chains }
@@ -141,24 +134,13 @@ impl<C: StoredChain, N: StoredName, L: StoredLandmark> StoredCounty<C, N, L> {
         self.chains.value_there(place)
     }
 
-    /// Returns the contents of the landmark at a place, or an empty list after the last one.
-    pub(crate) fn bodies_of_place(&self, place: usize) -> &[Body7]
-        ensures { result.now ≡ bodies_at (⟦<StoredCounty<C, N, L> as Chart>⟧.county self.now) place }
+    /// Returns the landmark at a place, which must be less than the number of landmarks.
+    pub(crate) fn landmark_there(&self, place: usize) -> &L
+        requires { place < length (⟦<StoredCounty<C, N, L> as Chart>⟧.county self.now).landmarks }
+        ensures bodies { (L.landmark result.now).bodies ≡ bodies_at (⟦<StoredCounty<C, N, L> as Chart>⟧.county self.now) place }
+        ensures links { (L.landmark result.now).links ≡ links_at (⟦<StoredCounty<C, N, L> as Chart>⟧.county self.now) place }
     {
-        match self.landmarks.value_at(place) {
-            Some(landmark) => landmark.bodies(),
-            None => &[],
-        }
-    }
-
-    /// Returns the links of the landmark at a place, or an empty list after the last one.
-    pub(crate) fn links_of_place(&self, place: usize) -> &[Rec8]
-        ensures { result.now ≡ links_at (⟦<StoredCounty<C, N, L> as Chart>⟧.county self.now) place }
-    {
-        match self.landmarks.value_at(place) {
-            Some(landmark) => landmark.links(),
-            None => &[],
-        }
+        self.landmarks.value_there(place)
     }
 }
 

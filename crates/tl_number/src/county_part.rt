@@ -1,6 +1,6 @@
 //! A part of a county as a chart. Nothing is copied: each call finds the place in the whole county, and reads it there.
 
-ghost use Rattle.std.specs.Prelude.{get_or, length, slice_get, ◌<◌, ◌≡◌};
+ghost use Rattle.std.specs.Prelude.{length, slice_get, ◌<◌, ◌≡◌};
 ghost use Rattle.county_chart.specs.ChartWords.{bodies_at, chain_at, links_at, name_at, polygon_at};
 ghost use Rattle.county_chart.specs.CountyRules.{IsCounty, feats, lands, nodes, polygon_keys, tlids};
 ghost use Rattle.county_chart.specs.Limits.{IsWithinLimits};
@@ -11,7 +11,7 @@ ghost use Rattle.canonical_form.specs.WholeArrangements.{AreReadAt};
 ghost use Rattle.tl_number.specs.CountyParts.{HoldsPart, part_with};
 
 use crate::part_tables::PartTables;
-use county_chart::{Chart, PolygonKey};
+use county_chart::{Chart, Listed, PolygonKey};
 use ordered_lists::place_of;
 use tl_layout::{Body1, Body5, Body7, BodyI, BodyP, Point, Ranges, Rec8, Side};
 
@@ -33,16 +33,6 @@ pub(crate) struct CountyPart<'a, C: Chart> {
     ghost within_limits: { IsWithinLimits most_records (part_with (C.county chart.now) tables.now) } by { IsWithinLimits-prop most_records (part_with (C.county chart.now) tables.now) },
 }
 
-/// Returns the place in the whole county for one in the part, or the end past the last one.
-fn place_there(places: &[u32], place: usize, end: usize) -> usize
-    ensures { result ≡ get_or places.now place end }
-{
-    match places.get(place) {
-        Some(there) => *there as usize,
-        None => end,
-    }
-}
-
 impl<'a, C: Chart> CountyPart<'a, C> {
     /// Makes the part of a county that these tables describe. The polygons of its landmarks are on its chains.
     pub(crate) fn new(chart: &'a C, tables: &'a PartTables) -> CountyPart<'a, C>
@@ -54,47 +44,43 @@ impl<'a, C: Chart> CountyPart<'a, C> {
         CountyPart { chart, tables }
     }
 
-    /// Returns the place of a chain in the whole county.
+    /// Returns the place in the whole county of the chain at a place, which must be less than the number of chains.
     fn chain(&self, place: usize) -> usize
+        requires { place < length (part_with (C.county self.now.chart.now) self.now.tables.now).chains }
         ensures chain { chain_at (C.county self.now.chart.now) result ≡ chain_at (part_with (C.county self.now.chart.now) self.now.tables.now) place }
-        ensures there { place < length (part_with (C.county self.now.chart.now) self.now.tables.now).chains → result < length (C.county self.now.chart.now).chains }
+        ensures there { result < length (C.county self.now.chart.now).chains }
     {
-        place_there(&self.tables.chains.places, place, self.chart.chain_count())
+        self.tables.chains.places.as_slice().item(place) as usize
     }
 
-    /// Returns the place of a name in the whole county.
+    /// Returns the place in the whole county of the name at a place, which must be less than the number of names.
     fn name(&self, place: usize) -> usize
+        requires { place < length (part_with (C.county self.now.chart.now) self.now.tables.now).names }
         ensures name { name_at (C.county self.now.chart.now) result ≡ name_at (part_with (C.county self.now.chart.now) self.now.tables.now) place }
-        ensures there { place < length (part_with (C.county self.now.chart.now) self.now.tables.now).names → result < length (C.county self.now.chart.now).names }
+        ensures there { result < length (C.county self.now.chart.now).names }
     {
-        place_there(&self.tables.names.places, place, self.chart.name_count())
+        self.tables.names.places.as_slice().item(place) as usize
     }
 
-    /// Returns the place of a polygon in the whole county.
+    /// Returns the place in the whole county of the polygon at a place, which must be less than the number of polygons.
     fn polygon(&self, place: usize) -> usize
+        requires { place < length (part_with (C.county self.now.chart.now) self.now.tables.now).polygons }
         ensures polygon { polygon_at (C.county self.now.chart.now) result ≡ polygon_at (part_with (C.county self.now.chart.now) self.now.tables.now) place }
-        ensures there { place < length (part_with (C.county self.now.chart.now) self.now.tables.now).polygons → result < length (C.county self.now.chart.now).polygons }
+        ensures there { result < length (C.county self.now.chart.now).polygons }
     {
-        place_there(
-            &self.tables.polygons.places,
-            place,
-            self.chart.polygon_count(),
-        )
+        self.tables.polygons.places.as_slice().item(place) as usize
     }
 
-    /// Returns the place of a landmark in the whole county.
+    /// Returns the place in the whole county of the landmark at a place, which must be less than the number of landmarks.
     fn landmark(&self, place: usize) -> usize
-        ensures there { place < length (part_with (C.county self.now.chart.now) self.now.tables.now).landmarks → result < length (C.county self.now.chart.now).landmarks }
+        requires { place < length (part_with (C.county self.now.chart.now) self.now.tables.now).landmarks }
+        ensures there { result < length (C.county self.now.chart.now).landmarks }
         ensures land { slice_get (lands (C.county self.now.chart.now)) result
             ≡ slice_get (lands (part_with (C.county self.now.chart.now) self.now.tables.now)) place }
         ensures bodies { bodies_at (C.county self.now.chart.now) result ≡ bodies_at (part_with (C.county self.now.chart.now) self.now.tables.now) place }
         ensures links { links_at (C.county self.now.chart.now) result ≡ links_at (part_with (C.county self.now.chart.now) self.now.tables.now) place }
     {
-        place_there(
-            &self.tables.landmarks.places,
-            place,
-            self.chart.landmark_count(),
-        )
+        self.tables.landmarks.places.as_slice().item(place) as usize
     }
 }
 
@@ -167,24 +153,24 @@ impl<'a, C: Chart> Chart for CountyPart<'a, C> {
         self.chart.chain_body_there(self.chain(place))
     }
 
-    fn point_count_at(&self, place: usize) -> usize {
-        self.chart.point_count_at(self.chain(place))
+    fn point_count_there(&self, place: usize) -> usize {
+        self.chart.point_count_there(self.chain(place))
     }
 
     fn point_there(&self, place: usize, point: usize) -> Point {
         self.chart.point_there(self.chain(place), point)
     }
 
-    fn feat_count_at(&self, place: usize) -> usize {
-        self.chart.feat_count_at(self.chain(place))
+    fn feat_count_there(&self, place: usize) -> usize {
+        self.chart.feat_count_there(self.chain(place))
     }
 
     fn chain_feat_there(&self, place: usize, name: usize) -> u32 {
         self.chart.chain_feat_there(self.chain(place), name)
     }
 
-    fn range_count_at(&self, place: usize) -> usize {
-        self.chart.range_count_at(self.chain(place))
+    fn range_count_there(&self, place: usize) -> usize {
+        self.chart.range_count_there(self.chain(place))
     }
 
     fn range_there(&self, place: usize, range: usize) -> Ranges {
@@ -211,16 +197,16 @@ impl<'a, C: Chart> Chart for CountyPart<'a, C> {
         self.chart.polygon_body_there(self.polygon(place))
     }
 
-    fn body_count_at(&self, place: usize) -> usize {
-        self.chart.body_count_at(self.landmark(place))
+    fn body_count_there(&self, place: usize) -> usize {
+        self.chart.body_count_there(self.landmark(place))
     }
 
     fn landmark_body_there(&self, place: usize, body: usize) -> Body7 {
         self.chart.landmark_body_there(self.landmark(place), body)
     }
 
-    fn link_count_at(&self, place: usize) -> usize {
-        self.chart.link_count_at(self.landmark(place))
+    fn link_count_there(&self, place: usize) -> usize {
+        self.chart.link_count_there(self.landmark(place))
     }
 
     fn landmark_link_there(&self, place: usize, link: usize) -> Rec8 {

@@ -1,5 +1,5 @@
 -- Nodes, names, polygons and landmarks of a county in an arrangement, read from its tables.
-use Rattle.arranged_county.proofs.Common.{AreReadAt, AreWhole, Arrangement, Body5, Body7, County, DirectedChain, Fields8, IsCounty, IsInOrder, IsPermutation, LandmarkTables, List, MatchesLandmarks, MatchesNames, NameTables, None, Option, PolygonKey, Some, [], ap, ap₂, arith, arranged_by, arrangement_of, arranges, distinct-in_order, eight_land, entry_values, feats, in_order-permutation, in_order-weaker, landmarks_in_order, lands, length, length-map, length-map-range_with_len, link_bounds, link_cmp, link_part, link_part_cmp, links_at, links_up_to, links_with, map, map-map, names_in_order, nat_cmp, nat_keys, nodes_in_order, numbered, on, option_map, polygons_in_order, read_length, read_nowhere, read_there, renaming_of, slice_get, slice_get-map, slice_get_within, subst, suc, sym, then-first, under_cenid, unwrap_or, up_to, up_to-strict, zero, ℕ, ◌+◌, ◌-◌, ◌<◌, ◌∙◌, ◌∷◌, ◌≡◌}
+use Rattle.arranged_county.proofs.Common.{AreReadAt, AreWhole, Arrangement, Body5, Body7, County, DirectedChain, Fields8, IsCounty, IsInOrder, IsPermutation, LandmarkTables, List, MatchesLandmarks, MatchesNames, NameTables, Option, PolygonKey, Some, [], ap, ap₂, arith, arranged_by, arrangement_of, arranges, distinct-in_order, eight_land, entry_values, feats, in_order-permutation, in_order-weaker, landmarks_in_order, lands, length, length-map, length-map-range_with_len, link_bounds, link_cmp, link_part, link_part_cmp, links_at, links_up_to, links_with, map, map-map, names_in_order, nat_cmp, nat_keys, nodes_in_order, numbered, on, option_map, polygons_in_order, read_length, read_there, renaming_of, slice_get, slice_get-map, slice_get_within, subst, suc, sym, then-first, under_cenid, unwrap_or, up_to, up_to-strict, zero, ℕ, ◌+◌, ◌-◌, ◌<◌, ◌∙◌, ◌∷◌, ◌≡◌}
 use Rattle.county_chart.specs.Renumbering.{carried_landmark, carried_name}
 use Rattle.county_chart.specs.CountyRules.{nodes, nodes_along}
 use Rattle.canonical_form.proofs.Arrangements.Carrying.{feats_arranged, landmarks_arranged, lands_arranged, names_arranged, names_renamed, node_rights, nodes_renamed, paired_nodes, polygons_renamed}
@@ -23,21 +23,12 @@ listed_within [] i k h = absurd (omega (arith, h))
 listed_within (x ∷ xs) zero k h = omega arith
 listed_within (x ∷ xs) (suc i) k h = omega (arith, listed_within xs i k h)
 
-pub read_past : {X : Type 0} (xs ys : List X) (places : List ℕ) → AreReadAt xs places ys → (i : ℕ) → None ≡ slice_get places i
-    → None ≡ slice_get ys i
-read_past xs ys places e i h = sym (read_nowhere (slice_get xs) places ys e i (sym h))
-
 -- the value of an entry read at its old place
-pub value_at : {V : Type 0} (xs ys : List (ℕ × V)) (places : List ℕ) → AreReadAt xs places ys → (i p : ℕ) → Some p ≡ slice_get places i
+pub value_at : {K V : Type 0} (xs ys : List (K × V)) (places : List ℕ) → AreReadAt xs places ys → (i p : ℕ) → Some p ≡ slice_get places i
     → slice_get (entry_values xs) p ≡ slice_get (entry_values ys) i
-value_at {V} xs ys places e i p h =
-    slice_get-map (λ (d : ℕ × V). d.1) xs p ∙ ap (option_map (λ (d : ℕ × V). d.1)) (read_at xs ys places e i p h)
-    ∙ sym (slice_get-map (λ (d : ℕ × V). d.1) ys i)
-
-pub value_past : {V : Type 0} (xs ys : List (ℕ × V)) (places : List ℕ) → AreReadAt xs places ys → (i : ℕ) → None ≡ slice_get places i
-    → None ≡ slice_get (entry_values ys) i
-value_past {V} xs ys places e i h =
-    ap (option_map (λ (d : ℕ × V). d.1)) (read_past xs ys places e i h) ∙ sym (slice_get-map (λ (d : ℕ × V). d.1) ys i)
+value_at {K} {V} xs ys places e i p h =
+    slice_get-map (λ (d : K × V). d.1) xs p ∙ ap (option_map (λ (d : K × V). d.1)) (read_at xs ys places e i p h)
+    ∙ sym (slice_get-map (λ (d : K × V). d.1) ys i)
 
 module _ (county : County) (arrangement : List DirectedChain) (is : IsCounty county) (whole : AreWhole county arrangement) where
   abbrev order : Arrangement
@@ -112,6 +103,9 @@ module _ (county : County) (arrangement : List DirectedChain) (is : IsCounty cou
         (value_at county.landmarks (landmarks_in_order county order) tables.places.items stated.landmarks i p h
         ∙ ap (λ vs. slice_get vs i) (sym landmark_values))
 
+    pub landmark_place_within : (i p : ℕ) → Some p ≡ slice_get tables.places.items i → p < length county.landmarks
+    landmark_place_within = read_within county.landmarks (landmarks_in_order county order) tables.places.items stated.landmarks
+
     pub landmark_within : (i k : ℕ) → k < length (unwrap_or (slice_get (entry_values (arranged_by county arrangement).landmarks) i) [])
         → i < length tables.places.items
     landmark_within i k h = omega (
@@ -120,12 +114,6 @@ module _ (county : County) (arrangement : List DirectedChain) (is : IsCounty cou
       length-map (arranged_by county arrangement).landmarks (λ (d : ℕ × List Body7). d.1),
       landmarks_arranged_by,
     )
-
-    pub landmark_missing : (i : ℕ) → None ≡ slice_get tables.places.items i
-        → [] ≡ unwrap_or (slice_get (entry_values (arranged_by county arrangement).landmarks) i) []
-    landmark_missing i h = ap (λ (o : Option (List Body7)). unwrap_or o [])
-        (value_past county.landmarks (landmarks_in_order county order) tables.places.items stated.landmarks i h
-        ∙ ap (λ vs. slice_get vs i) (sym landmark_values))
 
     -- the links are between their bounds
     pub bounds_counted : length tables.bounds.items ≡ suc (length tables.places.items)

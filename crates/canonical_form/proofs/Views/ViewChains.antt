@@ -1,5 +1,5 @@
 -- The chains of a county in an arrangement, read at the places of its directed chains.
-use Rattle.canonical_form.proofs.Common.{AreWhole, Arrangement, Arranges, Chain, County, DirectedChain, HasChainsOf, IsApart, IsCounty, List, None, Option, Some, [], ap, apart-permutation_of, apart_from_sorted, arith, arranged_by, arranged_tlids, arrangement_of, chain_at, directed_chain, entries_of, entry_values, flat_map, length, length-map, map, map-map, nat_cmp, nat_keys, option_map, placed, refl, renaming_of, renumbered, rights-numbered_from, slice_get, slice_get-map, slice_get_past, suc, sym, tlid_at, tlids, turned_if, up_to, zero, ℕ, ◌++◌, ◌∙◌, ◌∷◌, ◌≡◌, ◌≤◌}
+use Rattle.canonical_form.proofs.Common.{AreWhole, Arrangement, Arranges, Chain, County, DirectedChain, HasChainsOf, IsApart, IsCounty, List, Option, Some, [], ap, apart-permutation_of, apart_from_sorted, arith, arranged_by, arranged_tlids, arrangement_of, chain_at, directed_chain, entries_of, entry_values, flat_map, length, length-map, map, map-map, nat_cmp, nat_keys, option_map, placed, refl, renaming_of, renumbered, rights-numbered_from, slice_get, slice_get-map, suc, sym, tlid_at, tlids, turned_if, up_to, zero, ℕ, ◌++◌, ◌∙◌, ◌∷◌, ◌≡◌}
 use Rattle.canonical_form.proofs.Arrangements.Carrying.{chains_arranged, tlids_arranged}
 use Rattle.canonical_form.proofs.Unique.SameNumbers.{kept_entry}
 use Rattle.canonical_form.proofs.Views.DirectedChains.{one_here}
@@ -16,16 +16,6 @@ read_there f (z ∷ zs) (y ∷ ys) e zero x h =
 read_there {X} {Y} f (z ∷ zs) (y ∷ ys) e (suc i) x h =
     let rest : map f zs ≡ map Some ys = cc in
     read_there f zs ys rest i x h
-
-pub read_nowhere : {X Y : Type 0} (f : X → Option Y) (xs : List X) (ys : List Y) → map f xs ≡ map Some ys → (i : ℕ)
-    → slice_get xs i ≡ None → slice_get ys i ≡ None
-read_nowhere f [] [] e i h = refl
-read_nowhere f [] (y ∷ ys) e i h = cc
-read_nowhere f (z ∷ zs) [] e i h = refl
-read_nowhere f (z ∷ zs) (y ∷ ys) e zero h = cc
-read_nowhere f (z ∷ zs) (y ∷ ys) e (suc i) h =
-    let rest : map f zs ≡ map Some ys = cc in
-    read_nowhere f zs ys rest i h
 
 pub read_length : {X Y : Type 0} (f : X → Option Y) (xs : List X) (ys : List Y) → map f xs ≡ map Some ys → length ys ≡ length xs
 read_length f xs ys e = sym (length-map ys Some) ∙ ap length (sym e) ∙ length-map xs f
@@ -75,12 +65,6 @@ module _ (county : County) (arrangement : List DirectedChain) (is : IsCounty cou
             ∙ ap (option_map (renumbered (renaming_of county order))) c.1,
       )
 
-  pub chain_missing : (i : ℕ) → slice_get arrangement i ≡ None → chain_at (arranged_by county arrangement) i ≡ None
-  chain_missing i h =
-      ap (λ cs. slice_get cs i) values ∙ slice_get-map (renumbered (renaming_of county order)) chains i
-      ∙ ap (option_map (renumbered (renaming_of county order))) (read_nowhere (directed_chain county) arrangement chains
-      (bodies_read arrangement whole.there) i h)
-
   pub tlids_arranged_by : tlids (arranged_by county arrangement) ≡ up_to (length arrangement)
   tlids_arranged_by = tlids_arranged county order is arranges
       ∙ ap up_to (length-map order (λ (s : ℕ × _). s.0) ∙ length-map arrangement (λ s. (tlid_at county s.place, s.turned)))
@@ -94,11 +78,3 @@ module _ (county : County) (arrangement : List DirectedChain) (is : IsCounty cou
   pub numbered_there : (i : ℕ) (s : DirectedChain) → Some s ≡ slice_get arrangement i
       → chain_at (arranged_by county arrangement) i ≡ option_map (renumbered (renaming_of county order)) (directed_chain county s)
   numbered_there i s e = let t = chain_there i s (sym e) in t.2 ∙ sym (ap (option_map (renumbered (renaming_of county order))) t.1)
-
-  pub numbered_past : (i : ℕ) (s : DirectedChain) → None ≡ slice_get arrangement i → length county.chains ≤ s.place
-      → chain_at (arranged_by county arrangement) i ≡ option_map (renumbered (renaming_of county order)) (directed_chain county s)
-  numbered_past i s e past =
-      chain_missing i (sym e)
-      ∙ sym (ap (λ o. option_map (renumbered (renaming_of county order)) (option_map (turned_if s.turned) o))
-      (slice_get_past (entry_values county.chains) s.place
-      (let same = length-map county.chains (λ (e : ℕ × Chain). e.1) in omega (arith, same, past))))

@@ -83,31 +83,22 @@ impl<C: StoredChain, N: StoredName, L: StoredLandmark> Chart for StoredCounty<C,
     }
 
     fn chain_byte(&self, place: usize) -> u8 {
-        match self.chain_of_place(place) {
+        match self.chains.value_at(place) {
             Some(chain) => chain.body().any_byte(),
             None => 0,
         }
     }
 
-    fn point_count_at(&self, place: usize) -> usize {
-        match self.chain_of_place(place) {
-            Some(chain) => chain.points().len(),
-            None => 0,
-        }
+    fn point_count_there(&self, place: usize) -> usize {
+        self.chain_there(place).points().len()
     }
 
-    fn feat_count_at(&self, place: usize) -> usize {
-        match self.chain_of_place(place) {
-            Some(chain) => chain.feats().len(),
-            None => 0,
-        }
+    fn feat_count_there(&self, place: usize) -> usize {
+        self.chain_there(place).feats().len()
     }
 
-    fn range_count_at(&self, place: usize) -> usize {
-        match self.chain_of_place(place) {
-            Some(chain) => chain.ranges().len(),
-            None => 0,
-        }
+    fn range_count_there(&self, place: usize) -> usize {
+        self.chain_there(place).ranges().len()
     }
 
     fn point_there(&self, place: usize, point: usize) -> Point {
@@ -144,20 +135,20 @@ impl<C: StoredChain, N: StoredName, L: StoredLandmark> Chart for StoredCounty<C,
         *self.polygons.value_there(place)
     }
 
-    fn body_count_at(&self, place: usize) -> usize {
-        self.bodies_of_place(place).len()
+    fn body_count_there(&self, place: usize) -> usize {
+        self.landmark_there(place).bodies().len()
     }
 
-    fn link_count_at(&self, place: usize) -> usize {
-        self.links_of_place(place).len()
+    fn link_count_there(&self, place: usize) -> usize {
+        self.landmark_there(place).links().len()
     }
 
     fn landmark_body_there(&self, place: usize, body: usize) -> Body7 {
-        self.bodies_of_place(place)[body]
+        self.landmark_there(place).bodies()[body]
     }
 
     fn landmark_link_there(&self, place: usize, link: usize) -> Rec8 {
-        self.links_of_place(place)[link]
+        self.landmark_there(place).links()[link]
     }
 
     ghost is_county = { λ k. k.is_county };

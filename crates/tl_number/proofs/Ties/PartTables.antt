@@ -1,34 +1,11 @@
 -- The tables of a part of a county hold its keys, and the places of its entries in the county.
-use Rattle.tl_number.proofs.Common.{ArePartKeys, AreReadAt, Body7, Bool, Chain, County, DirectedChain, Fields8, HoldsPart, IfSome, IsKeyOrder, List, None, Option, Ordering, PartTables, PolygonKey, Some, [], all_among, all_everywhere, all_map, among-get, ap, append-nil, ap₂, arith, at_places, bodies_at, chain_feats, chain_nodes, chain_polygons, contains, contains_alike, distinct, distinct-in_order, distinct_same, entry_keys, entry_values, eqb-true, false, feats, feats_along, filter, first_seen, flat_map, from_first_seen, get_or, grouped, in_order-strict, key_cmp, key_keys, keys_along, lands, length, length-map, links_at, links_with, list_any, map, map-map, nat_cmp, nat_keys, nodes_along, option_map, option_to_list, part_with, places_among, polygon_keys, polygons_along, range_with_len, refl, slice_get, slice_get-map, slice_get_past, slice_get_within, subst, suc, sym, tlids, to_first_seen, true, turned_if, unwrap_or, zero, ℕ, ◌++◌, ◌<◌, ◌==◌, ◌||◌, ◌∙◌, ◌∷◌, ◌≡◌}
+use Rattle.tl_number.proofs.Common.{ArePartKeys, AreReadAt, Body7, Bool, Chain, County, DirectedChain, Fields8, HoldsPart, IfSome, IsKeyOrder, List, None, Option, Ordering, PartTables, PolygonKey, Some, [], all_among, all_everywhere, all_map, among-get, ap, append-nil, ap₂, at_places, bodies_at, chain_feats, chain_nodes, chain_polygons, contains, contains_alike, distinct, distinct-in_order, distinct_same, entry_keys, eqb-true, false, feats, feats_along, filter, first_seen, flat_map, from_first_seen, grouped, in_order-strict, key_cmp, key_keys, keys_along, lands, length-map, links_at, links_with, list_any, map, map-map, nat_cmp, nat_keys, nodes_along, option_map, option_to_list, part_with, places_among, polygon_keys, polygons_along, range_with_len, refl, slice_get, slice_get-map, subst, sym, tlids, to_first_seen, true, turned_if, unwrap_or, ℕ, ◌++◌, ◌==◌, ◌||◌, ◌∙◌, ◌∷◌, ◌≡◌}
 use Rattle.arranged_county.proofs.Names.NameOrder.{filter_map_all}
+use Rattle.arranged_county.proofs.Views.ViewTables.{read_at}
 use Rattle.tl_number.proofs.Ties.CountyParts.{all_pass}
 use Rattle.tl_number.proofs.Ties.PartChoices.{filter_narrower}
 use Rattle.tl_number.proofs.Ties.Places.{marked_read}
 use Rattle.tl_number.specs.CountyParts.{part_of}
-
--- what is read at places is read at one of them
-read_there : {X : Type 0} (xs : List X) (places : List ℕ) (ys : List X) → AreReadAt xs places ys → (place : ℕ)
-    → slice_get xs (get_or places place (length xs)) ≡ slice_get ys place
-read_there xs [] [] e place = slice_get_past xs (length xs) (omega arith)
-read_there xs [] (y ∷ ys) e place = cc
-read_there xs (p ∷ ps) [] e place = cc
-read_there xs (p ∷ ps) (y ∷ ys) e zero = let here : slice_get xs p ≡ Some y = cc in here
-read_there xs (p ∷ ps) (y ∷ ys) e (suc place) = let rest : AreReadAt xs ps ys = cc in read_there xs ps ys rest place
-
--- so are the values of entries
-pub value_there : {K V : Type 0} (es : List (K × V)) (places : List ℕ) (in_part : List (K × V)) → AreReadAt es places in_part → (place there : ℕ)
-    → there ≡ get_or places place (length es) → slice_get (entry_values es) there ≡ slice_get (entry_values in_part) place
-value_there {K} {V} es places in_part e place there is =
-    slice_get-map (λ (entry : K × V). entry.1) es there
-    ∙ ap (option_map (λ (entry : K × V). entry.1)) (ap (slice_get es) is ∙ read_there es places in_part e place)
-    ∙ sym (slice_get-map (λ (entry : K × V). entry.1) in_part place)
-
--- and of one that is there
-pub read_within : {E X : Type 0} (f : E → X) (es in_part : List E) (there place : ℕ)
-    → slice_get (map f es) there ≡ slice_get (map f in_part) place → place < length in_part → there < length es
-read_within f es [] there place e h = absurd (omega (arith, h))
-read_within f es (x ∷ in_part) there zero e h = omega (arith, slice_get_within (map f es) there (f x) e, length-map es f)
-read_within f es (x ∷ in_part) there (suc place) e h = read_within f es in_part there place e (omega (arith, h))
 
 -- entries with used keys, if the same keys are wanted
 module _ {K V : Type 0} (cmp : K → K → Ordering) (wanted used : List K) (same : (k : K) → contains cmp k wanted ≡ contains cmp k used)
@@ -119,12 +96,11 @@ tables_hold county tables chains in_part there nodes names polygons landmarks =
           (λ k. seen_known nat_keys (grouped (keys_along chain_nodes county chains)) k ∙ ap (contains nat_cmp k) along_nodes);
     }
 
--- A landmark of a part is read at its place in the county, or past the end, with all its links.
+-- A landmark of a part is read at its place in the county, with all its links.
 module _ (county : County) (tables : PartTables) (read : AreReadAt county.landmarks tables.landmarks.places.items (part_with county tables).landmarks)
-    (place there : ℕ) (is : there ≡ get_or tables.landmarks.places.items place (length county.landmarks)) where
+    (place there : ℕ) (is : Some there ≡ slice_get tables.landmarks.places.items place) where
   landmark_read : slice_get county.landmarks there ≡ slice_get (part_with county tables).landmarks place
-  landmark_read = ap (slice_get county.landmarks) is
-      ∙ read_there county.landmarks tables.landmarks.places.items (part_with county tables).landmarks read place
+  landmark_read = read_at county.landmarks (part_with county tables).landmarks tables.landmarks.places.items read place there is
 
   field_read : {X : Type 0} (f : ℕ × List Body7 → X)
       → slice_get (map f county.landmarks) there ≡ slice_get (map f (part_with county tables).landmarks) place

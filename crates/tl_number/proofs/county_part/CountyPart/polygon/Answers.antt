@@ -1,10 +1,19 @@
-use Rattle.tl_number.proofs.Common.{get_or, ◌∙◌}
-use Rattle.tl_number.proofs.Ties.PartTables.{read_within, value_there}
+use Rattle.tl_number.proofs.Common.{ap, arith, length, part_with, slice_get, ◌∙◌}
+use Rattle.arranged_county.proofs.Views.ViewTables.{read_within, value_at}
+use Rattle.canonical_form.proofs.Views.ViewChains.{read_length}
 use Rattle.tl_number.proofs.county_part.CountyPart.polygon.Goals as goal
 
+pub item-requires : goal.item-requires
+item-requires g c =
+    let county = g.C.Chart.county c.args.self.now.chart.now in
+    let tables = c.args.self.now.tables.now in
+    let count = read_length (slice_get county.polygons) tables.polygons.places.items (part_with county tables).polygons c.args.self.now.polygons in
+    omega (arith, c.requires, ap length c.as_slice.ensures.value, count)
+
 pub returns-clause-polygon : goal.returns-clause-polygon
-returns-clause-polygon g c = value_there _ _ _ c.args.self.now.polygons c.args.place c.place_there.result
-    (c.place_there.ensures ∙ (λ i. get_or (c.deref.ensures.value i) c.args.place (c.polygon_count.ensures i)))
+returns-clause-polygon g c = value_at _ _ _ c.args.self.now.polygons c.args.place c.item.result
+    (c.item.ensures ∙ ap (λ places. slice_get places c.args.place) c.as_slice.ensures.value)
 
 pub returns-clause-there : goal.returns-clause-there
-returns-clause-there g c = read_within (λ entry. entry.1) _ _ _ _ (returns-clause-polygon g c)
+returns-clause-there g c = read_within _ _ _ c.args.self.now.polygons c.args.place c.item.result
+    (c.item.ensures ∙ ap (λ places. slice_get places c.args.place) c.as_slice.ensures.value)

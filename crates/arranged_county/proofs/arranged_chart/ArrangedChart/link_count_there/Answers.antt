@@ -1,6 +1,6 @@
 use Rattle.arranged_county.proofs.Common.{ap, length, ◌∙◌}
 use Rattle.arranged_county.proofs.Views.ViewTables.{bounds_stated, links_ordered, links_stated}
-use Rattle.arranged_county.proofs.arranged_chart.ArrangedChart.link_count_at.Goals as goal
+use Rattle.arranged_county.proofs.arranged_chart.ArrangedChart.link_count_there.Goals as goal
 
 pub links_of_landmark-requires-clause-in_order : goal.links_of_landmark-requires-clause-in_order
 links_of_landmark-requires-clause-in_order g c =
