@@ -54,7 +54,12 @@ fn arrange_tables<C: Chart>(
     requires sides { AllKeysContained (polygons_along (classed_county classes.now).chains) (polygon_keys (classed_county classes.now)) }
     ensures { IfOk result (MatchTables (classed_county classes.now) arrangement.now) }
 {
-    let (nodes, polygons) = arrange_nodes_and_polygons(alloc, classes.chart, arrangement)?;
+    let (nodes, polygons) = arrange_nodes_and_polygons(
+        alloc,
+        classes.chart,
+        arrangement,
+        classes.slots,
+    )?;
     let others = arrange_names_and_landmarks(alloc, classes, arrangement, &polygons.numbers);
     let ((nodes, polygons), (names, landmarks)) = both((nodes, polygons), others)?;
     Ok((nodes, polygons, names, landmarks))

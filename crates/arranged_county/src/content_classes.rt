@@ -11,6 +11,7 @@ ghost use Rattle.arranged_county.specs.ViewProps.{AreClasses-prop};
 
 use crate::landmark_contents::LandmarkContents;
 use crate::name_contents::NameContents;
+use crate::slots::Slots;
 use county_chart::Chart;
 use std::alloc::{AllocError, Global};
 use std::cmp::Ordering;
@@ -113,6 +114,7 @@ pub struct Classes<'a, C: Chart> {
     pub(crate) chart: &'a C,
     pub(crate) names: Vec<ClassedPlace>,
     pub(crate) landmarks: Vec<ClassedPlace>,
+    pub(crate) slots: Slots,
     ghost names_stated: { AreClasses (length (C.county chart.now).names) (name_content_cmp (C.county chart.now)) names.items } by { AreClasses-prop (length (C.county chart.now).names) (name_content_cmp (C.county chart.now)) names.items },
     ghost landmarks_stated: { AreClasses (length (C.county chart.now).landmarks) (landmark_bodies_cmp (C.county chart.now)) landmarks.items } by { AreClasses-prop (length (C.county chart.now).landmarks) (landmark_bodies_cmp (C.county chart.now)) landmarks.items },
 }
@@ -128,6 +130,25 @@ impl<'a, C: Chart> Classes<'a, C> {
     pub fn of(alloc: Global, chart: &'a C) -> Result<Classes<'a, C>, AllocError>
         ensures { IfOk result (λ classes. classed_county classes ≡ C.county chart.now) }
     {
+        Classes::with_slots(alloc, chart, Slots::usual(chart))
+    }
+
+    /// Does the same for a county that is arranged many times: looks for tables in which few of its numbers share a slot.
+    ///
+    /// # Errors
+    ///
+    /// `AllocError` if an allocation failed.
+    pub fn for_many(alloc: Global, chart: &'a C) -> Result<Classes<'a, C>, AllocError>
+        ensures { IfOk result (λ classes. classed_county classes ≡ C.county chart.now) }
+    {
+        let slots = Slots::apart(alloc, chart)?;
+        Classes::with_slots(alloc, chart, slots)
+    }
+
+    /// Puts the names and the landmarks of a county into classes. Tables for its numbers are to have these slots.
+    fn with_slots(alloc: Global, chart: &'a C, slots: Slots) -> Result<Classes<'a, C>, AllocError>
+        ensures { IfOk result (λ classes. classed_county classes ≡ C.county chart.now) }
+    {
         let contents = NameContents { chart };
         let names = classes_in(alloc, &contents)?;
         let bodies = LandmarkContents { chart };
@@ -136,6 +157,7 @@ impl<'a, C: Chart> Classes<'a, C> {
             chart,
             names,
             landmarks,
+            slots,
         })
     }
 

@@ -17,8 +17,9 @@ ghost use Rattle.arranged_county.specs.ViewFacts.{MatchesNodes};
 
 use crate::arranged_tables::{Ends, NodeTables, Sides};
 use crate::directed_readers::{ends_of_directed, sides_of_directed};
-use crate::numbers::{Interner, NumericKey, marks_for};
+use crate::numbers::{Interner, NumericKey};
 use crate::pairing::if_done;
+use crate::slots::Slots;
 use county_chart::{Chart, DirectedChain, PolygonKey};
 use ordered_lists::Key;
 use std::alloc::{AllocError, Global};
@@ -163,10 +164,12 @@ fn see_pairs<T: Half>(
     Ok(())
 }
 
-/// Returns the keys of these ends or sides in the order of their first appearance, and the ends or sides with these numbers.
+/// Returns the keys of these ends or sides in the order of their first appearance, and the ends or sides with these numbers. The table of
+/// the keys gets this many slots.
 pub(crate) fn number_pairs<T: Half>(
     alloc: Global,
     pairs: Vec<(T, T)>,
+    slots: usize,
 ) -> Result<(Interner<T::Old>, Vec<(T, T)>), AllocError>
     requires { T.AreFew (length (first_seen T.Old.cmp (flat_map (keys_at T.keys) pairs.items))) }
     ensures numbers { IfOk result (λ tables. tables.0 ≡ first_seen T.Old.cmp (flat_map (keys_at T.keys) pairs.items)) }
@@ -174,7 +177,7 @@ pub(crate) fn number_pairs<T: Half>(
         ≡ map (changed_both (T.among (first_seen T.Old.cmp (flat_map (keys_at T.keys) pairs.items)))) pairs.items) }
 {
     let mut pairs = pairs;
-    let mut numbers = Interner::with_marks(alloc, marks_for(pairs.len()))?;
+    let mut numbers = Interner::with_marks(alloc, slots)?;
     let seen = see_pairs(&mut numbers, &mut pairs);
     if_done((numbers, pairs), seen)
 }
@@ -185,6 +188,7 @@ pub(crate) fn number_topologies<C: Chart>(
     alloc: Global,
     chart: &C,
     arrangement: &[DirectedChain],
+    slots: Slots,
 ) -> Result<(NodeTables, Interner<PolygonKey>, Vec<Sides>), AllocError>
     requires { AreWhole (C.county chart.now) arrangement.now }
     ensures nodes { IfOk result (λ tables. MatchesNodes (C.county chart.now) arrangement.now tables.0) }
@@ -192,8 +196,8 @@ pub(crate) fn number_topologies<C: Chart>(
     ensures sides { IfOk result (λ tables. tables.2.items ≡ map sides_of (entry_values (arranged_by (C.county chart.now) arrangement.now).chains)) }
 {
     let (ends, sides) = topologies_along(alloc, chart, arrangement)?;
-    let (nodes, ends) = number_pairs(alloc, ends)?;
-    let (polygons, sides) = number_pairs(alloc, sides)?;
+    let (nodes, ends) = number_pairs(alloc, ends, slots.nodes)?;
+    let (polygons, sides) = number_pairs(alloc, sides, slots.polygons)?;
     Ok((
         NodeTables {
             numbers: nodes,

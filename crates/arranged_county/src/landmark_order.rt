@@ -108,11 +108,13 @@ fn sorted_places(
 }
 
 /// Returns the links of a county with its landmarks in the order of these places, and how many have a LAND up to each of 0, 1, 2, ..
+/// The table of the landmarks gets this many slots.
 fn links_by_land<C: Chart>(
     alloc: Global,
     chart: &C,
     polygons: &Interner<PolygonKey>,
     places: &[u32],
+    slots: usize,
 ) -> Result<(Vec<Rec8>, Vec<usize>), AllocError>
     requires few_polygons { length polygons.now < 10 ^ 10 }
     requires few_places { length places.now < 2 ^ 32 }
@@ -123,7 +125,7 @@ fn links_by_land<C: Chart>(
     ensures bounds { IfOk result (λ lists. lists.1.items ≡ link_bounds lists.0.items (length places.now)) }
 {
     let numbers = lands_there(alloc, chart, places)?;
-    let lands = Interner::of_distinct(alloc, &numbers)?;
+    let lands = Interner::of_distinct(alloc, &numbers, slots)?;
     let links = links_under(alloc, chart, polygons, &lands, places);
     // Trick: one call for the prover, which otherwise reads the drop of each part.
     drop(lands);
@@ -147,7 +149,8 @@ fn places_in_order<C: Chart>(
         chart: classes.chart,
     };
     let unordered = all_places(alloc, &bodies)?;
-    let (links, bounds) = links_by_land(alloc, classes.chart, polygons, &unordered)?;
+    let slots = classes.slots.landmarks;
+    let (links, bounds) = links_by_land(alloc, classes.chart, polygons, &unordered, slots)?;
     let lists = LinkLists {
         links: links.as_slice(),
         bounds: bounds.as_slice(),
@@ -169,7 +172,8 @@ pub(crate) fn arrange_landmarks<C: Chart>(
     ensures { IfOk result (MatchesLandmarks (classed_county classes.now) arrangement.now) }
 {
     let places = places_in_order(alloc, classes, polygons)?;
-    let (links, bounds) = links_by_land(alloc, classes.chart, polygons, &places)?;
+    let slots = classes.slots.landmarks;
+    let (links, bounds) = links_by_land(alloc, classes.chart, polygons, &places, slots)?;
     Ok(LandmarkTables {
         places,
         links,

@@ -24,6 +24,7 @@ mod other_places;
 mod pairing;
 mod polygon_order;
 mod renumbering;
+mod slots;
 
 pub use arranged::{Arranged, Evidence, Unknown};
 pub use arranged_tables::{Ends, LandmarkTables, NameTables, NodeTables, PolygonTables, Sides};

@@ -17,7 +17,7 @@ ghost use Rattle.arranged_county.specs.Views.{classed_county};
 
 use crate::arranged_tables::NameTables;
 use crate::content_classes::{ClassedPlace, Classes};
-use crate::numbers::{Interner, marks_for};
+use crate::numbers::Interner;
 use county_chart::{Chart, DirectedChain};
 use ordered_lists::{bring_close, sort_keys};
 use std::alloc::{AllocError, Global};
@@ -26,15 +26,17 @@ use std::alloc::{AllocError, Global};
 /// of FEATs, counted from 0.
 type NameKey = (u32, (u64, u32));
 
-/// Returns the FEATs that chains list, in the order of their first appearance along these directed chains.
+/// Returns the FEATs that chains list, in the order of their first appearance along these directed chains, in a table with this many
+/// slots.
 fn number_uses<C: Chart>(
     alloc: Global,
     chart: &C,
     arrangement: &[DirectedChain],
+    slots: usize,
 ) -> Result<Interner<u32>, AllocError>
     ensures { IfOk result (λ feats. feats ≡ first_seen nat_cmp (feats_along_arrangement (C.county chart.now) arrangement.now)) }
 {
-    let mut feats = Interner::with_marks(alloc, marks_for(chart.name_count()))?;
+    let mut feats = Interner::with_marks(alloc, slots)?;
     let mut rest = arrangement;
     while let Some((directed, later)) = rest.split_first() {
         feats.see_all(&directed.feats(chart))?;
@@ -137,7 +139,7 @@ fn places_in_order<C: Chart>(
         (names_in_order (classed_county classes.now) (arrangement_of (classed_county classes.now) arrangement.now))) }
 {
     let chart = classes.chart;
-    let uses = number_uses(alloc, chart, arrangement)?;
+    let uses = number_uses(alloc, chart, arrangement, classes.slots.names)?;
     let keys = name_keys(alloc, chart, &uses, &classes.names)?;
     let ranks = uses.len() as u64 + 1;
     sorted_places(alloc, keys, ranks)
@@ -155,6 +157,6 @@ pub(crate) fn arrange_names<C: Chart>(
 {
     let places = places_in_order(alloc, classes, arrangement)?;
     let numbers = feats_there(alloc, classes.chart, &places)?;
-    let feats = Interner::of_distinct(alloc, &numbers)?;
+    let feats = Interner::of_distinct(alloc, &numbers, classes.slots.names)?;
     Ok(NameTables { feats, places })
 }

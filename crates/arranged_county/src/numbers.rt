@@ -130,7 +130,7 @@ impl<K: Key + Hash + NumericKey> Listed for Interner<K> {
 
 /// Returns the slot of a number in a table of marks of this length, or the number itself if there is no slot.
 #[inline(always)]
-fn slot_of(len: usize, number: u64) -> usize
+pub(crate) fn slot_of(len: usize, number: u64) -> usize
     ensures { result ≡ number % len }
 {
     let len = len as u64;
@@ -342,16 +342,16 @@ impl<K: Key + Hash + NumericKey> Interner<K> {
         Ok(())
     }
 
-    /// Numbers keys in their order. No key is repeated.
+    /// Numbers keys in their order, with this many slots for marks. No key is repeated.
     ///
     /// # Errors
     ///
     /// `AllocError` if an allocation failed.
-    pub fn of_distinct(alloc: Global, keys: &[K]) -> Result<Interner<K>, AllocError>
+    pub fn of_distinct(alloc: Global, keys: &[K], slots: usize) -> Result<Interner<K>, AllocError>
         requires { has_repeat K.cmp keys.now ≡ false }
         ensures { IfOk result (λ numbers. numbers ≡ keys.now) }
     {
-        let mut numbers = Interner::with_marks(alloc, marks_for(keys.len()))?;
+        let mut numbers = Interner::with_marks(alloc, slots)?;
         let seen = numbers.see_all(&keys);
         if_done(numbers, seen)
     }

@@ -180,7 +180,7 @@ pub(crate) fn least_among_choices<C: Chart>(
     ensures { IfOk result (IsLeastBelow (C.county chart.now) (choices (C.county chart.now))) }
 {
     let alike = alike_chains(alloc, chart, shape_order)?;
-    let classes = Classes::of(alloc, chart)?;
+    let classes = Classes::for_many(alloc, chart)?;
     let county = ComparedCounty {
         classes: &classes,
         shape_order,

@@ -4,7 +4,7 @@ use Rattle.county_chart.specs.Laws.PackedTypes.{by_type_of}
 use Rattle.county_chart.specs.Laws.TypeCounts.{by_type_within}
 use Rattle.tl_layout.specs.Limits.{most_records}
 use Rattle.county_chart.specs.Packing.{packed, packed_by_type, packed_sevens}
-use Rattle.arranged_county.proofs.content_classes.Classes.of.Goals as goal
+use Rattle.arranged_county.proofs.content_classes.Classes.with_slots.Goals as goal
 
 -- a county has at most as many landmarks as records of one type
 few_bodies : (county : County) → IsCounty county → IsWithinLimits most_records county → length county.landmarks ≤ most_records
