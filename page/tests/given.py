@@ -194,7 +194,7 @@ new MutationObserver((_, observer) => {
 
 
 def leave(page: Page, files: list[Path], shown: str) -> str:
-    """Begins anew as soon as something is shown of these files, and returns what was announced."""
+    """Starts again as soon as the page shows anything about these files, and returns what it announced."""
     what = f"{len(files)} files at {shown}"
     page.browser.start_again()
     page.browser.execute(STOPPED_AT, shown, "#again")

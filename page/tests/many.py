@@ -156,7 +156,7 @@ def try_many(page: Page) -> None:
 
 
 def compare_changed(page: Page, folder: Path, saved: str) -> None:
-    """Compares the folder with a manifest in which a fingerprint is another one, a county is missing, and two are more."""
+    """Compares the folder with a manifest that has one wrong fingerprint, lacks a county, and lists two others."""
     lines = saved.splitlines(keepends=True)
     lines[2] = "0" * 64 + lines[2][64:]
     changed = page.room / "changed"

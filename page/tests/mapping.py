@@ -178,7 +178,7 @@ def place_of(page: Page, x: float, y: float) -> tuple[int, int]:
 
 
 def try_pointing(page: Page) -> None:
-    """A pointer shows the title of what is within eight pixels, beside it and on the map."""
+    """Hovering within eight pixels of an item shows its title, beside the pointer and on the map."""
     _, top, right, _ = show_street(page)
     for x, y, wanted in (
         (right, top, "E Main St (A41)"),

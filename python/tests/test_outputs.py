@@ -39,7 +39,7 @@ def test_a_manifest_that_takes_no_more(four: Four, count: int, added: int) -> No
 
 
 def test_no_room_for_a_lock(four: Four) -> None:
-    """The lock isn't left behind, and what is reported names it."""
+    """The lock is removed, and the message names it."""
     before = sorted(os.listdir("."))
     ended = call("fingerprint", "-o", "m", "in", preexec_fn=limit_files(0))
     assert ended == (2, "", f"{NAME}m.lock: can't be written: File too large\n")

@@ -2,7 +2,6 @@
 
 import hashlib
 import os
-import shutil
 import select
 import signal
 from contextlib import suppress
@@ -35,50 +34,61 @@ def try_gate(tally: Tally, tree: Repository) -> None:
     tally.equal("gate: what it asks of rt", "ci\n", (tree.room / "asked").read_text())
 
 
-def try_gate_program(tally: Tally, tree: Repository) -> None:
-    """The program that rt ci built counts as built here, with its object if that is of this run; and the libraries are noted as proved."""
+def compare_built(tally: Tally, tree: Repository, name: str, *files: str) -> None:
+    """Compares out/, where these files are of the last run."""
     out = tree.root / "out"
+    lines = [f"{hashlib.sha256((out / file).read_bytes()).hexdigest()}  {file}" for file in files]
+    wanted = [f"sources: {hash_of_sources(tree.root)}", "kit: a kit", *lines]
+    tally.equal(f"gate: {name}", wanted, (out / "built-from").read_text().splitlines())
+    tally.equal(f"gate: {name}: files", {"built-from", "file", "tigercanon", "tigercanon.o"}, {path.name for path in out.iterdir()})
 
-    def kept(name: str, *files: str) -> None:
-        lines = [f"{hashlib.sha256((out / file).read_bytes()).hexdigest()}  {file}" for file in files]
-        wanted = [f"sources: {hash_of_sources(tree.root)}", "kit: a kit", *lines]
-        tally.equal(f"gate: {name}", wanted, (out / "built-from").read_text().splitlines())
-        tally.equal(f"gate: {name}: files", {"built-from", "file", "tigercanon", "tigercanon.o"}, {path.name for path in out.iterdir()})
 
+def try_gate_program(tally: Tally, tree: Repository) -> None:
+    """The program that rt ci built counts as built here, with its object if that is of this run."""
+    out = tree.root / "out"
     tree.write("out/file", "")
     tree.run("gate")
-    kept("the program", "tigercanon", "tigercanon.o")
+    compare_built(tally, tree, "the program", "tigercanon", "tigercanon.o")
     tally.equal("gate: the program's bytes", "tigercanon_main\n", (out / "tigercanon").read_text())
-    note = tree.root / "crates/low/out/rlib/proved-from"
-    first = note.read_text()
     tree.write("../rt-keeps", "tigercanon_main")
     tree.write("crates/low/src/more.rt", "// more\n")
     tree.run("gate")
-    kept("a program that was built earlier", "tigercanon")
-    tally.holds("gate: another note for other sources", note.read_text() != first)
+    compare_built(tally, tree, "a program that was built earlier", "tigercanon")
     (tree.room / "rt-keeps").unlink()
     tree.write("../rt-fails", "low")
     tree.write("crates/low/src/more.rt", "// still more\n")
-    second = note.read_text()
     tree.run("gate")
     tally.holds("gate: a program of another run", hash_of_sources(tree.root) not in (out / "built-from").read_text())
-    tally.equal("gate: a library of another run", second, note.read_text())
-    (tree.room / "rt-fails").unlink()
-    tree.write("../rt-fails", "high")
-    tree.run("gate")
-    tally.holds("gate: a library of a run that fails has no note", not note.exists())
     (tree.room / "rt-fails").unlink()
     before = hash_of_sources(tree.root)
     tree.write("../rt-edits", "")
     tree.run("gate")
-    (tree.room / "rt-edits").unlink()
     tally.holds("gate: a source is edited meanwhile", before != hash_of_sources(tree.root))
     tally.equal("gate: a source is edited meanwhile: the sources of the program", f"sources: {before}", (out / "built-from").read_text().splitlines()[0])
+
+
+def try_gate_notes(tally: Tally, tree: Repository) -> None:
+    """The libraries that rt ci built are noted as proved. A run that fails notes nothing, and a library of rt's own stays."""
+    note = tree.root / "crates/low/out/rlib/proved-from"
+    tree.run("gate")
+    first = note.read_text()
+    tree.write("crates/low/src/more.rt", "// more\n")
+    tree.run("gate")
     second = note.read_text()
+    tally.holds("gate: another note for other sources", second != first)
+    tree.write("../rt-fails", "low")
+    tree.write("crates/low/src/more.rt", "// still more\n")
+    tree.run("gate")
+    tally.equal("gate: a library of another run", second, note.read_text())
+    tree.write("../rt-fails", "high")
+    tree.run("gate")
+    tally.holds("gate: a library of a run that fails has no note", not note.exists())
+    (tree.room / "rt-fails").unlink()
+    tree.run("gate")
+    third = note.read_text()
     tree.write("crates/low/out/rlib/stamp", "rt's own")
     tree.run("gate")
-    tally.equal("gate: a library of rt's own", (second, "rt's own"), (note.read_text(), (note.parent / "stamp").read_text()))
-    shutil.rmtree(note.parent)
+    tally.equal("gate: a library of rt's own", (third, "rt's own"), (note.read_text(), (note.parent / "stamp").read_text()))
 
 
 def try_gate_silence(tally: Tally, tree: Repository) -> None:
@@ -150,7 +160,7 @@ def has_ended(number: str) -> bool:
 
 
 def try_gate_signals(tally: Tally, tree: Repository) -> None:
-    """A run that is stopped leaves no files, and the next run does the rest."""
+    """A run that is stopped keeps what it has judged, and leaves no files."""
     tree.has_edits({"a": ONE, "b": COUNT})
     tree.write("crates/low/specs/Low.antt", "-- what low is in the end\n")
     tree.write("../rt-waits", "")
@@ -163,6 +173,12 @@ def try_gate_signals(tally: Tally, tree: Repository) -> None:
         tally.equal(f"gate, ended by {number}: status", 128 + number, process.returncode)
         tally.equal(f"gate, ended by {number}: what is left", [], [path.name for path in tree.room.glob("tigercanon-*")])
         tree.write("crates/low/specs/Low.antt", f"-- what low is after {number}\n")
+
+
+def try_gate_hangs_up(tally: Tally, tree: Repository) -> None:
+    """A run whose terminal is gone has printed what rt ci printed, and ends."""
+    tree.has_edits({"a": ONE, "b": COUNT})
+    tree.write("../rt-waits", "")
     tree.write("../rattle-waits", "")
     process = tree.start("gate")
     tally.holds("gate, before it hangs up: it tries edits", await_that(lambda: tree.calls))
@@ -170,6 +186,13 @@ def try_gate_signals(tally: Tally, tree: Repository) -> None:
     process.send_signal(signal.SIGHUP)
     process.communicate(timeout=60)
     tally.equal("gate, that hangs up: status", 128 + signal.SIGHUP, process.returncode)
+
+
+def try_gate_killed(tally: Tally, tree: Repository) -> None:
+    """A run that is killed ends rt ci, and the next run removes its copy and does the rest."""
+    tree.has_edits({"a": ONE, "b": COUNT})
+    tree.write("../rt-waits", "")
+    tree.write("../rattle-waits", "")
     process = tree.start("gate")
     tally.holds("gate, before it is killed: it tries edits", await_that(lambda: tree.calls))
     process.kill()
@@ -190,4 +213,4 @@ def try_gate_signals(tally: Tally, tree: Repository) -> None:
     tally.equal("gate, after one that was killed: what is left", [], [path.name for path in tree.room.glob("tigercanon-gate-*")])
 
 
-TESTS = (try_gate, try_gate_again, try_gate_program, try_gate_silence, try_gate_fresh, try_gate_signals)
+TESTS = (try_gate, try_gate_again, try_gate_program, try_gate_notes, try_gate_silence, try_gate_fresh, try_gate_signals, try_gate_hangs_up, try_gate_killed)

@@ -197,7 +197,7 @@ def try_cases(tally: Tally, tree: Repository) -> None:
 
 
 def try_kept(tally: Tally, tree: Repository) -> None:
-    """A refused edit is kept, and is tried again after an edit of anything that was read."""
+    """A refused edit is kept, and is tried again after a change of the edit or of its crate."""
     tree.has_edits({"a": ONE, "b": COUNT})
     runs = ["low: one table::Table::count"]
     rows: list[tuple[str, list[str], list[str]]] = [("fresh", ["--fresh"], runs), ("at first", [], runs), ("again", [], [])]
@@ -210,6 +210,19 @@ def try_kept(tally: Tally, tree: Repository) -> None:
     tree.write("crates/low/specs/Low.antt", "-- what low is now\n")
     tree.run("try-edits", "low")
     tally.equal("kept, after a definition was changed", runs, tree.calls)
+    source = (tree.root / "crates/low/src/table.rt").read_text()
+    tree.write("crates/low/specs/Low.antt", "-- what low is then\n")
+    tree.write("../rattle-edits", "")
+    tree.run("try-edits", "low")
+    (tree.room / "rattle-edits").unlink()
+    tree.write("crates/low/src/table.rt", source)
+    for wanted in (runs, []):
+        tree.run("try-edits", "low")
+        tally.equal("kept, where a source was edited meanwhile", wanted, tree.calls)
+
+
+def try_kept_above(tally: Tally, tree: Repository) -> None:
+    """A refused edit is tried again after a change of anything that was read outside its crate."""
     for name, place in (("a crate below", "crates/low/src/table.rt"), ("a proof below", "crates/low/proofs/Low.antt"), ("the kit", "../kit/KIT-ID")):
         tree.run("try-edits", "high")
         tally.equal(f"kept, before {name} was changed", (0, []), (tree.run("try-edits", "high")[0], tree.calls))
@@ -221,15 +234,10 @@ def try_kept(tally: Tally, tree: Repository) -> None:
         tree.write(place, (tree.root / place).read_text().replace(old, new))
         tree.run("try-edits", "high")
         tally.equal(f"kept, after {name} was changed", ["high: top"], tree.calls)
-    shutil.rmtree(tree.root / "crates/low/proofs")
-    source = (tree.root / "crates/low/src/table.rt").read_text()
-    tree.write("../rattle-edits", "")
-    tree.run("try-edits", "low")
-    (tree.room / "rattle-edits").unlink()
-    tree.write("crates/low/src/table.rt", source)
-    for wanted in (runs, []):
-        tree.run("try-edits", "low")
-        tally.equal("kept, where a source was edited meanwhile", wanted, tree.calls)
+
+
+def try_not_kept(tally: Tally, tree: Repository) -> None:
+    """An edit that isn't refused is tried each time, and so is one whose prover was killed."""
     tree.has_edits({"a": RIGHT})
     for _ in range(2):
         status, lines = tree.run("try-edits", "low")
@@ -238,17 +246,20 @@ def try_kept(tally: Tally, tree: Repository) -> None:
     status, lines = tree.run("try-edits", "low")
     tally.equal("a prover that is killed", (1, "0 passed, 1 failed"), (status, lines[-1]))
     wanted = "must-fail low/a: NOT TRIED: its check ended with status -9"
-    tally.holds("a prover that is killed: what is said", lines[0].startswith(wanted), lines)
-    (tree.room / "rattle-is-killed").unlink()
+    tally.holds("a prover that is killed: the message", lines[0].startswith(wanted), lines)
+
+
+def try_nothing_to_try(tally: Tally, tree: Repository) -> None:
+    """Without the crate, its libraries or the kit nothing is tried, and the status is 2."""
     for word in ("lower", "--all"):
         tally.equal(f"{word}: status", 2, tree.run("try-edits", word)[0])
     shutil.rmtree(tree.root / "crates/low/out")
     tally.equal("without a library", (2, []), tree.run("try-edits", "high"))
-    tally.equal("without a library: what is said", "try-edits: low isn't built: rt lib builds it\n", tree.err)
+    tally.equal("without a library: the message", "try-edits: low isn't built: rt lib builds it\n", tree.err)
     (tree.room / "kit/KIT-ID").unlink()
     for name in ("try-edits", "gate"):
         said = f"{name}: rt on the PATH isn't that of a Rattle kit with rattle beside it\n"
         tally.equal(f"{name} without a kit", (2, [], said), (*tree.run(name), tree.err))
 
 
-TESTS = (try_cases, try_kept)
+TESTS = (try_cases, try_kept, try_kept_above, try_not_kept, try_nothing_to_try)
