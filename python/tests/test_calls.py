@@ -12,7 +12,20 @@ from typing import Callable
 
 import pytest
 from dev.testing import ROOT, await_that
-from support import Four, complete, digest, environment, left_behind, listed, manifest, packed, processes, put, zip_up
+from support import (
+    Four,
+    complete,
+    count_of_lines,
+    digest,
+    environment,
+    left_behind,
+    listed,
+    manifest,
+    packed,
+    processes,
+    put,
+    zip_up,
+)
 
 import tigercanon
 from tigercanon.contents import contents
@@ -174,7 +187,9 @@ def test_results_and_paths(four: Four, fake: Path) -> None:
     assert [*results] == [] and not os.path.exists("m.lock")
     with pytest.raises(Failure, match="with no flags, but this run has --no-sources"):
         next(tigercanon.verify("m", no_sources=True))
-    assert [each.verdict for each in tigercanon.verify("m", quick=True, program=Path("nowhere"))] == ["OK"]
+    put("calls")
+    assert [each.verdict for each in tigercanon.verify("m", quick=True, program=fake)] == ["OK", "ACCEPTED", "ACCEPTED", "ACCEPTED"]
+    assert count_of_lines("calls") == 3
 
 
 def test_explaining_an_exception_or_a_number() -> None:

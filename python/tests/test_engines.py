@@ -174,3 +174,4 @@ def test_a_scheduler_that_is_gone(four: Four, run: Any, count: int) -> None:
     assert (status, out, left in reports) == (int(count < 4), manifest(dict([*four.items()][:count])), count < 4)
     status, _, reports = run("fingerprint --scheduler there:1 -o new in", count)
     assert (status, left in reports) == (int(count < 4), count < 4)
+    assert not count or run("changes m new")[1].count("unchecked") == 4 - count

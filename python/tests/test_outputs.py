@@ -23,16 +23,17 @@ def test_two_runs(four: Four) -> None:
     assert call("verify", "m").status == 0
 
 
-@pytest.mark.parametrize("count, added", [(7, 1), (12, 0)])
-def test_a_manifest_that_takes_no_more(four: Four, count: int, added: int) -> None:
-    """The run ends with 2, whole lines stay, and the same command goes on."""
+@pytest.mark.parametrize("count, added, unchecked", [(7, 1, 4), (12, 0, 4), (15, 0, 0)])
+def test_a_manifest_that_takes_no_more(four: Four, count: int, added: int, unchecked: int) -> None:
+    """The run ends with 2, whole lines stay, and the same command goes on. Counties that aren't checked yet are listed first."""
     before = HEAD + "".join(f"{number:064}  a/no-{number:02}\n" for number in range(count))
     put("m", before.encode())
-    ended = call("fingerprint", "--jobs", "1", "-o", "m", "in", preexec_fn=limit_files(1024))
+    ended = call("fingerprint", "--jobs", "1", "-o", "m", "in", preexec_fn=limit_files(1200))
     assert (ended.status, "m: can't be written: File too large" in ended.lines) == (2, True)
     lines = Path("m").read_text().splitlines()
     assert lines[: count + 1] == before.splitlines()
-    assert len(lines) == count + 1 + 2 * added and all(len(text) > 66 for text in lines[1:])
+    assert lines[count + 1 :][:unchecked] == [f"# ? -  failed: not checked yet  {stem}" for stem in four][:unchecked]
+    assert len(lines) == count + 1 + unchecked + 2 * added and Path("m").read_text().endswith("\n")
     assert not [name for name in os.listdir(".") if name.startswith("m.")]
     assert call("fingerprint", "-o", "m", "in").status == 0
     assert count_of_lines("m") == count + 1 + 2 * len(four)

@@ -17,6 +17,8 @@ from dev.testing import ROOT, await_that
 from support import HEAD, NAME, Process, begin, call, complete, count_of_lines, end, left_behind, limit_files, listed, manifest
 from support import processes, put, zip_up
 
+from tigercanon.manifests import parsed
+
 SIGNALS = [signal.SIGINT, signal.SIGTERM, signal.SIGHUP, signal.SIGQUIT, signal.SIGUSR1, signal.SIGXCPU]
 
 COUNTIES = {"in/TGR0": b"waits\n", **{f"in/TGR{number}": b"county %d\n" % number for number in range(1, 10)}}
@@ -65,6 +67,30 @@ def test_a_signal(archive: Path, number: signal.Signals) -> None:
     put("calls")
     assert_the_rest_is_done()
     assert count_of_lines("calls") == 1
+
+
+@pytest.mark.parametrize("number", [signal.SIGINT, signal.SIGKILL])
+def test_counties_that_a_stopped_run_has_left(archive: Path, number: signal.Signals) -> None:
+    """They don't pass for removed: the manifest lists them as not checked yet. A fingerprint that it had before stays."""
+    put("m", manifest({"in/TGR1": b"before\n"}).encode())
+    put("whole", WANTED.encode())
+    put("waits")
+    put("in/TGR1.RT1", b"waits\n")
+    run = begin("fingerprint", "--jobs", "3", "--update", "-o", "m", "in")
+    assert await_that(lambda: listed("m").count("\n") == 10)
+    run.send_signal(number)
+    end(run)
+    assert [line.stem for line in parsed("m")[1] if line.refusal == "failed: not checked yet"] == ["in/TGR0"]
+    ended = call("changes", "--quiet", "whole", "m")
+    assert (ended.status, ended.out) == (1, "unchecked  in/TGR0\nchanged  in/TGR1\n")
+    assert ended.lines == ["8 same, 1 changed, 0 added, 0 removed, 1 unchecked"]
+    ended = call("duplicates", "m")
+    assert ended.lines == ["0 groups of one map with 0 counties, none of counties with different names; 1 county isn't checked yet"]
+    os.unlink("waits")
+    put("in/TGR1.RT1", COUNTIES["in/TGR1"])
+    assert call("verify", "--quiet", "m").out == "in/TGR0: ACCEPTED\nin/TGR1: FAILED (another map)\n"
+    assert call("fingerprint", "--update", "-o", "m", "in").status == 0
+    assert listed("m") == WANTED and "failed" not in Path("m").read_text()
 
 
 def test_at_any_moment(archive: Path) -> None:
@@ -188,12 +214,12 @@ def test_comparisons_of_changes(room: Path, fake: Path, option: str) -> None:
 
 
 def test_a_command_that_can_not_go_on(archive: Path) -> None:
-    """It ends at once, and doesn't wait for the counties that are being judged: here the manifest takes only one more line."""
+    """It ends at once, and doesn't wait for the counties that are being judged: here the manifest takes only one result."""
     put("waits")
     put("m", "".join([HEAD, *(f"{number:064}  a/no-{number:02}\n" for number in range(7))]).encode())
-    ended = end(begin("fingerprint", "--jobs", "3", "-o", "m", "in", preexec_fn=limit_files(1024)), 30)
+    ended = end(begin("fingerprint", "--jobs", "3", "-o", "m", "in", preexec_fn=limit_files(1424)), 30)
     assert (ended.status, ended.lines[-1]) == (2, "m: can't be written: File too large")
-    assert (count_of_lines("m"), listed("m").count("\n")) == (10, 9)
+    assert (count_of_lines("m"), listed("m").count("\n")) == (20, 9)
     assert_nothing_is_left(archive)
 
 

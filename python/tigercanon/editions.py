@@ -9,7 +9,7 @@ from .errors import Failure
 from .layout import Name, key_of
 from .manifests import Flags, Line, loaded, named, without_mark
 
-KINDS = ("same", "changed", "added", "removed", "renamed", "refused", "failed", "accepted")
+KINDS = ("same", "changed", "added", "removed", "renamed", "refused", "failed", "unchecked", "accepted")
 Lines = dict[str, Line]
 
 

@@ -7,9 +7,9 @@ from collections import Counter
 from typing import Any, Iterator, Sequence
 
 from .diff import words
-from .editions import KINDS, History, duplicates, editions_of, histories
+from .editions import KINDS, History, editions_of, groups_of, histories
 from .errors import Failure
-from .manifests import Flags
+from .manifests import Flags, loaded
 from .pages import Comparing, Counts, Pages, counts_of
 from .progress import Console, Progress, as_json, counted, print_lines
 from .resources import Resources
@@ -19,11 +19,13 @@ SHOWN_KINDS = words.KINDS[:3]  # of what differs
 
 def list_duplicates(options: argparse.Namespace, console: Console, resources: Resources) -> int:
     resources.inputs([options.manifest])
-    groups = duplicates(options.manifest)
+    _, lines = loaded(options.manifest)
+    groups, left = groups_of(lines), sum(line.state == "unchecked" for line in lines)
     different = [group for group in groups if group.is_different]
     of_different = f"{len(different):,} of counties with different names" if different else "none of counties with different names"
     counties = counted(sum(len(group.counties) for group in groups), "county")
-    console.report(f"{counted(len(groups), 'group')} of one map with {counties}, {of_different}")
+    unchecked = f"; {counted(left, 'county')} {'is' if left == 1 else 'are'}n't checked yet" if left else ""
+    console.report(f"{counted(len(groups), 'group')} of one map with {counties}, {of_different}{unchecked}")
     shown = different if options.different else groups
     if options.json:
         print_lines(as_json({"fingerprint": group.fingerprint, "counties": list(group.counties)}) for group in shown)

@@ -2,7 +2,7 @@
 
 The first line names the form of the canonical texts and the flags that leave fields out, and marks the fingerprints of an unproved
 program. In manifests of earlier tools it has the flags alone, or isn't there. Comments have the size and the time of each file of a
-county, and counties that were refused. One run at a time has the manifest's lock.
+county, and counties that were refused, have failed, or aren't checked yet. One run at a time has the manifest's lock.
 """
 
 from __future__ import annotations
@@ -17,7 +17,7 @@ import sys
 import time
 from contextlib import ExitStack, contextmanager, suppress
 from pathlib import Path
-from typing import Iterator, NamedTuple, Sequence
+from typing import Iterable, Iterator, NamedTuple, Sequence
 
 from .errors import Failure, reason, reported
 from .counties import county_in
@@ -37,6 +37,7 @@ COMMENT = re.compile(rb"# ([0-9?]+ [^ \n]+(?:, [0-9?]+ [^ \n]+)*)  (?:(refused [
 LASTING = re.compile(r"refused (?:[1-7]|1[1-9]|2[0-9]) ")  # refusals that a county gets again as long as its files are the same
 TELLING = re.compile(r"[0-9]+ [^- ]\S*(?:, [0-9]+ [^- ]\S*)*")  # sizes and times of files that show a change on disk
 UNKNOWN = "? -"  # the size and the time of files that nothing is known of
+UNCHECKED = "failed: not checked yet"  # a county that a run has found and not reached
 STARTED_LINE = re.compile(rb"[0-9a-f]{0,64}|[0-9a-f]{64} ( [^\n]*)?|#[^\n]*")
 LOCK_LINE = re.compile(rb"process [0-9]* on ")
 PATIENCE_FOR_LOCK = 0.2
@@ -75,7 +76,9 @@ class Line(NamedTuple):
 
     @property
     def state(self) -> str:
-        """Whether the county was `accepted`, `refused` or has `failed`."""
+        """Whether the county was `accepted`, `refused`, has `failed` or is `unchecked`."""
+        if self.refusal == UNCHECKED:
+            return "unchecked"
         return "accepted" if not self.refusal else "refused" if self.refusal.startswith("refused ") else "failed"
 
     @property
@@ -202,6 +205,11 @@ class Manifest:
             with reported(name):
                 open(self.place, "ab").close()
             self.put_in_order()
+
+    def add_all(self, lines: Iterable[Line]) -> None:
+        """Adds counties that it doesn't have, all of them or none."""
+        self.lines += lines
+        self.put_in_order()
 
     def add(self, line: Line) -> None:
         """Adds a county, or replaces the line that it had. The line is written at once: the whole of it or nothing."""

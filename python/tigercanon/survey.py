@@ -13,7 +13,7 @@ from .errors import printable
 from .judge import Answer, County, Kind
 from .judging import Judging, Numbered, see_names
 from .layout import folded, key_of, stem_of
-from .manifests import TELLING, Line, Manifest, lock_of, names_in, respect_lock, written
+from .manifests import TELLING, UNCHECKED, Line, Manifest, lock_of, names_in, respect_lock, written
 from .storage import tidy
 
 
@@ -61,6 +61,7 @@ class Survey:
         self.counties: list[County] = []
         self.listed: dict[str, Line] = {}
         self.known = self.refused_before = 0
+        self.is_begun = False  # whether the manifest has got a result
         self.before: set[str] = set()
         self.sources: dict[str, str] = {}
         self.gone: list[Line] = []
@@ -83,7 +84,8 @@ class Survey:
             unseen = self.lines_unseen(every)
             self.gone = [line for line in unseen if self.is_gone(line)] if self.choice.update else []
             every += [self.finder.of_name(tidy(line.stem)) for line in unseen if not self.is_gone(line)]
-            self.before, self.doubles = {*self.listed}, doubles_among(every)
+            self.before = {key for key, line in self.listed.items() if line.refusal != UNCHECKED}
+            self.doubles = doubles_among(every)
             if self.manifest:
                 self.sources = {county.stem: county.sources for county in every if not county.trouble}
             self.counties, _ = self.finder.once({county.stem: county for county in every}.values(), self.is_known)
@@ -134,6 +136,8 @@ class Survey:
         pending = {county.stem for county in self.counties}
         with closing(answers):
             for number, answer in answers:
+                if self.counties[number].places:
+                    self.list_unchecked()
                 stem = self.counties[number].stem
                 first = self.doubles.get(stem)
                 if first in pending:
@@ -145,6 +149,13 @@ class Survey:
                     yield double[0], self.taken(*double)
         for number, answer in (double for doubles in waiting.values() for double in doubles):
             yield number, self.taken(number, answer)
+
+    def list_unchecked(self) -> None:
+        """Lists the new counties as not checked yet, before the first result. If the run is stopped, the rest don't pass for removed."""
+        if self.manifest and not self.is_begun:
+            self.is_begun = True
+            new = (county.stem for county in self.counties if county.places and folded(county.stem) not in self.listed)
+            self.manifest.add_all(Line("", stem, "", UNCHECKED) for stem in new)
 
     def taken(self, number: int, answer: Answer) -> Judged:
         """Returns what the manifest gets of a county."""
