@@ -227,6 +227,29 @@ def test_of_two_outputs_one_is_not_whole(room: Path, monkeypatch: pytest.MonkeyP
     assert (sorted(os.listdir(".")), Path("first").read_bytes()) == (before, b"old")
 
 
+def test_what_killed_runs_have_left_beside_a_file(room: Path) -> None:
+    """It doesn't stand in the way, even if the run had the same number, and is removed once it is old and nobody holds it."""
+    kept = {f".new.{os.getpid()}.part", ".new.2.part", ".new.notes.part", ".newer.3.part"}
+    for name in (*kept, ".new.1.part", ".new.4.part"):
+        put(name, b"old")
+        os.utime(name, (0, 0))
+    os.utime(f".new.{os.getpid()}.part")
+    with resources.locked(".new.2.part", fcntl.LOCK_EX), Resources() as run, new_files(["new"], Inputs([]), run) as files:
+        files["new"].write(b"new")
+    assert (Path("new").read_bytes(), {name for name in os.listdir(".") if ".part" in name}) == (b"new", kept)
+
+
+def test_a_file_that_is_being_written(room: Path) -> None:
+    """Another run with the same output doesn't take it away, even if it is a minute old."""
+    with Resources() as run, new_files(["new"], Inputs([]), run) as files:
+        files["new"].write(b"first")
+        os.utime(files["new"].path, (0, 0))
+        with Resources() as other, new_files(["new"], Inputs([]), other) as others:
+            others["new"].write(b"second")
+        assert Path("new").read_bytes() == b"second"
+    assert (Path("new").read_bytes(), [name for name in os.listdir(".") if ".part" in name]) == (b"first", [])
+
+
 def test_folders_that_are_removed(room: Path, monkeypatch: pytest.MonkeyPatch) -> None:
     """Those of runs that were killed: old, of this user, held by nobody, and without other files."""
     monkeypatch.setattr(tempfile, "tempdir", f"{room}/tmp")

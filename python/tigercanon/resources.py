@@ -4,6 +4,8 @@ from __future__ import annotations
 
 import fcntl
 import os
+import re
+import secrets
 import shutil
 import signal
 import stat
@@ -25,7 +27,7 @@ COUNTY = "county"  # the name of a file in a folder of a run, or the stem of nin
 VARIABLE = "TIGERCANON_SHM"
 IN_MEMORY = "/dev/shm"  # the folder in memory, if the variable doesn't name another one; an empty variable means none
 SPARE = 64 << 20  # folders are made in memory only if this many bytes stay free there
-STALE = 60.0  # a folder that nobody holds is removed by a later run once it is this many seconds old
+STALE = 60.0  # a folder or a part of a file that nobody holds is removed by a later run once it is this many seconds old
 PATIENCE = 0.3  # a thread that is printing or writing keeps the end of the run waiting for at most this many seconds
 PATIENCE_FOR_A_TOOL = 2.0  # a command of these tools that was started has this many seconds to remove what it has made
 MOST_SECONDS = 2_000_000  # 23 days: the system counts a wait in milliseconds, with 31 bits
@@ -155,9 +157,9 @@ def kill(child: subprocess.Popen[bytes]) -> None:
 
 
 @contextmanager
-def locked(folder: str, how: int) -> Iterator[None]:
-    """Locks a folder: meanwhile no other run removes it."""
-    handle = os.open(folder, os.O_RDONLY | os.O_DIRECTORY | os.O_NOFOLLOW)
+def locked(path: str, how: int) -> Iterator[None]:
+    """Locks a folder or a file: meanwhile no other run removes it."""
+    handle = os.open(path, os.O_RDONLY | os.O_NOFOLLOW | os.O_NONBLOCK)
     try:
         fcntl.flock(handle, how)
         yield
@@ -180,10 +182,27 @@ def remove_stale_folders() -> None:
     for room in filter(None, {os.environ.get(VARIABLE, IN_MEMORY), tempfile.gettempdir()}):
         for path in Path(room).glob(f"{PREFIX}*{SUFFIX}"):
             with suppress(OSError):  # a run may hold it
-                status = path.lstat()
-                if status.st_uid == os.geteuid() and time.time() - status.st_mtime >= STALE and ours.issuperset(os.listdir(path)):
+                if is_old(path) and ours.issuperset(os.listdir(path)):
                     with locked(str(path), fcntl.LOCK_EX | fcntl.LOCK_NB):
                         remove(str(path))
+
+
+def remove_stale_parts(stem: str) -> None:
+    """Removes what runs that were killed have left of a file."""
+    folder, name = os.path.split(stem)
+    part = re.compile(rf"{re.escape(name)}\.[0-9a-f]+\.part")
+    for name in filter(part.fullmatch, os.listdir(folder)):
+        path = Path(folder, name)
+        with suppress(OSError):  # a run may hold it
+            if is_old(path):
+                with locked(str(path), fcntl.LOCK_EX | fcntl.LOCK_NB):
+                    path.unlink()
+
+
+def is_old(path: Path) -> bool:
+    """Returns whether a file or folder is this user's, and was last written a minute ago."""
+    status = path.lstat()
+    return status.st_uid == os.geteuid() and time.time() - status.st_mtime >= STALE
 
 
 class Writable(Protocol):
@@ -217,7 +236,8 @@ class NewFile:
             refuse_other_files([name])
         self.name, self.place, self.inputs = name, os.path.realpath(name), inputs
         folder, base = os.path.split(self.place)
-        self.path = os.path.join(folder, f".{base[:200]}.{os.getpid()}.part")
+        self.stem = os.path.join(folder, f".{base[:200]}")
+        self.path = f"{self.stem}.{secrets.token_hex(4)}.part"
         self.mode: int | None = None
         with reported(name), suppress(FileNotFoundError):
             self.mode = os.stat(self.place).st_mode
@@ -226,8 +246,12 @@ class NewFile:
             raise Failure(f"{name}: can't be written: {'it is a folder' if stat.S_ISDIR(self.mode) else why}")
 
     def __enter__(self) -> NewFile:
+        with suppress(OSError):
+            remove_stale_parts(self.stem)
         with reported(self.name):
             self.file = open(self.path, "xb")
+        with suppress(OSError):  # without locks, nobody removes it
+            fcntl.flock(self.file, fcntl.LOCK_EX)
         return self
 
     def __exit__(self, *_: object) -> None:
