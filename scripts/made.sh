@@ -84,6 +84,12 @@ find_made() {
 starts() {
     why="$({ "$found" respell /dev/null 2>&1 >/dev/null </dev/null; } 2>/dev/null)"
     case "$?" in 0 | [3-9]) return 0 ;; esac
+    case "$why" in
+        *"invalid UTF-8"*)
+            why="the path $found isn't UTF-8, and the program doesn't start under such a name: rename the folder"
+            return 1
+            ;;
+    esac
     why="$found doesn't start here ($(printf '%s\n' "${why:-it was ended}" | head -n 1)). It needs Linux on x86-64 with the GNU C library 2.34 or"
     why="$why later. In a browser the page $root/prebuilt/tigercanon.html does the same"
     return 1

@@ -123,8 +123,9 @@ class TestProgram:
         ended = run(["./tools", "fingerprint", "in"], env=env)
         assert (ended.status, ended.out.count(b"\n")) == (0, 2), ended.err
         assert Path("calls").read_text() == f"tigercanon\n{room}/in/a\n"
-        finder.write_text("#!/bin/sh\nexit 70\n")
-        assert run(["./tools", "fingerprint", "in"], env=env).status == 2
+        finder.write_text('#!/bin/sh\necho "find-made: the reason" >&2\nexit 70\n')
+        ended = run(["./tools", "fingerprint", "in"], env=env)
+        assert (ended.status, ended.err.decode()) == (2, f"{NAME}the reason; --program names another one\n")
         os.unlink(finder)
         ended = run(["./tools", "fingerprint", "in"], env=env)
         assert (ended.status, b"there is no program tigercanon here" in ended.err) == (2, True)

@@ -29,10 +29,7 @@ def find_program(named: Optional[Name] = None) -> str:
     if given:
         return checked(given)
     if (root / "scripts/find-made").is_file():
-        program = program_of_clone(root)
-        if not program:
-            raise Failure(f"there is no program tigercanon here: {ADVICE}")
-        return checked(program)
+        return checked(program_of_clone(root))
     command = Path(sys.argv[0])
     beside = [
         PACKAGE / "bin",
@@ -47,9 +44,13 @@ def find_program(named: Optional[Name] = None) -> str:
 
 
 def program_of_clone(root: Path) -> str:
-    """Returns the program of a clone, made from the sources as they are. If there is none, nothing, and the reason was reported."""
-    ended = subprocess.run([str(root / "scripts/find-made"), "tigercanon"], stdin=subprocess.DEVNULL, stdout=subprocess.PIPE)
-    return os.fsdecode(ended.stdout).rstrip("\n") if ended.returncode == 0 else ""
+    """Returns the program of a clone, made from the sources as they are. Raises Failure with the reason if there is none."""
+    words = [str(root / "scripts/find-made"), "tigercanon"]
+    ended = subprocess.run(words, stdin=subprocess.DEVNULL, stdout=subprocess.PIPE, stderr=subprocess.PIPE)
+    if ended.returncode != 0:
+        why = os.fsdecode(ended.stderr).strip().removeprefix("find-made: ")
+        raise Failure(f"{why}; --program names another one")
+    return os.fsdecode(ended.stdout).rstrip("\n")
 
 
 def on_path(name: str) -> str | None:
