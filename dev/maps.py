@@ -120,43 +120,70 @@ def written(county: County, seed: int | None = None) -> bytes:
     return "".join(line + "\n" for line in hand.orders(list(lines(county, hand)))).encode("latin-1")
 
 
-def lines(county: County, hand: Hand) -> Iterator[str]:
-    nodes = county.nodes()
-    numbered: list[Sequence[object]] = [county.chains, county.names, county.landmarks]
-    tlids, feats, lands = map(hand.numbers, map(len, numbered), (10**10, 10**8, 10**10))
-    polyids = hand.polyids([polygon.cenid for polygon in county.polygons])
-    node_numbers: dict[int | None, Any] = {None: "", **dict(zip(nodes, hand.numbers(len(nodes), 10**10)))}
+@dataclass
+class Numbers:
+    """The numbers that a hand gives to what is in a county, in the order of its lists. Those of nodes are by their places."""
 
-    def key(polygon: int | None, outside: str | None = None) -> str:
+    county: County
+    tlids: list[int]
+    feats: list[int]
+    lands: list[int]
+    polyids: list[int]
+    nodes: dict[int | None, Any]
+
+    def side(self, polygon: int | None, outside: str | None = None) -> str:
+        """The CENID and POLYID on a side of a chain, or in a link."""
         if polygon is None:
-            return county.outside if outside is None else f"{outside:15}"
-        return f"{county.polygons[polygon].cenid:5}{polyids[polygon]:>10}"
+            return self.county.outside if outside is None else f"{outside:15}"
+        return f"{self.county.polygons[polygon].cenid:5}{self.polyids[polygon]:>10}"
 
-    for chain, tlid in zip(county.chains, tlids):
-        chain = turned(chain) if hand.turns() else chain
-        yield f"12006{tlid:>10}{content(CHAIN, chain.fields)}{spelt(chain.points[0])}{spelt(chain.points[-1])}"
-        for number, points in hand.packs([spelt(point) for point in chain.points[1:-1]], 10):
-            yield f"22006{tlid:>10}{number:>3}" + "".join(points).ljust(190, "\0").replace("\0" * 19, "+000000000+00000000")
-        for number, names in hand.packs([f"{feats[name]:>8}" for name in chain.names], 5):
-            yield f"42006{tlid:>10}{number:>3}" + "".join(names).ljust(40)
-        for number, fields in enumerate(chain.ranges, 1):
-            yield f"62006{tlid:>10}{number:>3}{content(RANGE, fields)}"
-        topology = content(TOPOLOGY, chain.topology)
-        ends = f"{node_numbers[chain.start]:>10}{node_numbers[chain.end]:>10}"
-        yield f"I2006{topology[:5]}{tlid:>10}{ends}{key(chain.left, chain.outside[0])}{key(chain.right, chain.outside[1])}{topology[5:]}"
-    for name, feat in zip(county.names, feats):
+
+def numbered(county: County, hand: Hand) -> Numbers:
+    nodes = county.nodes()
+    lists: list[Sequence[object]] = [county.chains, county.names, county.landmarks]
+    tlids, feats, lands = map(hand.numbers, map(len, lists), (10**10, 10**8, 10**10))
+    polyids = hand.polyids([polygon.cenid for polygon in county.polygons])
+    return Numbers(county, tlids, feats, lands, polyids, {None: "", **dict(zip(nodes, hand.numbers(len(nodes), 10**10)))})
+
+
+def lines(county: County, hand: Hand) -> Iterator[str]:
+    """The records of a county, in the order of its lists."""
+    numbers = numbered(county, hand)
+    for chain, tlid in zip(county.chains, numbers.tlids):
+        yield from lines_of_chain(turned(chain) if hand.turns() else chain, tlid, numbers, hand)
+    for name, feat in zip(county.names, numbers.feats):
         body = content(NAME, name)
         yield f"52006{body[:5]}{feat:>8}{body[5:]}"
-    for landmark, land in zip(county.landmarks, lands):
-        for fields in (landmark.fields, *landmark.more):
-            body = content(LANDMARK, {"LALONG, LALAT": spelt(landmark.point), **fields})
-            yield f"72006{body[:5]}{land:>10}{body[5:]} "
-        for polygon, file in zip(landmark.polygons, [*landmark.files, *[FILE] * len(landmark.polygons)]):
-            yield f"82006{file:5}{key(polygon)}{land:>10} "
-    for number, each in enumerate(county.polygons):
-        if each.has_record:
-            body = content(POLYGON, each.fields)
-            yield f"P2006{body[:5]}{key(number)}{spelt(each.point)}{body[-1]}"
+    for landmark, land in zip(county.landmarks, numbers.lands):
+        yield from lines_of_landmark(landmark, land, numbers)
+    for number, polygon in enumerate(county.polygons):
+        if polygon.has_record:
+            body = content(POLYGON, polygon.fields)
+            yield f"P2006{body[:5]}{numbers.side(number)}{spelt(polygon.point)}{body[-1]}"
+
+
+def lines_of_chain(chain: Chain, tlid: int, numbers: Numbers, hand: Hand) -> Iterator[str]:
+    """The records with a chain's TLID: of type 1, 2, 4, 6 and I."""
+    yield f"12006{tlid:>10}{content(CHAIN, chain.fields)}{spelt(chain.points[0])}{spelt(chain.points[-1])}"
+    for number, points in hand.packs([spelt(point) for point in chain.points[1:-1]], 10):
+        yield f"22006{tlid:>10}{number:>3}" + "".join(points).ljust(190, "\0").replace("\0" * 19, "+000000000+00000000")
+    for number, names in hand.packs([f"{numbers.feats[name]:>8}" for name in chain.names], 5):
+        yield f"42006{tlid:>10}{number:>3}" + "".join(names).ljust(40)
+    for number, fields in enumerate(chain.ranges, 1):
+        yield f"62006{tlid:>10}{number:>3}{content(RANGE, fields)}"
+    topology = content(TOPOLOGY, chain.topology)
+    ends = f"{numbers.nodes[chain.start]:>10}{numbers.nodes[chain.end]:>10}"
+    sides = f"{numbers.side(chain.left, chain.outside[0])}{numbers.side(chain.right, chain.outside[1])}"
+    yield f"I2006{topology[:5]}{tlid:>10}{ends}{sides}{topology[5:]}"
+
+
+def lines_of_landmark(landmark: Landmark, land: int, numbers: Numbers) -> Iterator[str]:
+    """The records with a landmark's LAND: of type 7 and 8."""
+    for fields in (landmark.fields, *landmark.more):
+        body = content(LANDMARK, {"LALONG, LALAT": spelt(landmark.point), **fields})
+        yield f"72006{body[:5]}{land:>10}{body[5:]} "
+    for polygon, file in zip(landmark.polygons, [*landmark.files, *[FILE] * len(landmark.polygons)]):
+        yield f"82006{file:5}{numbers.side(polygon)}{land:>10} "
 
 
 def turned(chain: Chain) -> Chain:
