@@ -103,9 +103,8 @@ def parser() -> Parser:
     tools = Parser(prog=NAME, description=ABOUT, epilog=STATUSES, formatter_class=raw, allow_abbrev=False)
     tools.add_argument("--version", action="version", version=f"{NAME} {VERSION}")
     commands = tools.add_subparsers(metavar="COMMAND", required=True, dest="command")
-    add_judging_commands(commands)
-    add_check(commands)
-    add_other_commands(commands)
+    for add in (add_fingerprint, add_verify, add_check, add_duplicates, add_changes, add_diff, add_table, add_explain):
+        add(commands)
     return tools
 
 
@@ -151,7 +150,7 @@ def add_judging_options(command: argparse.ArgumentParser, with_flags: bool = Tru
     add_shared(command, *(["--no-sources", "--no-reserved"] if with_flags else []), "--json")
 
 
-def add_judging_commands(commands: Any) -> None:
+def add_fingerprint(commands: Any) -> None:
     about = "print or write a manifest: the fingerprint and the name of each county"
     command = add_command(commands, "fingerprint", about, runs.fingerprint)
     about = "write the manifest to this file; counties that it already lists are skipped, including refused ones"
@@ -166,6 +165,8 @@ def add_judging_commands(commands: Any) -> None:
     add_judging_options(command)
     command.add_argument("sources", metavar="SOURCE", nargs="+", help="where the counties are")
 
+
+def add_verify(commands: Any) -> None:
     about = "check counties against their fingerprints in a manifest: OK, FAILED or MISSING for each"
     command = add_command(commands, "verify", about, runs.verify)
     command.add_argument("--quiet", action="store_true", help="don't print counties that are OK")
@@ -187,13 +188,14 @@ def add_check(commands: Any) -> None:
     command.add_argument("counties", metavar="COUNTY", nargs="+", help="a county, or a SOURCE of several")
 
 
-def add_other_commands(commands: Any) -> None:
-    command = add_command(
-        commands, "duplicates", "list, in groups, the counties of a manifest that are the same map", listing.list_duplicates
-    )
+def add_duplicates(commands: Any) -> None:
+    about = "list, in groups, the counties of a manifest that are the same map"
+    command = add_command(commands, "duplicates", about, listing.list_duplicates)
     command.add_argument("--different", action="store_true", help="list only groups in which counties have different names")
     add_shared(command, "--json", "manifest")
 
+
+def add_changes(commands: Any) -> None:
     about = "list how the editions of an archive differ: counties that are the same, changed, added, removed or renamed"
     command = add_command(commands, "changes", about, listing.list_changes)
     command.description = f"{command.description} Counties are matched by their names without folder, case and ending."
@@ -207,21 +209,20 @@ def add_other_commands(commands: Any) -> None:
     command.add_argument("--pages", metavar="FOLDER", type=name_of, help=about)
     about = "with --pages or --stat: look for the names in the manifests below this folder"
     command.add_argument("--root", metavar="FOLDER", type=name_of, help=about)
-    command.add_argument(
-        "--jobs",
-        metavar="N",
-        type=count_of,
-        help="with --pages or --stat: compare N counties at a time (default: one per processor)",
-    )
+    about = "with --pages or --stat: compare N counties at a time (default: one per processor)"
+    command.add_argument("--jobs", metavar="N", type=count_of, help=about)
     add_shared(command, "--program", "--force")
-    command.add_argument(
-        "manifests", metavar="MANIFEST", nargs="+", help="a manifest for each edition, in order, or one manifest with all editions"
-    )
+    about = "a manifest for each edition, in order, or one manifest with all editions"
+    command.add_argument("manifests", metavar="MANIFEST", nargs="+", help=about)
 
+
+def add_diff(commands: Any) -> None:
     command = add_command(commands, "diff", "show where two maps differ, as text, a page or GeoJSON", differences.run)
     add_shared(command, "--program", "--no-sources", "--no-reserved", "--force")
     differences.add_arguments(command, name_of)
 
+
+def add_table(commands: Any) -> None:
     command = add_command(commands, "table", "write the chains of a county as a table, in CSV or GeoJSON", tables.run)
     command.description = f"{command.description} In CSV the points are WKT. DuckDB, pandas and GDAL read both."
     add_shared(command, "--program")
@@ -230,6 +231,8 @@ def add_other_commands(commands: Any) -> None:
     add_shared(command, "--force")
     command.add_argument("county", metavar="COUNTY", help="a zip, a file with all records, or the stem or one of the nine files")
 
+
+def add_explain(commands: Any) -> None:
     about = "explain a refusal: its meaning, an example, and what to do; with a county, show the place too"
     command = add_command(commands, "explain", about, explanations.run)
     add_shared(command, "--program")
