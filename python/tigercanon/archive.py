@@ -103,6 +103,15 @@ def judging_by(
     return Judging(means, resources, Tally(), job)
 
 
+def choice_of(output: str | None, update: bool, again: bool, prune: bool) -> Choice:
+    """Returns which counties of a manifest are judged again. Raises ValueError if there is no manifest."""
+    if output is None and (update or again):
+        raise ValueError("update and again need an output, which is the manifest")
+    if prune and not update:
+        raise ValueError("prune needs update")
+    return Choice(update, again, prune)
+
+
 def manifest(
     *sources: Name,
     output: Optional[Name] = None,
@@ -126,17 +135,14 @@ def manifest(
     county is in it before it is yielded, and it is put in order after the last one. Counties that it lists already aren't judged: with
     update those are whose files have changed, and with again those that were refused. With update and prune, counties that are gone are
     taken out. Raises Failure if it can't go on."""
-    names = names_of(sources)
-    if output is None and (update or again):
-        raise ValueError("update and again need an output, which is the manifest")
-    if prune and not update:
-        raise ValueError("prune needs update")
+    names, name = names_of(sources), None if output is None else os.fspath(output)
+    choice = choice_of(name, update, again, prune)
 
     def results() -> Generator[Any, None, None]:
         with Resources() as resources:
             judging = judging_by(resources, program, jobs, scheduler, memory, largest, seconds)
-            survey = Survey(judging, flags_for(no_sources, no_reserved), strict, Choice(update, again, prune))
-            with survey.of(names, None if output is None else os.fspath(output), exclude):
+            survey = Survey(judging, flags_for(no_sources, no_reserved), strict, choice)
+            with survey.of(names, name, exclude):
                 yield tuple(survey.finder.skipped.values())
                 yield from values_of(survey.results(), judging)
 

@@ -179,9 +179,8 @@ class Finder:
             return False
 
     def of_name(self, path: str, is_exact: bool = False) -> County:
-        """Returns the county of this name, or the county that a file of this name belongs to. A county that isn't there may
-        have been packed into a zip, or written as one file with all records. An exact name of a zip isn't one of the single
-        files beside it."""
+        """Returns the county of this name, or the county that a file of this name belongs to. An exact name of a zip isn't one of the
+        single files beside it."""
         folder, name = parted(path)
         try:
             listed = self.listed_for(path, folder)
@@ -197,15 +196,9 @@ class Finder:
             return County(path, trouble="isn't one of a county's nine files")
         if exact and not exact[0].is_folder:
             return whole_county(folder, exact[0])
-        if not kind_of(name):
-            if key_of(name) in names:
-                return county_of(folder, names[key_of(name)])
-            wholes = wholes_among(folder, by_key.get(key_of(name), []))
-            if len(wholes) > 1:
-                listing = ", ".join(parted(county.stem)[1] for county in wholes)
-                return County(path, trouble=f"there are {len(wholes)} files with all records: {listing}")
-            if wholes:
-                return wholes[0]
+        county = None if kind_of(name) else rewritten(path, names, by_key.get(key_of(name), []))
+        if county:
+            return county
         if os.path.lexists(path):
             return County(path, trouble="isn't a regular file")
         absent = "no such file" if kind_of(path) and not is_url(path) else "no such file, folder or county"
@@ -281,6 +274,19 @@ def wholes_among(folder: str, listed: Iterable[Entry]) -> list[County]:
         [county for county in counties if county.whole and is_record(first_line(county.whole.place))] if len(counties) > 1 else []
     )
     return sure or counties
+
+
+def rewritten(path: str, names: dict[str, Names], listed: Iterable[Entry]) -> County | None:
+    """Returns the county of a name that isn't there, but is with other endings: it was packed into a zip, or written as one file with all
+    records. names and listed are the counties and the entries whose names are the same without case and ending."""
+    folder, name = parted(path)
+    if key_of(name) in names:
+        return county_of(folder, names[key_of(name)])
+    wholes = wholes_among(folder, listed)
+    if len(wholes) > 1:
+        listing = ", ".join(parted(county.stem)[1] for county in wholes)
+        return County(path, trouble=f"there are {len(wholes)} files with all records: {listing}")
+    return wholes[0] if wholes else None
 
 
 def placed(folder: str, entry: Entry) -> File:

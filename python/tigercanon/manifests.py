@@ -110,8 +110,7 @@ def text_of(name: str, is_written: bool = False) -> bytes:
 
 def parsed(name: str, is_written: bool = False) -> tuple[Flags | None, list[Line], bytes]:
     """Returns the flags of a manifest, or None if it has no whole line, its counties, and the part of a line that an
-    interrupted run has left at its end. Of several lines for a county the last one counts. Raises Failure if it is another
-    file."""
+    interrupted run has left at its end. Raises Failure if it is another file."""
     *whole, rest = text_of(name, is_written).split(b"\n")
     if whole and all(line.endswith(b"\r") for line in whole):
         whole = [line[:-1] for line in whole]
@@ -120,28 +119,38 @@ def parsed(name: str, is_written: bool = False) -> tuple[Flags | None, list[Line
         raise Failure(
             f"{name}: its first line is {os.fsdecode(whole[0])!r}, and this version knows {FORM!r} with its own flags alone"
         )
+    has_heading = flags is not None
+    lines = [own_line(name, number, text, has_heading) for number, text in enumerate(whole[has_heading:], 1 + has_heading)]
+    if not STARTED_LINE.fullmatch(rest) and not any(each.startswith(rest) for each in HEADINGS):
+        raise Failure(f"{name}: not a manifest: its last line isn't a fingerprint and a name")
+    return (flags or ()) if whole else None, last_of_each(lines), rest
+
+
+def own_line(name: str, number: int, text: bytes, has_heading: bool) -> Line:
+    """Returns a line of a manifest after its heading, if it has one. Raises Failure for a line that no command writes."""
+    line = parsed_line(text)
+    if text in HEADINGS:
+        raise Failure(f"{name}: line {number} begins another manifest: take it out if both have the same flags")
+    if line is None and text.startswith(b"#"):
+        raise Failure(f"{name}: line {number} is a comment that fingerprint doesn't write and would lose: move it to another file")
+    if line is None:
+        raise Failure(f"{name}: not a manifest: line {number} isn't a fingerprint and a name")
+    if line.fingerprint and not has_heading and is_other_file(line.stem):
+        raise Failure(f"{name}: not a manifest but a list of other hashes: line {number} is of the file {line.stem}")
+    return line
+
+
+def last_of_each(lines: Iterable[Line]) -> list[Line]:
+    """Returns the counties of these lines: of several lines for a county the last one counts, with the sources before it."""
     counties: dict[str, Line] = {}
     sources: dict[str, str] = {}
-    for number, text in enumerate(whole[flags is not None :], 1 + (flags is not None)):
-        line = parsed_line(text)
-        if text in HEADINGS:
-            raise Failure(f"{name}: line {number} begins another manifest: take it out if both have the same flags")
-        if line is None and text.startswith(b"#"):
-            raise Failure(
-                f"{name}: line {number} is a comment that fingerprint doesn't write and would lose: move it to another file"
-            )
-        if line is None:
-            raise Failure(f"{name}: not a manifest: line {number} isn't a fingerprint and a name")
-        if line.fingerprint and flags is None and is_other_file(line.stem):
-            raise Failure(f"{name}: not a manifest but a list of other hashes: line {number} is of the file {line.stem}")
+    for line in lines:
         if line.fingerprint or line.refusal:
             counties.pop(line.stem, None)
             counties[line.stem] = line._replace(sources=line.sources or sources.get(line.stem, ""))
         else:
             sources[line.stem] = line.sources
-    if not STARTED_LINE.fullmatch(rest) and not any(each.startswith(rest) for each in HEADINGS):
-        raise Failure(f"{name}: not a manifest: its last line isn't a fingerprint and a name")
-    return (flags or ()) if whole else None, [*counties.values()], rest
+    return [*counties.values()]
 
 
 def parsed_line(text: bytes) -> Line | None:
