@@ -15,6 +15,7 @@ from tigercanon.pages import Change, changed, index
 
 REFUSED = "refused 14 LinkMissing 7"
 FAILED = "failed: the zip is cut off"
+UNCHECKED = "failed: not checked yet"
 
 
 def edition(name: str, *counties: tuple[str, object], flags: str = "") -> str:
@@ -38,63 +39,36 @@ def folder(room: Path) -> Path:
     return room
 
 
+# Each way for a county to go through three editions: its states, how it changed in the second and the third, in one word and in a sentence,
+# and its row in the table.
+THREE: dict[str, tuple[tuple[object, object, object], list[str], str, str]] = {
+    "AGAIN": ((4, None, 44), ["removed", "added"], "removed in 2, added again in 3", "1 - 2"),
+    "BACK": ((2, 22, 2), ["changed", "changed"], "changed in 2, back in 3 as in 1", "1 2 1"),
+    "GONE": ((3, None, None), ["removed", ""], "removed in 2", "1 - -"),
+    "LATE": ((6, 6, 66), ["same", "changed"], "changed in 3", "1 1 2"),
+    "LEFT": ((9, 9, UNCHECKED), ["same", "unchecked"], "unchecked in 3", "1 1 unchecked"),
+    "MENDED": ((FAILED, 7, 7), ["accepted", "same"], "accepted in 2", "failed 1 1"),
+    "NEW": ((None, 8, 88), ["added", "changed"], "added in 2, changed in 3", "- 1 2"),
+    "REACHED": (
+        (UNCHECKED, UNCHECKED, 5),
+        ["unchecked", "accepted"],
+        "still unchecked in 2, accepted in 3",
+        "unchecked unchecked 1",
+    ),
+    "REFUSED": ((REFUSED,) * 3, ["refused", "refused"], "still refused in 2, still refused in 3", "refused refused refused"),
+    "SAME": ((1, 1, 1), ["same", "same"], "same since 1", "1 1 1"),
+    "WORSE": ((5, REFUSED, FAILED), ["refused", "failed"], "refused in 2, failed in 3", "1 refused failed"),
+}
+
+
 def test_three_editions() -> None:
-    """Each way for a county to go through three editions."""
-    one: dict[str, object] = {
-        "SAME": 1,
-        "BACK": 2,
-        "GONE": 3,
-        "AGAIN": 4,
-        "REFUSED": REFUSED,
-        "MENDED": FAILED,
-        "WORSE": 5,
-        "LATE": 6,
-    }
-    two: dict[str, object] = {"SAME": 1, "BACK": 22, "REFUSED": REFUSED, "MENDED": 7, "WORSE": REFUSED, "NEW": 8, "LATE": 6}
-    three: dict[str, object] = {
-        "SAME": 1,
-        "BACK": 2,
-        "AGAIN": 44,
-        "REFUSED": REFUSED,
-        "MENDED": 7,
-        "WORSE": FAILED,
-        "NEW": 88,
-        "LATE": 66,
-    }
-    assert histories(one, two, three) == {
-        "AGAIN": ["removed", "added"],
-        "BACK": ["changed", "changed"],
-        "GONE": ["removed", ""],
-        "LATE": ["same", "changed"],
-        "MENDED": ["accepted", "same"],
-        "NEW": ["added", "changed"],
-        "REFUSED": ["refused", "refused"],
-        "SAME": ["same", "same"],
-        "WORSE": ["refused", "failed"],
-    }
-    words = {each.county: each.verdict for each in tigercanon.changes("1", "2", "3")}
-    assert words == {
-        "AGAIN": "removed in 2, added again in 3",
-        "BACK": "changed in 2, back in 3 as in 1",
-        "GONE": "removed in 2",
-        "LATE": "changed in 3",
-        "MENDED": "accepted in 2",
-        "NEW": "added in 2, changed in 3",
-        "REFUSED": "still refused in 2, still refused in 3",
-        "SAME": "same since 1",
-        "WORSE": "refused in 2, failed in 3",
-    }
-    assert [line.split()[:4] for line in table(tigercanon.changes("1", "2", "3"))] == [
+    editions = [{name: states[place] for name, (states, *_) in THREE.items() if states[place]} for place in range(3)]
+    assert histories(*editions) == {name: steps for name, (_, steps, *_) in THREE.items()}
+    counties = tigercanon.changes("1", "2", "3")
+    assert {each.county: each.verdict for each in counties} == {name: verdict for name, (*_, verdict, _) in THREE.items()}
+    assert [line.split()[:4] for line in table(counties)] == [
         ["county", "1", "2", "3"],
-        ["AGAIN", "1", "-", "2"],
-        ["BACK", "1", "2", "1"],
-        ["GONE", "1", "-", "-"],
-        ["LATE", "1", "1", "2"],
-        ["MENDED", "failed", "1", "1"],
-        ["NEW", "-", "1", "2"],
-        ["REFUSED", "refused", "refused", "refused"],
-        ["SAME", "1", "1", "1"],
-        ["WORSE", "1", "refused", "failed"],
+        *([name, *row.split()] for name, (*_, row) in THREE.items()),
     ]
 
 

@@ -36,38 +36,61 @@ def with_large_end(text: bytes, count: int) -> bytes:
     return text[:at] + large + struct.pack("<4sLQL", b"PK\6\7", 0, at, 1) + text[at:]
 
 
-def broken_zips() -> dict[str, tuple[bytes, str]]:
-    """Returns zips by their faults, and the expected reports."""
-    good, (name, *_, last), size = packed(COUNTY), COUNTY, len(TEXT)
-    # Where the header before a file starts, and its line in the directory.
-    before, line = zipfile.ZipFile(io.BytesIO(good)).getinfo(name).header_offset, good.rindex(name.encode()) - 46
-    data = before + 30 + len(name)
-    broken, two, unknown = f"the zip is broken at {name}", "the zip has 2 counties in it:", "compressed by an unknown method"
-    large = {**COUNTY, last: b" " * 300_000}
-    counts, whole = "the zip is broken: its directory has 9 files, and its end counts", packed({"all.txt": RECORD})
-    in_whole = whole.rindex(b"all.txt") - 46
-    too_large = f"the zip unpacks to {sum(map(len, large.values()))} bytes, more than --largest 200000"
+Zips = dict[str, tuple[bytes, str]]
+"""Zips by their faults, and the expected reports."""
+
+GOOD, (NAME, *_, LAST) = packed(COUNTY), COUNTY
+WHOLE = packed({"all.txt": RECORD})
+BROKEN, UNKNOWN = f"the zip is broken at {NAME}", "compressed by an unknown method"
+
+
+def zips_with_broken_ends() -> Zips:
+    """Their files can't be listed, or the end counts others."""
+    line, count = GOOD.rindex(NAME.encode()) - 46, len(GOOD) - 12  # where the directory begins, and the count in the end
+    counts = "the zip is broken: its directory has 9 files, and its end counts"
     return {
         "no-zip": (b"no zip", "it isn't a zip"),
         "empty": (b"", "it isn't a zip"),
-        "cut": (good[:-60], "the zip is cut off"),
-        "cut-in-half": (good[: len(good) // 2], "the zip is cut off"),
-        "byte": (patched(good, (data + 8, bytes([good[data + 8] ^ 255]))), broken),
-        "directory": (patched(good, (line, b"XX")), "the zip is broken: its directory can't be read"),
-        "few": (patched(good, (len(good) - 12, b"\5\0")), f"{counts} 5"),
-        "many": (patched(good, (len(good) - 12, b"\x0a\0")), f"{counts} 10"),
-        "uncounted": (patched(good, (len(good) - 12, b"\xff\xff")), f"{counts} 65,535"),
-        "large-count": (with_large_end(good, 10), f"{counts} 10"),
-        "whole-locked": (patched(whole, (6, b"\1"), (in_whole + 8, b"\1")), "the zip is locked with a password"),
-        "whole-method": (
-            patched(whole, (8, b"\x09"), (in_whole + 10, b"\x09")),
-            f"the zip can't be unpacked: all.txt is {unknown}",
-        ),
-        "whole-sum": (patched(whole, (in_whole + 16, b"XXXX")), "the zip is broken at all.txt"),
-        "header": (patched(good, (before, b"XX")), broken),
-        "locked": (patched(good, (before + 6, b"\1"), (line + 8, b"\1")), "the zip is locked with a password"),
-        "method": (patched(good, (before + 8, b"\x09"), (line + 10, b"\x09")), f"the zip can't be unpacked: {name} is {unknown}"),
-        **{f"says-{told}": (patched(good, (line + 24, struct.pack("<L", told))), broken) for told in (0, size - 1, size + 1)},
+        "cut": (GOOD[:-60], "the zip is cut off"),
+        "cut-in-half": (GOOD[: len(GOOD) // 2], "the zip is cut off"),
+        "directory": (patched(GOOD, (line, b"XX")), "the zip is broken: its directory can't be read"),
+        "few": (patched(GOOD, (count, b"\5\0")), f"{counts} 5"),
+        "many": (patched(GOOD, (count, b"\x0a\0")), f"{counts} 10"),
+        "uncounted": (patched(GOOD, (count, b"\xff\xff")), f"{counts} 65,535"),
+        "large-count": (with_large_end(GOOD, 10), f"{counts} 10"),
+    }
+
+
+def zips_with_broken_files() -> Zips:
+    """Their first file can't be unpacked as the directory says."""
+    # Where the header before the file starts, and its line in the directory.
+    before, line = zipfile.ZipFile(io.BytesIO(GOOD)).getinfo(NAME).header_offset, GOOD.rindex(NAME.encode()) - 46
+    data, size = before + 30 + len(NAME), len(TEXT)
+    return {
+        "byte": (patched(GOOD, (data + 8, bytes([GOOD[data + 8] ^ 255]))), BROKEN),
+        "header": (patched(GOOD, (before, b"XX")), BROKEN),
+        "locked": (patched(GOOD, (before + 6, b"\1"), (line + 8, b"\1")), "the zip is locked with a password"),
+        "method": (patched(GOOD, (before + 8, b"\x09"), (line + 10, b"\x09")), f"the zip can't be unpacked: {NAME} is {UNKNOWN}"),
+        **{f"says-{told}": (patched(GOOD, (line + 24, struct.pack("<L", told))), BROKEN) for told in (0, size - 1, size + 1)},
+    }
+
+
+def zips_with_one_broken_file() -> Zips:
+    """The same of zips with all records in one file."""
+    line = WHOLE.rindex(b"all.txt") - 46
+    method = patched(WHOLE, (8, b"\x09"), (line + 10, b"\x09"))
+    return {
+        "whole-locked": (patched(WHOLE, (6, b"\1"), (line + 8, b"\1")), "the zip is locked with a password"),
+        "whole-method": (method, f"the zip can't be unpacked: all.txt is {UNKNOWN}"),
+        "whole-sum": (patched(WHOLE, (line + 16, b"XXXX")), "the zip is broken at all.txt"),
+    }
+
+
+def zips_with_other_contents() -> Zips:
+    """They don't have one county, or too large a one."""
+    two, large = "the zip has 2 counties in it:", {**COUNTY, LAST: b" " * 300_000}
+    too_large = f"the zip unpacks to {sum(map(len, large.values()))} bytes, more than --largest 200000"
+    return {
         "two": (packed({**COUNTY, **members("tgr00003", TEXT)}), f"{two} TGR00001, TGR00003"),
         "folders": (packed({**members("a/TGR00001", TEXT), "b/TGR00001.RT2": b""}), f"{two} A/TGR00001, B/TGR00001"),
         "none": (packed({"TGR00001.RTA": b"A", "read.me": b""}), "the zip has no county in it"),
@@ -77,7 +100,7 @@ def broken_zips() -> dict[str, tuple[bytes, str]]:
 
 
 def test_broken_zips(room: Path, fake: Path) -> None:
-    zips = broken_zips()
+    zips = {**zips_with_broken_ends(), **zips_with_broken_files(), **zips_with_one_broken_file(), **zips_with_other_contents()}
     for name, (text, _) in zips.items():
         put(f"in/{name}.ZIP", text)
     put("in/lower.zip", packed({**{name.lower(): text for name, text in COUNTY.items()}, "tgr00001.rta": b"A", "x/y.txt": b""}))
