@@ -44,8 +44,8 @@ class Finder:
         stems: dict[tuple[str, ...], str] = {}
         known: set[str] = set()
         for county in sorted(counties, key=lambda county: folded(county.stem) not in self.listed):
-            # The names that its files have whichever links lead to them.
-            places = tuple(real(file.place) for file in county.places)
+            # The names that its files have whichever links lead to them. Links that lead nowhere may lead to one name.
+            places = () if county.trouble else tuple(real(file.place) for file in county.places)
             first = stems.setdefault(places, county.stem) if places else county.stem
             if is_known(county):
                 known.add(county.stem)
@@ -256,22 +256,25 @@ def county_in(folder: str, entry: Entry, is_listed: bool = False) -> County | No
         return (
             County(path, trouble="it is one file of several, packed by gzip: unpack it first") if kind_of(inner) in KINDS else None
         )
-    if entry.trouble:
-        return County(path, trouble=entry.trouble)
+    trouble = entry.trouble
     try:
-        is_county |= is_record(first_line(path))
+        is_county |= not trouble and is_record(first_line(path))
     except Failure:
         raise
     except Exception as error:
-        return County(path, trouble=str(error) if isinstance(error, Unreadable) else f"can't be read: {reason(error)}")
-    return whole_county(folder, entry) if is_county else None
+        trouble = str(error) if isinstance(error, Unreadable) else f"can't be read: {reason(error)}"
+    if is_county:
+        return whole_county(folder, entry, trouble)
+    return County(path, trouble=trouble) if trouble else None
 
 
 def wholes_among(folder: str, listed: Iterable[Entry]) -> list[County]:
     """Returns the counties with all records in one file each. If some begin with a record, those."""
     counties = [county for county in (county_in(folder, entry) for entry in listed if not entry.is_folder) if county]
     sure = (
-        [county for county in counties if county.whole and is_record(first_line(county.whole.place))] if len(counties) > 1 else []
+        [county for county in counties if county.whole and not county.trouble and is_record(first_line(county.whole.place))]
+        if len(counties) > 1
+        else []
     )
     return sure or counties
 
@@ -294,12 +297,13 @@ def placed(folder: str, entry: Entry) -> File:
     return File(path if is_url(path) else os.path.abspath(path), entry.size)
 
 
-def whole_county(folder: str, entry: Entry) -> County:
-    """Returns the county of one file with all records."""
-    path = joined(folder, entry.name)
-    trouble = entry.trouble or ("its name has a line break in it" if "\n" in path else "")
+def whole_county(folder: str, entry: Entry, trouble: str = "") -> County:
+    """Returns the county of one file with all records, or one that fails for a trouble."""
+    path, trouble = joined(folder, entry.name), trouble or entry.trouble
+    if "\n" in path:
+        return County(path, trouble="its name has a line break in it")
     # The program would take /dev/stdin for another file.
-    return County(path, trouble=trouble) if trouble else County(path, whole=File(real(path), entry.size))
+    return County(path, whole=File(real(path), None if trouble else entry.size), trouble=trouble)
 
 
 def county_of(folder: str, names: Names) -> County:
@@ -309,25 +313,32 @@ def county_of(folder: str, names: Names) -> County:
     stem = joined(folder, base)
     if "\n" in stem:
         return County(stem, trouble="its name has a line break in it")
-    files, listed = {}, {kind: ", ".join(entry.name for entry in names[kind]) for kind in names}
-    for kind in kinds or ["ZIP"]:
-        entry, *others = names[kind]
-        if others:
-            what = "zips" if kind == "ZIP" else f"files of type {kind}"
-            return County(stem, trouble=f"there are {1 + len(others)} {what}: {listed[kind]}")
-        if entry.trouble:
-            return County(stem, trouble=f"{entry.name} {entry.trouble}")
-        files[kind] = placed(folder, entry)
-    if "ZIP" in files:
+    files = {kind: placed(folder, names[kind][0]) for kind in kinds or ["ZIP"]}
+    trouble = next(filter(None, (trouble_of(kind, names[kind]) for kind in files)), "")
+    if trouble:
+        return County(stem, {kind: File(file.place, None) for kind, file in files.items()}, trouble=trouble)
+    if not kinds:
         return County(stem, zip=files["ZIP"])
-    notes = (f"its single files are read, and not {listed['ZIP']}",) if "ZIP" in names else ()
+    notes = (f"its single files are read, and not {listing(names['ZIP'])}",) if "ZIP" in names else ()
     is_readable = not is_url(stem) and all(names[kind][0].name == f"{base}.RT{kind}" for kind in kinds)
     return County(stem, files, notes=notes, readable_stem=os.path.abspath(stem) if is_readable else None)
 
 
+def trouble_of(kind: str, listed: Sequence[Entry]) -> str:
+    """Returns what is wrong with the files of one kind that a county has."""
+    if len(listed) > 1:
+        return f"there are {len(listed)} {'zips' if kind == 'ZIP' else f'files of type {kind}'}: {listing(listed)}"
+    return f"{listed[0].name} {listed[0].trouble}" if listed[0].trouble else ""
+
+
+def listing(listed: Iterable[Entry]) -> str:
+    return ", ".join(entry.name for entry in listed)
+
+
 def doubles_among(counties: Sequence[County]) -> dict[str, str]:
     """Returns the names of files with all records, each with the zip or the single files of the same name in the same folder."""
-    places = {(parted(county.stem)[0], key_of(county.stem)): county.stem for county in counties if county.zip or county.files}
+    sure = [county for county in counties if (county.zip or county.files) and not county.trouble]
+    places = {(parted(county.stem)[0], key_of(county.stem)): county.stem for county in sure}
     pairs = [(county.stem, places.get((parted(county.stem)[0], key_of(county.stem)))) for county in counties if county.whole]
     return {stem: first for stem, first in pairs if first}
 

@@ -39,8 +39,8 @@ class File:
 @dataclass(frozen=True)
 class County:
     """A county in an archive: single files by their types, one file with all records, or a zip. stem is its name in a manifest. trouble
-    says why it can't be judged. notes are reported with its result. readable_stem is one that the program can read without copies of
-    the files, if their names are in capitals."""
+    says why it can't be judged; its files are those that are there all the same. notes are reported with its result. readable_stem is one
+    that the program can read without copies of the files, if their names are in capitals."""
 
     stem: str
     files: dict[str, File] = field(default_factory=dict)
