@@ -3,6 +3,7 @@ the runner of the cases in vectors/ does without a program."""
 
 from __future__ import annotations
 
+import errno
 import os
 import shlex
 import shutil
@@ -278,6 +279,26 @@ def test_a_hint_for_names(room: Path, present: str) -> None:
     found = hint("refused 8 Device", [f"{room}/TGR01013.RT1", f"{room}/TGR01013.RT2"])
     assert found == f"there is {present}: the program reads names in capitals only"
     assert hint("refused 8 Device", [f"{room}/other.RT1"]) == ""
+
+
+def test_a_hint_for_a_file_that_can_not_be_opened(room: Path, monkeypatch: pytest.MonkeyPatch) -> None:
+    """It has the file and the reason. A pipe is opened without a wait."""
+    put("x.RT1")
+    os.mkfifo("x.RT2")
+    os.mkdir("x.RT4")
+    real = os.open
+
+    def opened(path: str, *rest: int) -> int:
+        if str(path).endswith(".RT5"):
+            raise PermissionError(errno.EACCES, "Permission denied")
+        return real(path, *rest)
+
+    monkeypatch.setattr(os, "open", opened)
+    files = [f"{room}/x.RT{kind}" for kind in "1234"]
+    assert hint("refused 8 Device", files[:2]) == ""
+    assert hint("refused 8 Device", files) == ".RT4 is a folder"
+    assert hint("refused 8 Device", [*files[:2], str(put("x.RT5"))]) == ".RT5 can't be read: Permission denied"
+    assert hint("refused 8 Device", [str(put("all.RT5"))]) == "it can't be read: Permission denied"
 
 
 def test_hints_in_a_run(room: Path, program: str) -> None:

@@ -8,6 +8,7 @@ from contextlib import suppress
 from pathlib import Path
 from typing import Sequence
 
+from .errors import reason
 from .storage import line_at
 
 FAULTY_LINE = re.compile(r"refused ([1-6]) \w+ (\d+) (\d+)\b.*")
@@ -28,14 +29,30 @@ OLDER_LENGTHS = {"5": 52, "I": 52, "P": 44}
 def hint(line: str, files: Sequence[str | None]) -> str:
     """Tells what to look at after a refusal, if anything. files are the parts of the set in their order."""
     if line.startswith("refused 8 "):
-        for path in [Path(file) for file in files if file and not os.path.exists(file)]:
-            for other in (path.stem + path.suffix.lower(), path.name.lower()):
-                if other != path.name and path.with_name(other).exists():
-                    return f"there is {other}: the program reads names in capitals only"
+        return hint_of_names([file for file in files if file])
     place = FAULTY_LINE.match(line)
     file = files[int(place[2]) - 1] if place and 1 <= int(place[2]) <= len(files) else None
     with suppress(OSError):
         return hint_of_bytes(file, int(place[3])) if place and file else ""
+    return ""
+
+
+def hint_of_names(files: Sequence[str]) -> str:
+    """Tells which file has another name, or can't be opened, and why."""
+    for path in map(Path, files):
+        for other in (path.stem + path.suffix.lower(), path.name.lower()):
+            if other != path.name and os.path.exists(path.with_name(other)) and not os.path.exists(path):
+                return f"there is {other}: the program reads names in capitals only"
+    for path in map(Path, files):
+        named = path.suffix if len(files) > 1 else "it"
+        if os.path.isdir(path):
+            return f"{named} is a folder"
+        try:
+            os.close(os.open(path, os.O_RDONLY | os.O_NONBLOCK))
+        except FileNotFoundError:
+            pass
+        except OSError as error:
+            return f"{named} can't be read: {reason(error)}"
     return ""
 
 
