@@ -2,7 +2,7 @@
 // files with all records.
 //
 // A county has a stem, which is its name, and either single files by their types, a zip or one whole file. trouble says why it can't be
-// judged, and notes are reported with its result.
+// judged, and isNamed that it is a county by the names of its files all the same. notes are reported with its result.
 import { beginningOf, beginsWithRecord } from "./first_line.js";
 import { groupedBy } from "./grouping.js";
 import { baseOf, byBytes, endingOf, folderOf, foldedName, isLeftOut, keyOf, kindOf, stemOf } from "./names.js";
@@ -50,13 +50,13 @@ async function decided(given) {
     const county = isNamed ? wholeCounty(given) : await countyIn(given, false, head);
     return county ? ["counties", county] : ["skipped", given];
   } catch {
-    return ["counties", failing(path, UNREADABLE)];
+    return ["counties", failing(path, UNREADABLE, COUNTY_NAME.test(keyOf(path)))];
   }
 }
 
 const wholeCounty = ({ path, file }) => ({ stem: path, whole: file, notes: [] });
 
-const failing = (stem, trouble) => ({ stem, trouble, notes: [] });
+const failing = (stem, trouble, isNamed = false) => ({ stem, trouble, isNamed, notes: [] });
 
 // A line of a manifest can't have a name with a line break.
 const nameable = (county) => (county.stem.includes("\n") ? failing(county.stem, "its name has a line break in it") : county);
@@ -80,7 +80,7 @@ export async function countyIn({ path, file }, isListed, head) {
   try {
     return (await beginsWithRecord(file, head ?? (await beginningOf(file)))) || isCounty ? wholeCounty({ path, file }) : undefined;
   } catch (error) {
-    return failing(path, error instanceof Unreadable ? error.message : UNREADABLE);
+    return failing(path, error instanceof Unreadable ? error.message : UNREADABLE, isCounty);
   }
 }
 
@@ -101,7 +101,7 @@ function countyOf(group) {
   const several = kinds.find((kind) => named.get(kind).length > 1);
   if (several) {
     const what = several === "ZIP" ? "zips" : `files of type ${several}`;
-    return failing(stem, `there are ${named.get(several).length} ${what}: ${listed(several)}`);
+    return failing(stem, `there are ${named.get(several).length} ${what}: ${listed(several)}`, true);
   }
   if (!singles.length) return { stem, zip: named.get("ZIP")[0].file, notes: [] };
   const notes = named.get("ZIP").length ? [`its single files are read, and not ${listed("ZIP")}`] : [];

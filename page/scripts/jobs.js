@@ -1,5 +1,6 @@
 // Workers: each job has one of its own, so that its memory is given back when it ends. Jobs of many small counties share some.
 import { unzippedStream } from "./first_line.js";
+import { STOPPED } from "./queue.js";
 
 const MOST_SHARED = 20_000_000; // bytes that a worker reads before it is replaced
 
@@ -64,7 +65,7 @@ export class Assistant {
 
   end() {
     this.worker.terminate();
-    this.fail("This was stopped.");
+    this.fail(STOPPED);
   }
 }
 

@@ -18,9 +18,10 @@ export const leftOut = (masks) => [masks.sources && "sources", masks.reserved &&
 
 const heading = (flags) => [FORM, ...flags].join(" ");
 
-// A manifest of these counties, each with its fingerprint and its stem.
+// A manifest of these counties, each with its stem and its fingerprint, or the reason why it has none: a refusal, or a text after
+// `failed: `.
 export function manifestOf(counties, masks) {
-  const lines = counties.map(({ fingerprint, stem }) => ({ stem, line: `${fingerprint}  ${stem}` }));
+  const lines = counties.map(({ fingerprint, reason, stem }) => ({ stem, line: fingerprint ? `${fingerprint}  ${stem}` : `# ? -  ${reason.replace(/\s+/g, " ")}  ${stem}` }));
   lines.sort((one, other) => byBytes(one.stem, other.stem) || byBytes(one.line, other.line));
   const mark = IS_PROVED ? [] : [UNPROVED];
   return [heading([...mark, ...flagsOf(masks)]), ...lines.map(({ line }) => line)].map((line) => `${line}\n`).join("");

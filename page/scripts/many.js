@@ -8,9 +8,10 @@ import { Crew } from "./jobs.js";
 import { groupedBy } from "./grouping.js";
 import { flagsOf, manifestOf, readManifest, verified } from "./manifests.js";
 import { foldedName, shownName } from "./names.js";
-import { Queue, weightOf } from "./queue.js";
+import { Queue, STOPPED, weightOf } from "./queue.js";
 
 const SHOWN_DIGITS = 16;
+const UNCHECKED = "not checked yet"; // what a manifest has of a county that wasn't reached
 const KINDS_OF_STATES = { OK: "accepted", NEW: "busy", REFUSED: "busy", ACCEPTED: "busy", FAILED: "refused", MISSING: "refused" };
 
 const digitsOf = (fingerprint) => h("code", { title: fingerprint }, `${fingerprint.slice(0, SHOWN_DIGITS)}…`);
@@ -92,9 +93,11 @@ export class ManyCounties {
 
   // The counties with their results. A file with the map of the zip or the single files beside it is a double.
   judged() {
-    const judged = new Map(this.queue.tasks.map(({ county, result }) => {
+    const judged = new Map(this.queue.tasks.map(({ county, result, trouble }) => {
       const isRefused = result && !result.isAccepted;
-      return [county, { stem: county.stem, fingerprint: result?.fingerprint, isRefused, isUnread: Boolean(county.trouble) }];
+      const reason = isRefused ? result.line : trouble && `failed: ${trouble === STOPPED ? UNCHECKED : trouble}`;
+      const isInManifest = !county.trouble || county.isNamed;
+      return [county, { stem: county.stem, fingerprint: result?.fingerprint, reason, isInManifest, isRefused, isUnread: Boolean(county.trouble) }];
     }));
     for (const [file, county] of doublesAmong(this.counties)) {
       const [double, first] = [judged.get(file), judged.get(county)];
@@ -122,7 +125,8 @@ export class ManyCounties {
     this.bar.parentElement.hidden = true;
     const judged = this.judged();
     const accepted = judged.filter(({ fingerprint, double }) => fingerprint && !double);
-    const text = manifestOf(accepted, this.masks);
+    const listed = judged.filter(({ double, isInManifest }) => isInManifest && !double);
+    const text = manifestOf(listed, this.masks);
     const button = h("button", { type: "button", class: "main", disabled: !accepted.length, onclick: () => save("counties.manifest", new Blob([text])) }, [
       "Save as manifest ", h("span", { class: "size" }, sizeText(text.length)),
     ]);

@@ -5,7 +5,8 @@ import { flagsOf } from "./manifests.js";
 const MOST_AT_ONCE = 4;
 const MOST_BYTES = 150_000_000; // of packed files at a time, unless a county alone has more
 const UNPACKED = 6; // a zip is taken to unpack to so many times its bytes
-const STOPPED = "This was stopped.";
+
+export const STOPPED = "This was stopped.";
 
 // The results that counties already have, by their masks. A county is the same as long as its files are.
 const results = new WeakMap();

@@ -21,6 +21,18 @@ test("a manifest has its form, its flags, and the counties in the order of their
   assert.deepEqual(flagsOf({ sources: false, reserved: true }), ["--no-reserved"]);
 });
 
+test("a county without a fingerprint has a comment with the reason", () => {
+  const counties = [
+    { stem: "b", fingerprint: print("1") }, { stem: "c", reason: "refused 4 BadNumber 1 4 6" },
+    { stem: "a", reason: "failed: the zip is  cut\noff" }, { stem: "d", reason: "failed: not checked yet" },
+  ];
+  const head = manifestOf([], NO_FLAGS);
+  const comments = ["failed: the zip is cut off  a", "refused 4 BadNumber 1 4 6  c", "failed: not checked yet  d"].map((text) => `# ? -  ${text}\n`);
+  const text = manifestOf(counties, NO_FLAGS);
+  assert.equal(text, head + comments[0] + line("1", "b") + comments[1] + comments[2]);
+  assert.deepEqual(readManifest(text).counties.map(({ stem, fingerprint }) => [stem, fingerprint]), [["a", ""], ["b", print("1")], ["c", ""], ["d", ""]]);
+});
+
 test("the flags of a manifest, also of earlier tools", () => {
   const heads = {
     [HEAD]: [false, false], "# tigercanon form 1 --no-sources\n": [true, false], "# tigercanon form 1 unproved --no-reserved\n": [false, true],

@@ -294,7 +294,7 @@ checkbox polygons alike: 78: false; searchbox Only those with; list Differences;
 checkbox with what is alike: false; button Print…; button Start again
 """
 OF_MANY = """
-region Results; heading Counties; button Save as manifest 173 bytes; button Compare with a manifest…; searchbox Only those with;
+region Results; heading Counties; button Save as manifest 218 bytes; button Compare with a manifest…; searchbox Only those with;
 region Table of counties; columnheader County; columnheader Result; columnheader Fingerprint or refusal; columnheader Notes; button County;
 button Result; button Fingerprint or refusal; button Notes; button broken.txt; button first.txt; button second.txt; button Start again
 """
