@@ -43,6 +43,7 @@ export class Assistant {
   }
 
   ask(job, question = {}, transfer = []) {
+    if (this.failure) return Promise.reject(new Trouble(this.failure));
     this.tickets += 1;
     const ticket = this.tickets;
     return new Promise((resolve, reject) => {
@@ -58,7 +59,9 @@ export class Assistant {
     else resolve?.(answer);
   }
 
+  // Nothing that was asked, or will be, has an answer.
   fail(sentence) {
+    this.failure = sentence;
     for (const { reject } of this.waiting.values()) reject(new Trouble(sentence));
     this.waiting.clear();
   }

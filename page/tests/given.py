@@ -10,6 +10,7 @@ import time
 import zipfile
 from pathlib import Path
 
+from dev.testing import make_county
 from in_browser import EXAMPLES, RESULT, TABLE, VERDICT, Page
 from showing import TOWN
 
@@ -250,6 +251,22 @@ def try_stopped(page: Page) -> None:
     page.browser.execute("globalThis.Worker = OwnWorker")
 
 
+def try_stopped_manifest(page: Page) -> None:
+    """A manifest that is saved after a stop, when one county was judged, lists all others as not checked yet."""
+    slow, text = [page.room / f"slow-{number}.txt" for number in range(5)], make_county(10_000, "-")
+    for path in slow:
+        path.write_bytes(text)
+    page.browser.start_again()
+    page.browser.execute(STOPPED_AT, ".counties .link", ".many .bar button")
+    page.browser.give([TOWN[0], *slow])
+    page.browser.wait_for("document.querySelector('.many .actions .main')")
+    page.browser.click(".many .actions .main")
+    lines = page.browser.downloaded("counties.manifest").decode().splitlines()
+    left = [f"# ? -  failed: not checked yet  {path.name}" for path in slow]
+    page.equal("what a manifest has after a stop", [f"{page.printed('fingerprint', TOWN[0])}  first.txt", *left], lines[1:])
+    page.browser.execute("globalThis.Worker = OwnWorker")
+
+
 # Workers fail at a job, as if the browser had ended them.
 FAILING = """
 const [failing] = arguments;
@@ -457,6 +474,7 @@ CASES = (
     try_gone,
     try_gone_comparison,
     try_stopped,
+    try_stopped_manifest,
     try_failing_workers,
     try_examples,
     try_choosing,
