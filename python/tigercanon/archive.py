@@ -132,9 +132,9 @@ def manifest(
     """Judges the counties of all sources, and yields each as soon as it is done.
 
     The counties are found when it is called, and judged while the results are read. With output the manifest is written to this file: a
-    county is in it before it is yielded, and it is put in order after the last one. Counties that it lists already aren't judged: with
-    update those are whose files have changed, and with again those that were refused. With update and prune, counties that are gone are
-    taken out. Raises Failure if it can't go on."""
+    county is in it before it is yielded, and it is put in order after the last one. From the first result on, the others are in it as not
+    checked yet. Counties that it lists already aren't judged: with update those are whose files have changed, and with again those that
+    were refused. With update and prune, counties that are gone are taken out. Raises Failure if it can't go on."""
     names, name = names_of(sources), None if output is None else os.fspath(output)
     choice = choice_of(name, update, again, prune)
 
