@@ -127,8 +127,8 @@ CASES = [
 # The headers of impls, and the names that rattle prints for them.
 OWNERS = {
     "Shape {": "Shape",
-    "<K: Key> KeySet<K> {": "KeySet",
-    "KeySet<PolygonKey> {": "KeySet+PolygonKey",
+    "<T: Copy> JoinedLists<T> {": "JoinedLists",
+    "JoinedLists<Point> {": "JoinedLists+Point",
     "fmt::Display for LoadFault {": "LoadFaultDisplay",
     "Places for ArrayVec<Point, 10> {": "ArrayVecPoint10Places",
     "Places for ArrayVec<u32, 5> {": "ArrayVecU325Places",

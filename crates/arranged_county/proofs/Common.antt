@@ -31,7 +31,7 @@ pub use Rattle.canonical_form.specs.EndsAndSides.{changed_both, ends_among, keys
 pub use Rattle.canonical_form.specs.Growth.{first_seen, first_seen_after, numbered, up_to}
 pub use Rattle.canonical_form.specs.Uses.{Use, use_cmp, uses_of_name}
 pub use Rattle.canonical_form.specs.WholeArrangements.{AreReadAt, AreWhole, NamesEachOnce, arranged_by, link_bounds, links_up_to}
-pub use Rattle.county_chart.proofs.ByKey.PlacesOfCenids.{known_at}
+pub use Rattle.county_chart.proofs.ByKey.FoundKeys.{known_at}
 pub use Rattle.county_chart.proofs.Packing.Pieces.{rights-numbered_from}
 pub use Rattle.county_chart.proofs.Profile.Places.{is_at, is_some_from}
 pub use Rattle.county_chart.specs.BodyOrder.{landmark_body_cmp, link_cmp, link_part, link_part_cmp, name_body_cmp}

@@ -17,7 +17,7 @@ pub use Rattle.canonical_form.specs.Tidy.{HasShapesApart, IsChoice, IsLeastChoic
 pub use Rattle.canonical_form.specs.Uses.{Use, all_uses, landmark_key, landmark_key_cmp, links_of, name_key, name_key_cmp, use_cmp, uses_from, uses_of_name}
 pub use Rattle.canonical_form.specs.ViewRecords.{ShowsNoMore}
 pub use Rattle.canonical_form.specs.WholeArrangements.{AreWhole, NamesEachOnce, arranged_by}
-pub use Rattle.county_chart.proofs.ByKey.KeySets.{any-contains}
+pub use Rattle.county_chart.proofs.ByKey.FoundKeys.{any-contains}
 pub use Rattle.county_chart.proofs.Limits.FieldsFit.{link_content_turned}
 pub use Rattle.county_chart.proofs.Limits.FitsCounty.{county-within_limits, county_counts}
 pub use Rattle.county_chart.proofs.Limits.FitsPacked.{packed-fits}

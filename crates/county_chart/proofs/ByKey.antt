@@ -1,3 +1,1 @@
-pub mod KeySets
-pub mod PolygonSets
-pub mod PlacesOfCenids
+pub mod FoundKeys

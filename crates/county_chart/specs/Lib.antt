@@ -5,7 +5,6 @@ pub mod ChartWords
 pub mod DirectedChains
 pub mod CountyProps
 pub mod PolygonKeys
-pub mod PolygonSets
 pub mod BodyOrder
 pub mod County
 pub mod CountyRules

@@ -1,6 +1,4 @@
-//! Record keys, in order, and sets of them.
+//! Record keys, and items in their order.
 
-pub(crate) mod key_set;
 pub(crate) mod keyed;
-pub(crate) mod polygon_set;
 pub(crate) mod record_keys;

@@ -1,1 +1,3 @@
 pub mod MarkedNames
+pub mod DistinctKeys
+pub mod PolygonSets

@@ -1,6 +1,5 @@
 -- The names from below that the proofs of this crate cite, passed on from one place. Declares nothing.
-pub use Rattle.county_chart.proofs.ByKey.KeySets.{contains-distinct, distinct-more, distinct-two-more}
-pub use Rattle.county_chart.proofs.ByKey.PolygonSets.{keys_themselves}
+pub use Rattle.county_chart.proofs.ByKey.FoundKeys.{contains-distinct}
 pub use Rattle.county_chart.proofs.Limits.FitsCounty.{county-within_limits}
 pub use Rattle.county_chart.proofs.Lists.Compared.{greater, less}
 pub use Rattle.county_chart.proofs.Lists.OfNumber.{of_number-all, times-of_number}
@@ -25,7 +24,7 @@ pub use Rattle.county_chart.specs.declared.fault.LinkFault.TheVariants.{ChainTwi
 pub use Rattle.county_chart.specs.declared.fault.LinkedType.{LinkedType}
 pub use Rattle.county_chart.specs.declared.fault.LinkedType.TheVariants.{I}
 pub use Rattle.county_chart.specs.declared.fault.SequencedType.{SequencedType}
-pub use Rattle.ordered_lists.proofs.ByKey.KeyOrders.{pair_keys}
+pub use Rattle.ordered_lists.proofs.ByKey.KeyOrders.{bytes_keys, pair_keys}
 pub use Rattle.ordered_lists.proofs.ByKey.KeyedLists.{at_lists, before_all, decided-twice, empty_list, first_least, group-and_later, in_order-filter, in_order-from_sorted, least-same, left-once, left-one, less_from, lt_reversed}
 pub use Rattle.ordered_lists.proofs.ByKey.Keys.{IsKeyOrder, Known, all_known, filter_all, known-append, known-here, known-left, known-right, known_all, known_cases, nat_keys, same-itself, same-true, same_or_not, times-append, times-cons, times-no, times-permutation, times-yes}
 pub use Rattle.ordered_lists.proofs.ByKey.KeysAscend.{ascend-apart, ascend-in_order}
@@ -44,7 +43,7 @@ pub use Rattle.ordered_lists.specs.Entries.{entry_keys, entry_values, map_values
 pub use Rattle.ordered_lists.specs.Keyed.{IsLeastPassing, is_repeated, is_unknown}
 pub use Rattle.ordered_lists.specs.Orders.{IsInOrder, contains, distinct, has_repeat, in_order, put_in_order, times}
 pub use Rattle.ordered_lists.specs.Places.{at_places}
-pub use Rattle.std.proofs.Common.{Bool, Equal, Err, Greater, IfErr, IfOk, IsPermutation, IsTrue, Less, List, MatchResult, None, Ok, OnOk, Option, Ordering, Result, Some, [], ap, append-nil, append_assoc, ap₂, arith, cond, drop, false, filter, filter_map, flat_map, get_or, inl, inr, is_eq, is_gt, is_some, length, map, map-id, min, nat_cmp, nat_lt, not, option_map, refl, rules, slice_get, subst, suc, sym, take, tests, true, zero-add, ℕ, ◌&&◌, ◌++◌, ◌+◌, ◌<◌, ◌==◌, ◌||◌, ◌∙◌, ◌∷◌, ◌≡◌, ◌≢◌, ◌≤◌, ◌⊎◌}
+pub use Rattle.std.proofs.Common.{Bool, Equal, Err, Greater, IfErr, IfOk, IsPermutation, IsTrue, Less, List, MatchResult, None, Ok, OnOk, Option, Ordering, Result, Some, [], ap, append-nil, append_assoc, ap₂, arith, cond, drop, false, filter, filter_map, flat_map, get_or, inl, inr, is_eq, is_gt, is_some, length, map, map-id, min, nat_cmp, nat_lt, not, option_map, refl, rules, slice_get, subst, suc, sym, take, tests, true, zero, zero-add, ℕ, ◌&&◌, ◌++◌, ◌+◌, ◌<◌, ◌==◌, ◌||◌, ◌∙◌, ◌∷◌, ◌≡◌, ◌≢◌, ◌≤◌, ◌⊎◌}
 pub use Rattle.std.proofs.Math.Nat.{min-eq_left, min-eq_right, min-le_left, min-le_right}
 pub use Rattle.std.proofs.lemmas.Bool.{and_parts, cases_lt, cases_order, eq-eqb, eqb-true, false≢true, lt-ltb, ltb-false, ltb-true, ne_eqb, or_cases}
 pub use Rattle.std.proofs.lemmas.Cmp.{nat_cmp_total, on_total, tied_itself}
@@ -54,9 +53,9 @@ pub use Rattle.std.proofs.lemmas.Iterator.{YieldsList-from_map, YieldsList-from_
 pub use Rattle.std.proofs.lemmas.Iterator.Adapters.{items_from_extend, option_map_id}
 pub use Rattle.std.proofs.lemmas.Iterator.Consumers.{YieldsList-from_copied, YieldsList-from_filter_map}
 pub use Rattle.std.proofs.lemmas.Iterator.Search.{find_from_yields_List}
-pub use Rattle.std.proofs.lemmas.List.{drop_all, drop_more, length-map, map-append}
+pub use Rattle.std.proofs.lemmas.List.{drop_all, drop_more, get_or_read_under, length-map, map-append}
 pub use Rattle.std.proofs.lemmas.List.Sorted.{IsPermutation-append, IsPermutation-append_right, IsPermutation-cons, IsPermutation-map, IsPermutation-middle, IsPermutation-refl, IsPermutation-sym, IsPermutation-trans}
-pub use Rattle.std.proofs.lemmas.Option.{unwrap_or-slice_get}
+pub use Rattle.std.proofs.lemmas.Option.{slice_get_within, unwrap_or-slice_get}
 pub use Rattle.std.proofs.lemmas.Result.{IfOk-weaker, err_from_is_err_and, on_ok_weaker}
 pub use Rattle.std.specs.Cmp.Lexicographic.{slice_cmp}
 pub use Rattle.std.specs.List.{AllByRecursion, cons_option, dedup, dedup_from, find, list_all, list_any, range_with_len, zip}
@@ -66,6 +65,7 @@ pub use Rattle.std.specs.Ordering.{is_lt, on, ordering_reverse, ordering_then}
 pub use Rattle.tl_county.specs.Building.{chain_with, chains_along, county_along, landmark_of, landmarks_along, polygon_body_of, topology_nodes}
 pub use Rattle.tl_county.specs.Marks.{all_have_names}
 pub use Rattle.tl_county.specs.OrderedTables.{AreInOrder, ArePermuted, ordered_of, typed_of}
+pub use Rattle.tl_county.specs.PolygonSets.{cenid_of, polygons_of_cenids}
 pub use Rattle.tl_county.specs.RepeatedKeys.{AreLeastRepeated}
 pub use Rattle.tl_county.specs.RuleOrder.{IsFirstFrom, RulesHold, rule_place}
 pub use Rattle.tl_layout.proofs.Exits.{exit_with}

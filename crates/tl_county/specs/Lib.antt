@@ -1,3 +1,4 @@
+pub mod PolygonSets
 pub mod Marks
 pub mod RepeatedKeys
 pub mod RuleOrder

@@ -10,7 +10,7 @@ mod laws;
 mod linking;
 
 pub use county_chart::{
-    ChainFeats, ChainPoints, ChainRanges, Chart, County, CountyIn, DirectedChain, KeySet, Keyed,
+    ChainFeats, ChainPoints, ChainRanges, Chart, County, CountyIn, DirectedChain, Keyed,
     LandmarkBodies, LinkFault, LinkedType, Listed, Masked, PolygonKey, Same, SequencedType, Tested,
     all_hold, are_same, cmp_landmark_bodies, compare, least_unknown, polygon_number, push_all,
     sort_by_keys, split_group,

@@ -1,5 +1,5 @@
 -- The names from below that the proofs of this crate cite, passed on from one place. Declares nothing.
-pub use Rattle.county_chart.proofs.ByKey.KeySets.{contains-distinct}
+pub use Rattle.county_chart.proofs.ByKey.FoundKeys.{contains-distinct}
 pub use Rattle.county_chart.proofs.Limits.FewChains.{few_chains}
 pub use Rattle.county_chart.proofs.Profile.CountedChoices.{IsCounted, alike-next, alike_few, counted_next, more_choices-append}
 pub use Rattle.county_chart.proofs.Profile.Places.{ChainIsAt, all_next, along_from, chain_is_at, some-same, two_along}

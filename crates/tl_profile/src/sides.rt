@@ -9,37 +9,35 @@ ghost use Rattle.ordered_lists.specs.Keyed.{IsLeastPassing};
 ghost use Rattle.ordered_lists.specs.Orders.{distinct};
 ghost use Rattle.tl_profile.specs.Sides.{key_if_bodied, keys_on, keys_with_body};
 
-use county_chart::{Chart, KeySet, PolygonKey, ProfileFault, least_unknown};
+use county_chart::{Chart, PolygonKey, ProfileFault, least_unknown};
+use ordered_lists::sort_distinct;
 use std::alloc::{AllocError, Global};
 use tl_layout::Side;
 
-fn insert_side(polygons: &mut KeySet<PolygonKey>, side: Option<Side>) -> Result<(), AllocError>
-    ensures { OnOk result (distinct key_cmp polygons.new ≡ distinct key_cmp (polygons.old ++ keys_on side)) }
+/// Appends the polygon on a side, if there is one.
+fn push_polygon(polygons: &mut Vec<PolygonKey>, side: Option<Side>) -> Result<(), AllocError>
+    ensures { OnOk result (polygons.new.items ≡ polygons.old.items ++ keys_on side) }
 {
-    match side {
-        Some(side) => polygons.insert_side(&side),
-        None => Ok(()),
+    if let Some(side) = side {
+        let cenid = side.cenid();
+        if let Some(polyid) = side.polyid() {
+            polygons.push((cenid, polyid))?;
+        }
     }
-}
-
-/// Returns the set of the polygons on the sides of chains.
-fn polygons_on_sides<C: Chart>(alloc: Global, chart: &C) -> Result<KeySet<PolygonKey>, AllocError>
-    ensures { IfOk result (λ polygons. distinct key_cmp polygons ≡ distinct key_cmp (polygons_along (C.county chart.now).chains)) }
-{
-    let mut polygons = KeySet::new(alloc);
-    for place in 0..chart.chain_count() {
-        insert_side(&mut polygons, chart.left_at(place))?;
-        insert_side(&mut polygons, chart.right_at(place))?;
-    }
-    Ok(polygons)
+    Ok(())
 }
 
 /// Returns the polygons on the sides of chains, in order and without repetition.
 fn sides_in_order<C: Chart>(alloc: Global, chart: &C) -> Result<Vec<PolygonKey>, AllocError>
     ensures { IfOk result (λ keys. keys.items ≡ distinct key_cmp (polygons_along (C.county chart.now).chains)) }
 {
-    let polygons = polygons_on_sides(alloc, chart)?;
-    polygons.in_order(alloc)
+    let mut polygons = Vec::new(alloc);
+    for place in 0..chart.chain_count() {
+        push_polygon(&mut polygons, chart.left_at(place))?;
+        push_polygon(&mut polygons, chart.right_at(place))?;
+    }
+    sort_distinct::<PolygonKey>(&mut polygons);
+    Ok(polygons)
 }
 
 /// Returns the key of the polygon at a place, if it has a record of type P.

@@ -1,6 +1,6 @@
 -- Keys in a list that are found by marks or in a table of others: that one more key is found too, and where a key stands.
 use Rattle.arranged_county.proofs.Common.{AreApart, ArePlaced, Bool, Err, IfOk, IfSome, IsKeyOrder, List, None, Ok, OnOk, Option, Ordering, Result, Some, [], any_within, ap, arith, contains, false, get_or, get_or-set_other, get_or-set_same, inl, inr, is_eq, is_some, known_at, length, length-append, length-set, lt-ltb, none-some, none_within, place_found, position, refl, same_Some, set, slice_get, subst, suc, sym, times, to_position, true, zero, ℕ, ◌%◌, ◌++◌, ◌+◌, ◌<◌, ◌∙◌, ◌∷◌, ◌≡◌, ◌⊎◌}
-use Rattle.county_chart.proofs.ByKey.KeySets.{any-contains}
+use Rattle.county_chart.proofs.ByKey.FoundKeys.{any-contains}
 use Rattle.std.proofs.lemmas.Bool.{false≢true}
 use Rattle.std.specs.List.{list_any}
 use Rattle.ordered_lists.proofs.ByKey.Keys.{same-itself}

@@ -1,9 +1,9 @@
-//! The results of the getters of a county, and sets of polygons.
+//! The results of the getters of a county.
 
 use super::comparing::{same, same_items};
 use super::{Host, county_of, lines_of};
 use test_support::worked_sets::record_of_each_type;
-use tl_county::{County, KeySet, PolygonKey};
+use tl_county::{County, PolygonKey};
 use tl_layout::Point;
 
 /// The county has the numbers of its lines.
@@ -86,26 +86,22 @@ fn getters_report_what_the_lines_say(rt: HostRuntime) {
     drop(county);
 }
 
-const B9: PolygonKey = (*b"B4701", 9);
-
-const A10: PolygonKey = (*b"A4701", 10);
-
-const A2: PolygonKey = (*b"A4701", 2);
-
-fn set_of(rt: &impl Host, polygons: &[PolygonKey]) -> KeySet<PolygonKey> {
-    let mut set = KeySet::new(rt.alloc());
-    for key in polygons {
-        set.insert(*key).expect(rt, "there is memory");
-    }
-    set
+/// Returns two chains on three polygons.
+fn on_three_polygons() -> &'static [&'static str] {
+    &[
+        "1{13}5{183}+2{7}+1{8}+3{7}+1",
+        "1{13}3{183}+1{7}+1{8}+2{7}+1",
+        "I{4}01001{9}5{8}71{8}72B4701{9}9A4701{8}10",
+        "I{4}01001{9}3{8}70{8}71A4701{9}2B4701{9}9",
+    ]
 }
 
-/// Each polygon is in the set once, however often it is inserted. The order is by the CENID's bytes, and then by the POLYID as a
+/// Each polygon is in the county once, however many sides it is on. The order is by the CENID's bytes, and then by the POLYID as a
 /// number.
 #[test]
-fn polygons_of_a_set_stand_once_and_in_order(rt: HostRuntime) {
-    let set = set_of(&rt, &[B9, A10, B9, A2, A10]);
-    same_items(&rt, "as they came", set.as_slice(), &[B9, A10, A2]);
-    let in_order = set.in_order(rt.alloc()).expect(&rt, "there is memory");
-    same_items(&rt, "in order", &in_order, &[A2, A10, B9]);
+fn polygons_of_a_county_stand_once_and_in_order(rt: HostRuntime) {
+    let set = lines_of(&rt, on_three_polygons());
+    let county = county_of(&rt, "two chains", &set);
+    let polygons = [(*b"A4701", 2), (*b"A4701", 10), (*b"B4701", 9)];
+    same_items(&rt, "polygons", county.polygons(), &polygons);
 }

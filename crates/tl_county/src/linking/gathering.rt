@@ -11,8 +11,9 @@ ghost use Rattle.ordered_lists.specs.Keyed.{IsLeastPassing, is_unknown};
 ghost use Rattle.ordered_lists.specs.Orders.{IsInOrder, distinct};
 
 use crate::keys::absent::least_absent;
+use crate::keys::polygon_set::{cenids_of, distinct_polygons};
 use crate::keys::repeated::keys_of;
-use county_chart::{Keyed, PolygonKey, cenids_of, distinct_polygons};
+use county_chart::{Keyed, PolygonKey};
 use ordered_lists::sort_keys;
 use std::alloc::{AllocError, Global};
 use tl_layout::{Rec4, Rec8, RecI, RecP};

@@ -1,4 +1,5 @@
-use Rattle.tl_county.proofs.Common.{FieldsI, IfOk-weaker, IsLeastPassing, List, PolygonKey, ap, contains, distinct, distinct-more, distinct_same, flat_map, from_permutation, is_unknown, key_cmp, key_keys, least-same, map, not, ordered_of, p_key, pieces_alike, side_keys, ◌&&◌, ◌++◌, ◌∙◌, ◌≡◌}
+use Rattle.tl_county.proofs.Common.{FieldsI, IfOk-weaker, IsLeastPassing, List, PolygonKey, ap, contains, distinct, distinct_same, flat_map, from_permutation, is_unknown, key_cmp, key_keys, least-same, map, not, ordered_of, p_key, pieces_alike, side_keys, ◌&&◌, ◌++◌, ◌∙◌, ◌≡◌}
+use Rattle.tl_county.proofs.ByKey.DistinctKeys.{distinct-more}
 use Rattle.tl_county.proofs.linking.polygons_of.Goals as goal
 
 pub returns-clause-keys : goal.returns-clause-keys

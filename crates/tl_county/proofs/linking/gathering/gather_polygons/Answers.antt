@@ -1,4 +1,6 @@
-use Rattle.tl_county.proofs.Common.{IsInOrder, IsLeastPassing, List, PolygonKey, ap, contains-distinct, distinct, distinct-in_order, distinct-more, distinct_same, flat_map, is_unknown, key_cmp, key_keys, keys_themselves, least-same, map, p_key, side_keys, subst, sym, ◌++◌, ◌∙◌, ◌≡◌}
+use Rattle.tl_county.proofs.Common.{IsInOrder, IsLeastPassing, List, PolygonKey, ap, contains-distinct, distinct, distinct-in_order, distinct_same, flat_map, is_unknown, key_cmp, key_keys, least-same, map, p_key, side_keys, subst, sym, ◌++◌, ◌∙◌, ◌≡◌}
+use Rattle.tl_county.proofs.ByKey.DistinctKeys.{distinct-more}
+use Rattle.tl_county.proofs.ByKey.PolygonSets.{keys_themselves}
 use Rattle.tl_county.proofs.Rules.WithoutChain.{distinct-all_known, none_passes, unknown-distinct}
 use Rattle.tl_county.proofs.linking.gathering.gather_polygons.Goals as goal
 use Rattle.tl_county.proofs.linking.gathering.gather_polygons.Goals.{else-is_some, then-is_some+in_ok-push_points+in_ok-cenids-2+in_ok-keys-2}
