@@ -46,8 +46,8 @@ impl<C: Chart> Admitted<C> {
         Admitted { chart, shape_order }
     }
 
-    /// Returns the county's chart.
-    pub fn chart(&self) -> &C
+    /// Returns the county.
+    pub fn county(&self) -> &C
         ensures value { result.now ≡ self.now }
         ensures in_profile { IsInProfile (C.county self.now) }
     {
@@ -61,16 +61,7 @@ impl<C: Chart> Admitted<C> {
         &self.shape_order
     }
 
-    /// Returns the county's chart.
-    pub fn into_chart(self) -> C
-        ensures value { result ≡ self }
-        ensures same { C.county result ≡ C.county self }
-        ensures in_profile { IsInProfile (C.county result) }
-    {
-        self.chart
-    }
-
-    /// Returns the county's chart and the order of its chains by their shapes.
+    /// Returns the county and the order of its chains by their shapes.
     pub fn into_parts(self) -> (C, ShapeOrder)
         ensures value { result.0 ≡ self }
         ensures same { C.county result.0 ≡ C.county self }
@@ -81,28 +72,8 @@ impl<C: Chart> Admitted<C> {
     }
 }
 
-impl Admitted<County> {
-    /// Returns the county.
-    pub fn county(&self) -> &County
-        ensures value { result.now ≡ self.now }
-        ensures in_profile { IsInProfile (⟦<County as Chart>⟧.county self.now) }
-    {
-        &self.chart
-    }
-}
-
 /// A county in an arena, in the profile.
 pub type AdmittedIn<'a> = Admitted<CountyIn<'a>>;
-
-impl<'a> Admitted<CountyIn<'a>> {
-    /// Returns the county.
-    pub fn county(&self) -> &CountyIn<'a>
-        ensures value { result.now ≡ self.now }
-        ensures in_profile { IsInProfile (⟦<CountyIn<'a> as Chart>⟧.county self.now) }
-    {
-        &self.chart
-    }
-}
 
 /// Checks the clause on choices, for a county that keeps the clause on polygons: at most as many choices are open as are tried.
 /// Returns the order of the chains by their shapes, which it needs to count the choices.

@@ -21,12 +21,12 @@ fn becomes(rt: &impl Host, set: &Set<'_>) {
     same(rt, set.row, &(accepted, carried), &(Ok(()), Some(true)));
 }
 
-/// The number of chains of an admitted county, by its chart, by its list of TLIDs, by its order of shapes and by its arrangement.
+/// The number of chains of an admitted county, by its count, by its list of TLIDs, by its order of shapes and by its arrangement.
 fn has_chains(rt: &impl Host, row: &str, admitted: &Admitted, chains: usize) {
     let shapes = order_by_shape(rt.alloc(), admitted.county()).expect(rt, row);
     let arrangement = ascending_arrangement(rt.alloc(), admitted.county()).expect(rt, row);
     let counts = [
-        admitted.chart().chain_count(),
+        admitted.county().chain_count(),
         admitted.county().tlids().len(),
         shapes.by_shape().len(),
         arrangement.len(),

@@ -5,7 +5,6 @@ use super::ended;
 use bumpalo::Bump;
 use test_support::growths::{Call, Run, refuse};
 use test_support::sets::{Set, county_in_of, records_of};
-use tl_profile::Admitted;
 
 pub(super) struct Link;
 
@@ -35,7 +34,7 @@ impl<R: Host> Call<R> for Admit {
         let county = county_of(rt, set.row, set.bytes);
         refuse(rt.alloc(), asked);
         let outcome = tl_profile::admit(rt.alloc(), county);
-        ended(rt, outcome.map(Admitted::into_chart))
+        ended(rt, outcome.map(|admitted| admitted.into_parts().0))
     }
 }
 
@@ -47,6 +46,6 @@ impl<R: Host> Call<R> for AdmitIn {
         let county = county_in_of(rt.alloc(), &arena, set.bytes).expect(rt, set.row);
         refuse(rt.alloc(), asked);
         let outcome = tl_profile::admit_in(rt.alloc(), county);
-        ended(rt, outcome.map(Admitted::into_chart))
+        ended(rt, outcome.map(|admitted| admitted.into_parts().0))
     }
 }

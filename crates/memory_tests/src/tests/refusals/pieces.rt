@@ -92,7 +92,7 @@ pub(super) struct ArrangeChains;
 impl<R: Host> Call<R> for ArrangeChains {
     fn run(&self, rt: &R, set: &Set<'_>, asked: usize) -> Run {
         let admitted = admitted_of(rt.alloc(), set.bytes).expect(rt, set.row);
-        let chart = admitted.into_chart();
+        let (chart, _) = admitted.into_parts();
         let arrangement = ascending_arrangement(rt.alloc(), &chart).expect(rt, set.row);
         refuse(rt.alloc(), asked);
         let outcome = arrange_ascending(rt.alloc(), chart, arrangement);
