@@ -6,7 +6,7 @@ ghost use Rattle.std.specs.Ordering.{on};
 ghost use Rattle.std.specs.Prelude.{IfOk, IsPermutation, OnOk, map};
 
 use crate::keys::repeated::put_in_order_with_repeated;
-use county_chart::{Keyed, PolygonKey, polygon_number};
+use county_chart::{Keyed, PolygonKey, are_in_order, polygon_number};
 use ordered_lists::{Key, bring_close};
 use std::alloc::AllocError;
 
@@ -34,7 +34,7 @@ fn bring_close_by_key<K: Key + KeyAsNumber, T: Keyed<K> + Copy>(
 ) -> Result<(), AllocError>
     ensures { IsPermutation items.old.items items.new.items }
 {
-    if items.is_sorted_by(|item, next| item.key().cmp(&next.key()).is_le()) {
+    if are_in_order::<K, T>(items) {
         return Ok(());
     }
     let numbers = items
