@@ -1,6 +1,6 @@
 -- The names from below that the proofs of this crate cite, passed on from one place. Declares nothing.
 pub use Rattle.arranged_county.specs.ContentItems.{AgreeOn, AreClasses, class_after, classed_place, classes_along, landmark_bodies_cmp, name_content_cmp}
-pub use Rattle.arranged_county.specs.LandmarkItems.{AreSortedLandmarks, classed_landmark_cmp, landmark_place_cmp, lands_at, link_under, numbered_links, own_links, place_cmp_under}
+pub use Rattle.arranged_county.specs.LandmarkItems.{AreSortedLandmarks, classed_landmark_cmp, landmark_place_cmp, lands_at, link_in, link_under, links_from, numbered_links, own_links, with_land}
 pub use Rattle.arranged_county.specs.NameItems.{AreSortedNames, RankedName, feats_along_arrangement, from_one, key_place, name_key_at, name_keys_cmp, rank_of, ranked_at, ranked_cmp, ranked_place}
 pub use Rattle.arranged_county.specs.PlacedKeys.{AreApart, ArePlaced, found_by_either}
 pub use Rattle.arranged_county.specs.TableItems.{AreOrderedKeys, new_key_of, new_polygon, old_place_of}

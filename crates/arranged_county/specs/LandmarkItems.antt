@@ -1,5 +1,5 @@
 -- The links of landmarks with new numbers, and the order of landmarks.
-use Rattle.std.specs.Prelude.{IsPermutation, List, filter_map, length, map, slice_get, ℕ, ◌≡◌}
+use Rattle.std.specs.Prelude.{IsPermutation, List, [], filter_map, map, slice_get, ℕ, ◌++◌, ◌+◌, ◌∷◌, ◌≡◌}
 use Rattle.std.specs.Cmp.Lexicographic.{slice_cmp}
 use Rattle.std.specs.Ordering.{nat_cmp, ordering_then}
 use Rattle.std.specs.declared.cmp.Ordering.{Ordering}
@@ -15,14 +15,22 @@ use Rattle.canonical_form.specs.Arrangement.{under_cenid}
 use Rattle.canonical_form.specs.Growth.{numbered, up_to}
 use Rattle.arranged_county.specs.ContentItems.{classed_place, landmark_bodies_cmp}
 
--- a link with its polygon and its landmark numbered by their positions in these lists, from 1
-abbrev pub link_under : List PolygonKey → List ℕ → Fields8 → Fields8
-link_under polygons lands link = record {
+-- a link with its polygon numbered by its position in this list, from 1, and with this LAND
+abbrev pub link_in : List PolygonKey → ℕ → Fields8 → Fields8
+link_in polygons land link = record {
   file = link.file;
   cenid = (image key_cmp (map under_cenid (numbered polygons)) (link_key link)).0;
   polyid = (image key_cmp (map under_cenid (numbered polygons)) (link_key link)).1;
-  land = image nat_cmp (numbered lands) link.land;
+  land = land;
 }
+
+-- and with its landmark numbered by its position in another list
+abbrev pub link_under : List PolygonKey → List ℕ → Fields8 → Fields8
+link_under polygons lands link = link_in polygons (image nat_cmp (numbered lands) link.land) link
+
+-- a link with another LAND
+abbrev pub with_land : ℕ → Fields8 → Fields8
+with_land land link = record { file = link.file; cenid = link.cenid; polyid = link.polyid; land = land }
 
 -- the LANDs of the landmarks at these places
 abbrev pub lands_at : County → List ℕ → List ℕ
@@ -36,16 +44,17 @@ numbered_links county polygons numbers = in_order link_cmp (map (link_under poly
 abbrev pub own_links : List Fields8 → ℕ → ℕ → List Fields8
 own_links links count place = links_with links (slice_get (up_to count) place)
 
+-- the links of the landmarks at these places, with LANDs counted from a number
+abbrev pub links_from : List Fields8 → ℕ → ℕ → List ℕ → List Fields8
+links_from links count land [] = []
+links_from links count land (place ∷ places) = map (with_land land) (own_links links count place) ++ links_from links count (land + 1) places
+
 -- in the order of the bodies, the links, the places
 abbrev pub landmark_place_cmp : County → List Fields8 → ℕ → ℕ → ℕ → Ordering
 landmark_place_cmp county links count a b =
     ordering_then (landmark_bodies_cmp county a b)
     (ordering_then (slice_cmp link_part_cmp (map link_part (own_links links count a)) (map link_part (own_links links count b)))
     (nat_cmp a b))
-
--- the same with these polygons, and with the landmarks in the county's order
-abbrev pub place_cmp_under : County → List PolygonKey → ℕ → ℕ → Ordering
-place_cmp_under county polygons = landmark_place_cmp county (numbered_links county polygons (lands county)) (length county.landmarks)
 
 -- in the order of the classes, the links, the places
 abbrev pub classed_landmark_cmp : List Fields8 → ℕ → ℕ × ℕ → ℕ × ℕ → Ordering

@@ -3,38 +3,39 @@
 ghost use Rattle.std.specs.Prelude.{IfOk, IsPermutation, OnOk, flat_map, length, map, slice_get, ◌++◌, ◌+◌, ◌-◌, ◌<◌, ◌^◌, ◌≡◌};
 ghost use Rattle.std.specs.List.{range_with_len};
 ghost use Rattle.std.specs.Ordering.{nat_cmp, on};
+ghost use Rattle.tl_layout.specs.Numbers.{IsNumber};
 ghost use Rattle.county_chart.specs.BodyOrder.{link_cmp};
 ghost use Rattle.county_chart.specs.ChartWords.{links_at, links_with};
+ghost use Rattle.county_chart.specs.CountyRules.{lands};
 ghost use Rattle.county_chart.specs.County.{eight_land};
-ghost use Rattle.ordered_lists.specs.Orders.{IsInOrder, in_order};
+ghost use Rattle.ordered_lists.specs.Orders.{IsInOrder};
 ghost use Rattle.canonical_form.specs.Growth.{up_to};
 ghost use Rattle.canonical_form.specs.WholeArrangements.{link_bounds};
-ghost use Rattle.arranged_county.specs.LandmarkItems.{link_under};
+ghost use Rattle.arranged_county.specs.LandmarkItems.{link_in, numbered_links, with_land};
 
 use crate::numbers::Interner;
-use crate::renumbering::{new_key, new_land};
+use crate::renumbering::new_key;
 use county_chart::{Chart, LinkKey, PolygonKey, are_in_order, sort_by_keys, split_group};
 use ordered_lists::bring_close;
 use std::alloc::{AllocError, Global};
 use tl_layout::Rec8;
 
-/// The new numbers of polygons, and the landmarks of a county in the order of their new numbers.
+/// The new numbers of polygons, and the new LAND of a landmark.
 #[derive(Drop)]
-struct NewOrder<'a> {
+struct NewNumbers<'a> {
     polygons: &'a Interner<PolygonKey>,
-    lands: &'a Interner<u64>,
+    land: u64,
     ghost few_polygons: { length polygons.now < 10 ^ 10 },
-    ghost few_lands: { length lands.now < 10 ^ 10 },
+    ghost in_range: { IsNumber 10 land },
 }
 
-/// Returns a link with the new numbers of its polygon and its landmark.
-fn renumbered_link(order: &NewOrder<'_>, link: &Rec8) -> Rec8
-    ensures { result ≡ link_under order.now.polygons.now order.now.lands.now link.now }
+/// Returns a link with the new number of its polygon, and with the new LAND.
+fn renumbered_link(numbers: &NewNumbers<'_>, link: &Rec8) -> Rec8
+    ensures { result ≡ link_in numbers.now.polygons.now numbers.now.land link.now }
 {
     let cenid = link.cenid();
-    let key = new_key(order.polygons, (cenid, link.polyid()));
-    let land = new_land(order.lands, link.land());
-    Rec8::new(link.file(), cenid, key.1, land)
+    let key = new_key(numbers.polygons, (cenid, link.polyid()));
+    Rec8::new(link.file(), cenid, key.1, numbers.land)
 }
 
 /// Returns a number that is in the order of links by LAND and POLYID, unless it overflows. POLYIDs are up to `polygons`.
@@ -47,31 +48,33 @@ fn near_number(link: &Rec8, polygons: u64) -> u64 {
 fn push_links<C: Chart>(
     links: &mut Vec<Rec8>,
     chart: &C,
-    order: &NewOrder<'_>,
+    numbers: &NewNumbers<'_>,
     place: usize,
 ) -> Result<(), AllocError>
     ensures { OnOk result (links.new.items
-        ≡ links.old.items ++ map (link_under order.now.polygons.now order.now.lands.now) (links_at (C.county chart.now) place)) }
+        ≡ links.old.items ++ map (link_in numbers.now.polygons.now numbers.now.land) (links_at (C.county chart.now) place)) }
 {
     let own = (0..chart.link_count_at(place)).filter_map(|link| chart.landmark_link_at(
         place, link,
     ));
-    links.extend(own.map(|link| renumbered_link(order, &link)))
+    links.extend(own.map(|link| renumbered_link(numbers, &link)))
 }
 
-/// Returns the links of the landmarks at places with their new numbers, landmark after landmark.
+/// Returns the links of a county, landmark after landmark, with these numbers of their polygons, and with LANDs counted from 1.
 fn gather_links<C: Chart>(
     alloc: Global,
     chart: &C,
-    order: &NewOrder<'_>,
-    places: &[u32],
+    polygons: &Interner<PolygonKey>,
 ) -> Result<Vec<Rec8>, AllocError>
-    ensures { IfOk result (λ links. links.items ≡ flat_map (λ place. map (link_under order.now.polygons.now order.now.lands.now)
-        (links_at (C.county chart.now) place)) places.now) }
+    requires few_polygons { length polygons.now < 10 ^ 10 }
+    requires few { length (C.county chart.now).landmarks < 2 ^ 32 }
+    ensures { IfOk result (λ links. links.items ≡ flat_map (λ place. map (link_in polygons.now (place + 1)) (links_at (C.county chart.now) place))
+        (range_with_len 0 (length (C.county chart.now).landmarks))) }
 {
     let mut links = Vec::new(alloc);
-    for place in places {
-        push_links(&mut links, chart, order, *place as usize)?;
+    for place in 0..chart.landmark_count() {
+        let land = place as u64 + 1;
+        push_links(&mut links, chart, &NewNumbers { polygons, land }, place)?;
     }
     Ok(links)
 }
@@ -103,21 +106,17 @@ fn order_links(alloc: Global, links: &mut Vec<Rec8>, polygons: u64) -> Result<()
     sort_by_keys::<LinkKey, Rec8>(links)
 }
 
-/// Returns the links of a county in order, with these numbers of their polygons, and with their landmarks numbered by their places in a
-/// table. They are gathered along `places`, all places of landmarks in any order. If it's the order of the table, there is little to sort.
-pub(crate) fn links_under<C: Chart>(
+/// Returns the links of a county in order, with these numbers of their polygons, and with LANDs counted from 1.
+pub(crate) fn links_by_place<C: Chart>(
     alloc: Global,
     chart: &C,
     polygons: &Interner<PolygonKey>,
-    lands: &Interner<u64>,
-    places: &[u32],
 ) -> Result<Vec<Rec8>, AllocError>
     requires few_polygons { length polygons.now < 10 ^ 10 }
-    requires few_lands { length lands.now < 10 ^ 10 }
-    requires all { IsPermutation (range_with_len 0 (length (C.county chart.now).landmarks)) places.now }
-    ensures { IfOk result (λ links. links.items ≡ in_order link_cmp (map (link_under polygons.now lands.now) (C.county chart.now).links)) }
+    requires few { length (C.county chart.now).landmarks < 2 ^ 32 }
+    ensures { IfOk result (λ links. links.items ≡ numbered_links (C.county chart.now) polygons.now (lands (C.county chart.now))) }
 {
-    let mut links = gather_links(alloc, chart, &NewOrder { polygons, lands }, places)?;
+    let mut links = gather_links(alloc, chart, polygons)?;
     order_links(alloc, &mut links, polygons.len() as u64)?;
     Ok(links)
 }
@@ -157,4 +156,19 @@ pub(crate) fn links_of_landmark<'a>(links: &'a [Rec8], bounds: &[usize], place: 
     let (_, rest) = links.split_at(start);
     let (own, _) = rest.split_at(end - start);
     own
+}
+
+/// Appends links with another LAND.
+pub(crate) fn push_with_land(
+    links: &mut Vec<Rec8>,
+    own: &[Rec8],
+    land: u64,
+) -> Result<(), AllocError>
+    requires { IsNumber 10 land }
+    ensures { OnOk result (links.new.items ≡ links.old.items ++ map (with_land land) own.now) }
+{
+    for link in own {
+        links.push(Rec8::new(link.file(), link.cenid(), link.polyid(), land))?;
+    }
+    Ok(())
 }

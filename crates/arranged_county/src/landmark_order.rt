@@ -1,25 +1,23 @@
 //! The landmarks of a county in their new order: by their bodies, and then by their links with the new numbers.
 
-ghost use Rattle.std.specs.Prelude.{IfOk, IsPermutation, false, length, map, ◌-◌, ◌<◌, ◌^◌, ◌≡◌};
+ghost use Rattle.std.specs.Prelude.{IfOk, length, map, ◌-◌, ◌<◌, ◌^◌, ◌≡◌};
 ghost use Rattle.std.specs.Cmp.Lexicographic.{slice_cmp};
-ghost use Rattle.std.specs.List.{range_with_len};
 ghost use Rattle.std.specs.Ordering.{nat_cmp, on};
 ghost use Rattle.county_chart.specs.BodyOrder.{link_part, link_part_cmp};
 ghost use Rattle.county_chart.specs.County.{eight_land};
 ghost use Rattle.county_chart.specs.CountyProps.{IsInOrder-prop};
-ghost use Rattle.ordered_lists.specs.Orders.{IsInOrder, has_repeat};
+ghost use Rattle.ordered_lists.specs.Orders.{IsInOrder};
 ghost use Rattle.canonical_form.specs.WholeArrangements.{AreWhole, link_bounds};
 ghost use Rattle.canonical_form.specs.Arrangement.{polygons_in_order};
 ghost use Rattle.canonical_form.specs.DirectedChains.{arrangement_of};
-ghost use Rattle.arranged_county.specs.LandmarkItems.{AreSortedLandmarks, classed_landmark_cmp, lands_at, numbered_links, place_cmp_under};
+ghost use Rattle.arranged_county.specs.LandmarkItems.{AreSortedLandmarks, classed_landmark_cmp, lands_at, links_from};
 ghost use Rattle.arranged_county.specs.ContentItems.{classed_place};
 ghost use Rattle.arranged_county.specs.ViewFacts.{MatchesLandmarks};
 ghost use Rattle.arranged_county.specs.Views.{classed_county};
 
 use crate::arranged_tables::LandmarkTables;
-use crate::content_classes::{ClassedPlace, Classes, all_places};
-use crate::landmark_contents::LandmarkContents;
-use crate::landmark_links::{bounds_of, links_of_landmark, links_under};
+use crate::content_classes::{ClassedPlace, Classes};
+use crate::landmark_links::{bounds_of, links_by_place, links_of_landmark, push_with_land};
 use crate::numbers::Interner;
 use county_chart::{Chart, DirectedChain, PolygonKey};
 use std::alloc::{AllocError, Global};
@@ -107,55 +105,23 @@ fn sorted_places(
     places_of(alloc, &sorted)
 }
 
-/// Returns the links of a county with its landmarks in the order of these places, and how many have a LAND up to each of 0, 1, 2, ..
-/// The table of the landmarks gets this many slots.
-fn links_by_land<C: Chart>(
+/// Returns links with their landmarks in the order of these places, and with LANDs counted from 1.
+fn links_along(
     alloc: Global,
-    chart: &C,
-    polygons: &Interner<PolygonKey>,
+    lists: &LinkLists<'_>,
     places: &[u32],
-    slots: usize,
-) -> Result<(Vec<Rec8>, Vec<usize>), AllocError>
-    requires few_polygons { length polygons.now < 10 ^ 10 }
-    requires few_places { length places.now < 2 ^ 32 }
-    requires once { has_repeat nat_cmp (lands_at (C.county chart.now) places.now) ≡ false }
-    requires all { IsPermutation (range_with_len 0 (length (C.county chart.now).landmarks)) places.now }
-    ensures links { IfOk result
-        (λ lists. lists.0.items ≡ numbered_links (C.county chart.now) polygons.now (lands_at (C.county chart.now) places.now)) }
-    ensures bounds { IfOk result (λ lists. lists.1.items ≡ link_bounds lists.0.items (length places.now)) }
+) -> Result<Vec<Rec8>, AllocError>
+    requires { length places.now < 2 ^ 32 }
+    ensures { IfOk result (λ links. links.items ≡ links_from lists.now.links.now (length lists.now.bounds.now - 1) 1 places.now) }
 {
-    let numbers = lands_there(alloc, chart, places)?;
-    let lands = Interner::of_distinct(alloc, &numbers, slots)?;
-    let links = links_under(alloc, chart, polygons, &lands, places);
-    // Trick: one call for the prover, which otherwise reads the drop of each part.
-    drop(lands);
-    let links = links?;
-    let bounds = bounds_of(alloc, &links, places.len())?;
-    Ok((links, bounds))
-}
-
-/// Returns the places of the landmarks of a county in their new order, with these numbers of its polygons.
-fn places_in_order<C: Chart>(
-    alloc: Global,
-    classes: &Classes<'_, C>,
-    polygons: &Interner<PolygonKey>,
-) -> Result<Vec<u32>, AllocError>
-    requires few_polygons { length polygons.now < 10 ^ 10 }
-    requires few { length (classed_county classes.now).landmarks < 2 ^ 32 }
-    ensures permutation { IfOk result (λ places. IsPermutation (range_with_len 0 (length (classed_county classes.now).landmarks)) places.items) }
-    ensures in_order { IfOk result (λ places. IsInOrder (place_cmp_under (classed_county classes.now) polygons.now) places.items) }
-{
-    let bodies = LandmarkContents {
-        chart: classes.chart,
-    };
-    let unordered = all_places(alloc, &bodies)?;
-    let slots = classes.slots.landmarks;
-    let (links, bounds) = links_by_land(alloc, classes.chart, polygons, &unordered, slots)?;
-    let lists = LinkLists {
-        links: links.as_slice(),
-        bounds: bounds.as_slice(),
-    };
-    sorted_places(alloc, &classes.landmarks, &lists)
+    let mut links = Vec::with_capacity(alloc, lists.links.len())?;
+    let mut land = 1;
+    for place in places {
+        let own = links_of_landmark(lists.links, lists.bounds, *place as usize);
+        push_with_land(&mut links, own, land)?;
+        land += 1;
+    }
+    Ok(links)
 }
 
 /// Returns the landmarks of a county in this arrangement, which numbers its polygons in this way.
@@ -171,9 +137,17 @@ pub(crate) fn arrange_landmarks<C: Chart>(
     requires few { length (classed_county classes.now).landmarks < 2 ^ 32 }
     ensures { IfOk result (MatchesLandmarks (classed_county classes.now) arrangement.now) }
 {
-    let places = places_in_order(alloc, classes, polygons)?;
-    let slots = classes.slots.landmarks;
-    let (links, bounds) = links_by_land(alloc, classes.chart, polygons, &places, slots)?;
+    let chart = classes.chart;
+    let count = chart.landmark_count();
+    let by_place = links_by_place(alloc, chart, polygons)?;
+    let counts = bounds_of(alloc, &by_place, count)?;
+    let lists = LinkLists {
+        links: by_place.as_slice(),
+        bounds: counts.as_slice(),
+    };
+    let places = sorted_places(alloc, &classes.landmarks, &lists)?;
+    let links = links_along(alloc, &lists, &places)?;
+    let bounds = bounds_of(alloc, &links, count)?;
     Ok(LandmarkTables {
         places,
         links,

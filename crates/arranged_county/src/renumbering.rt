@@ -11,16 +11,6 @@ ghost use Rattle.canonical_form.specs.Growth.{numbered};
 use crate::numbers::Interner;
 use county_chart::PolygonKey;
 
-pub(crate) fn new_land(lands: &Interner<u64>, land: u64) -> u64
-    ensures image { result ≡ image nat_cmp (numbered lands.now) land }
-    ensures in_range { IsNumber 10 land → length lands.now < 10 ^ 10 → IsNumber 10 result }
-{
-    match lands.place(land) {
-        Some(place) => place as u64 + 1,
-        None => land,
-    }
-}
-
 /// Returns the new FEAT of a name.
 pub(crate) fn new_feat(feats: &Interner<u32>, feat: u32) -> u32
     requires { length feats.now < 2 ^ 32 }

@@ -7,20 +7,19 @@ ghost use Rattle.std.specs.Prelude.{IfOk, length, ◌*◌, ◌+◌, ◌≤◌};
 ghost use Rattle.county_chart.specs.CountyRules.{nodes};
 
 use crate::numbers::{NumericKey, marks_for, slot_of};
-use county_chart::{Chart, Feats, Lands, Listed, Nodes, Polygons};
+use county_chart::{Chart, Feats, Listed, Nodes, Polygons};
 use ordered_lists::sort_distinct;
 use std::alloc::{AllocError, Global};
 
 /// How many numbers of slots are tried.
 const MOST_TRIES: usize = 16;
 
-/// How many slots there are for nodes, polygons, names and landmarks.
+/// How many slots there are for nodes, polygons and names.
 #[derive(Clone, Copy, Drop)]
 pub(crate) struct Slots {
     pub(crate) nodes: usize,
     pub(crate) polygons: usize,
     pub(crate) names: usize,
-    pub(crate) landmarks: usize,
 }
 
 /// Returns how many of this many slots keys take.
@@ -74,14 +73,12 @@ impl Slots {
         ensures nodes { result.nodes ≤ 8 * length (C.county chart.now).chains }
         ensures polygons { result.polygons ≤ 8 * length (C.county chart.now).chains }
         ensures names { result.names ≤ 8 * length (C.county chart.now).names }
-        ensures landmarks { result.landmarks ≤ 8 * length (C.county chart.now).landmarks }
     {
         let for_sides = marks_for(chart.chain_count());
         Slots {
             nodes: for_sides,
             polygons: for_sides,
             names: marks_for(chart.name_count()),
-            landmarks: marks_for(chart.landmark_count()),
         }
     }
 
@@ -90,13 +87,11 @@ impl Slots {
         ensures nodes { IfOk result (λ slots. slots.nodes ≤ 16 * length (nodes (C.county chart.now)) + 16) }
         ensures polygons { IfOk result (λ slots. slots.polygons ≤ 16 * length (C.county chart.now).polygons + 16) }
         ensures names { IfOk result (λ slots. slots.names ≤ 16 * length (C.county chart.now).names + 16) }
-        ensures landmarks { IfOk result (λ slots. slots.landmarks ≤ 16 * length (C.county chart.now).landmarks + 16) }
     {
         Ok(Slots {
             nodes: slots_apart(alloc, &Nodes(chart))?,
             polygons: slots_apart(alloc, &Polygons(chart))?,
             names: slots_apart(alloc, &Feats(chart))?,
-            landmarks: slots_apart(alloc, &Lands(chart))?,
         })
     }
 }

@@ -1,4 +1,4 @@
-use Rattle.arranged_county.proofs.Common.{OnOk, YieldsList-at, YieldsList-from_filter_map, YieldsList-from_map, YieldsList-from_range, arith, length, link_under, links_at, map, range_with_len, rules, slice_get, subst, tests, ◌++◌, ◌≡◌}
+use Rattle.arranged_county.proofs.Common.{OnOk, YieldsList-at, YieldsList-from_filter_map, YieldsList-from_map, YieldsList-from_range, arith, length, link_in, links_at, map, range_with_len, rules, slice_get, subst, tests, ◌++◌, ◌≡◌}
 use Rattle.arranged_county.proofs.Landmarks.LandmarkLinks.{listed}
 use Rattle.arranged_county.proofs.Names.NameOrder.{filter_map_all}
 use Rattle.std.proofs.lemmas.Iterator.Adapters.{items_from_extend}
@@ -7,7 +7,7 @@ use Rattle.arranged_county.proofs.landmark_links.push_links.Goals as goal
 pub returns : goal.returns
 returns g c =
     let own = links_at (g.C.Chart.county c.args.chart.now) c.args.place in
-    let renumbered = link_under c.args.order.now.polygons.now c.args.order.now.lands.now in
+    let renumbered = link_in c.args.numbers.now.polygons.now c.args.numbers.now.land in
     let pushed = items_from_extend c.extend.result c.extend.ensures.ran
     (YieldsList-from_map _ renumbered
     (YieldsList-at c.map.ensures.source
