@@ -45,7 +45,8 @@ fn slots_of_try(count: usize, attempt: usize) -> usize
     usual.saturating_add(attempt.min(MOST_TRIES - 1) * more)
 }
 
-/// Returns a number of slots with which at most an eighth of these keys share one. If none is found, returns the best that was tried.
+/// Returns a number of slots of which these keys take at least seven for every eight keys. If no try has one, returns the best that was
+/// tried.
 fn slots_apart<L: Listed>(alloc: Global, keys: &L) -> Result<usize, AllocError>
 where
     L::Item: NumericKey + Drop,
