@@ -22,3 +22,7 @@ pub mod SmallCounty
 pub mod SmallKeys
 pub mod SmallLandmarks
 pub mod SmallOrder
+pub mod Narrowed
+pub mod NarrowedChoices
+pub mod NarrowedNames
+pub mod NarrowedOrder

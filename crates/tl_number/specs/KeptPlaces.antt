@@ -14,10 +14,14 @@ use Rattle.tl_number.specs.KeysAlong.{keys_along}
 use Rattle.tl_number.specs.NamesAlong.{chain_feats}
 use Rattle.tl_number.specs.declared.kept_places.Searches.{Searches}
 
--- a search for these keys that is at a place: it has them in any order, and the ones that fixed places before have
+-- these are the same keys, in any order and any number
+abbrev pub AreSameKeys : {K : Type 0} → (K → K → Ordering) → List K → List K → Type 0
+AreSameKeys {K} cmp keys found = (key : K) → contains cmp key found ≡ contains cmp key keys
+
+-- a search for these keys that is at a place: it has them, and the ones that fixed places before have
 pub record IsSearchAt {K : Type 0} (cmp : K → K → Ordering) (places : List OpenPlace) (keys : List K) (along : List (List K)) (place : ℕ)
     (wanted earlier : List K) : Type 0 where
-  pub same : (key : K) → contains cmp key wanted ≡ contains cmp key keys
+  pub same : AreSameKeys cmp keys wanted
   pub before : earlier ≡ earlier_keys cmp places wanted along place
 
 -- the searches for nodes, polygons and names whose numbers can differ between choices

@@ -1,27 +1,32 @@
-//! A part of a county as a chart. Nothing is copied: each call finds the place in the whole county, and reads it there.
+//! A part of a county as a chart. Only the names of chains are copied: each other call finds the place in the whole county, and reads it
+//! there.
 
-ghost use Rattle.std.specs.Prelude.{length, slice_get, ◌<◌, ◌≡◌};
-ghost use Rattle.county_chart.specs.ChartWords.{bodies_at, chain_at, links_at, name_at, polygon_at};
+ghost use Rattle.std.specs.Ordering.{nat_cmp};
+ghost use Rattle.std.specs.Prelude.{length, map, option_map, slice_get, ◌<◌, ◌≡◌};
+ghost use Rattle.county_chart.specs.ChartWords.{bodies_at, chain_at, ends_of, links_at, name_at, points_of, polygon_at, ranges_of, sides_of};
 ghost use Rattle.county_chart.specs.CountyRules.{IsCounty, feats, lands, nodes, polygon_keys, tlids};
 ghost use Rattle.county_chart.specs.Limits.{IsWithinLimits};
 ghost use Rattle.tl_layout.specs.Limits.{most_records};
 ghost use Rattle.county_chart.specs.CountyProps.{IsCounty-prop};
 ghost use Rattle.county_chart.specs.LimitsProps.{IsWithinLimits-prop};
 ghost use Rattle.canonical_form.specs.WholeArrangements.{AreReadAt};
-ghost use Rattle.tl_number.specs.CountyParts.{HoldsPart, part_with};
+ghost use Rattle.ordered_lists.specs.Orders.{contains};
+ghost use Rattle.tl_number.specs.CountyParts.{HoldsPart, narrowed, part_with};
 
 use crate::part_tables::PartTables;
 use county_chart::{Chart, Listed, PolygonKey};
 use ordered_lists::place_of;
 use tl_layout::{Body1, Body5, Body7, BodyI, BodyP, Point, Ranges, Rec8, Side};
 
-/// A part of a county: some of its chains, with their names and polygons, and some of its landmarks.
+/// A part of a county: some of its chains, with some of their names and with their polygons, and some of its landmarks.
 #[derive(Drop)]
 pub(crate) struct CountyPart<'a, C: Chart> {
     chart: &'a C,
     tables: &'a PartTables,
     ghost tlids: { tables.now.chains.keys.items ≡ tlids (part_with (C.county chart.now) tables.now) },
-    ghost chains: { AreReadAt (C.county chart.now).chains tables.now.chains.places.items (part_with (C.county chart.now) tables.now).chains },
+    ghost chains: { AreReadAt (narrowed (λ feat. contains nat_cmp feat tables.now.kept.names) (C.county chart.now)).chains tables.now.chains.places.items
+        (part_with (C.county chart.now) tables.now).chains },
+    ghost named: { map (λ own. own.items) tables.now.feats.items ≡ map (λ entry. entry.1.feats) (part_with (C.county chart.now) tables.now).chains },
     ghost feats: { tables.now.names.keys.items ≡ feats (part_with (C.county chart.now) tables.now) },
     ghost names: { AreReadAt (C.county chart.now).names tables.now.names.places.items (part_with (C.county chart.now) tables.now).names },
     ghost keys: { tables.now.polygons.keys.items ≡ polygon_keys (part_with (C.county chart.now) tables.now) },
@@ -47,8 +52,19 @@ impl<'a, C: Chart> CountyPart<'a, C> {
     /// Returns the place in the whole county of the chain at a place, which must be less than the number of chains.
     fn chain(&self, place: usize) -> usize
         requires { place < length (part_with (C.county self.now.chart.now) self.now.tables.now).chains }
-        ensures chain { chain_at (C.county self.now.chart.now) result ≡ chain_at (part_with (C.county self.now.chart.now) self.now.tables.now) place }
         ensures there { result < length (C.county self.now.chart.now).chains }
+        ensures body { option_map (λ c. c.body) (chain_at (C.county self.now.chart.now) result)
+            ≡ option_map (λ c. c.body) (chain_at (part_with (C.county self.now.chart.now) self.now.tables.now) place) }
+        ensures points { points_of (chain_at (C.county self.now.chart.now) result)
+            ≡ points_of (chain_at (part_with (C.county self.now.chart.now) self.now.tables.now) place) }
+        ensures ranges { ranges_of (chain_at (C.county self.now.chart.now) result)
+            ≡ ranges_of (chain_at (part_with (C.county self.now.chart.now) self.now.tables.now) place) }
+        ensures topology { option_map (λ c. c.topology) (chain_at (C.county self.now.chart.now) result)
+            ≡ option_map (λ c. c.topology) (chain_at (part_with (C.county self.now.chart.now) self.now.tables.now) place) }
+        ensures ends { option_map ends_of (chain_at (C.county self.now.chart.now) result)
+            ≡ option_map ends_of (chain_at (part_with (C.county self.now.chart.now) self.now.tables.now) place) }
+        ensures sides { option_map sides_of (chain_at (C.county self.now.chart.now) result)
+            ≡ option_map sides_of (chain_at (part_with (C.county self.now.chart.now) self.now.tables.now) place) }
     {
         self.tables.chains.places.as_slice().item(place) as usize
     }
@@ -162,11 +178,11 @@ impl<'a, C: Chart> Chart for CountyPart<'a, C> {
     }
 
     fn feat_count_there(&self, place: usize) -> usize {
-        self.chart.feat_count_there(self.chain(place))
+        self.tables.feats[place].len()
     }
 
     fn chain_feat_there(&self, place: usize, name: usize) -> u32 {
-        self.chart.chain_feat_there(self.chain(place), name)
+        self.tables.feats[place][name]
     }
 
     fn range_count_there(&self, place: usize) -> usize {

@@ -2,7 +2,7 @@
 //!
 //! Choices can differ at open places, and in the numbers of nodes, polygons and names that chains at open places have. These keys are
 //! wanted. The chains at open places are kept, and for each wanted key the first chain at a fixed place that has it. The polygons
-//! of kept landmarks are wanted too.
+//! of kept landmarks are wanted too. Of the names of a kept chain only the wanted ones are kept.
 
 ghost use Rattle.std.specs.Prelude.{IfOk, OnOk, flat_map, length, ◌++◌, ◌+◌, ◌<◌, ◌||◌, ◌≡◌};
 ghost use Rattle.canonical_form.specs.DirectedChains.{HasChainsOf};
@@ -13,25 +13,28 @@ ghost use Rattle.ordered_lists.specs.Places.{at_places};
 ghost use Rattle.record_groups.specs.Groups.{grouped};
 ghost use Rattle.tl_number.specs.ChoiceSearch.{LeavesChoices};
 ghost use Rattle.tl_number.specs.KeptLandmarks.{kept_landmarks, kept_lands, link_keys_at};
-ghost use Rattle.tl_number.specs.KeptPlaces.{AreSearched};
+ghost use Rattle.tl_number.specs.KeptPlaces.{AreSameKeys, AreSearched};
 ghost use Rattle.tl_number.specs.KeysAlong.{keys_along, open_among};
-ghost use Rattle.tl_number.specs.SmallCounty.{is_kept, kept_tlids};
+ghost use Rattle.tl_number.specs.SmallCounty.{is_kept, kept_tlids, wanted_feats};
+ghost use Rattle.std.specs.Ordering.{nat_cmp};
 
 use crate::kept_landmarks::{LinkKeys, kept_landmarks};
 use crate::key_groups::{FeatKeys, NodeKeys, PolygonKeys};
 use crate::key_search::{KeySearch, search_place};
 use crate::open_keys::{is_open_at, keys_of};
 use crate::part_tables::keys_at;
-use arranged_county::Interner;
+use arranged_county::{Interner, both};
 use county_chart::{Chart, DirectedChain, Lands, PolygonKey};
 use std::alloc::{AllocError, Global};
 use tl_profile::ShapeOrder;
 
-/// The kept chains and landmarks of a county.
+/// The kept chains and landmarks of a county, and the names that kept chains keep.
 #[derive(Drop)]
 pub(crate) struct Kept {
     /// The TLIDs of the chains, in the order of shapes.
     pub(crate) tlids: Vec<u64>,
+    /// The FEATs of the names that are wanted.
+    pub(crate) names: Interner<u32>,
     /// The LANDs of the landmarks, ascending.
     pub(crate) lands: Vec<u64>,
 }
@@ -155,7 +158,8 @@ fn kept_along<C: Chart>(
 ) -> Result<Vec<u64>, AllocError>
     requires there { HasChainsOf (C.county chart.now) shape_order.now.by_shape }
     requires searches { AreSearched (C.county chart.now) shape_order.now 0 searches.old }
-    ensures { IfOk result (λ tlids. tlids.items ≡ kept_tlids (C.county chart.now) shape_order.now) }
+    ensures tlids { IfOk result (λ tlids. tlids.items ≡ kept_tlids (C.county chart.now) shape_order.now) }
+    ensures names { OnOk result (AreSameKeys nat_cmp (wanted_feats (C.county chart.now) shape_order.now) searches.new.names.wanted) }
 {
     let by_shape = shape_order.by_shape();
     let mut tlids = Vec::new(alloc);
@@ -170,22 +174,31 @@ fn kept_along<C: Chart>(
     Ok(tlids)
 }
 
-/// Returns the TLIDs of the chains that are kept, given the places of the kept landmarks.
+/// Returns the FEATs of the wanted names.
+///
+/// Trick: one call for the prover, which otherwise reads the drop of each search.
+fn names_of(searches: Searches) -> Interner<u32>
+    ensures { result ≡ searches.names.wanted }
+{
+    let names = searches.names;
+    names.wanted
+}
+
+/// Returns the FEATs of the wanted names and the TLIDs of the chains that are kept, given the places of the kept landmarks.
 fn kept_chains<C: Chart>(
     alloc: Global,
     chart: &C,
     shape_order: &ShapeOrder,
     landmarks: &[u32],
-) -> Result<Vec<u64>, AllocError>
+) -> Result<(Interner<u32>, Vec<u64>), AllocError>
     requires known { LeavesChoices (C.county chart.now) shape_order.now }
     requires landmarks { landmarks.now ≡ kept_landmarks (C.county chart.now) shape_order.now }
-    ensures { IfOk result (λ tlids. tlids.items ≡ kept_tlids (C.county chart.now) shape_order.now) }
+    ensures names { IfOk result (λ kept. AreSameKeys nat_cmp (wanted_feats (C.county chart.now) shape_order.now) kept.0) }
+    ensures tlids { IfOk result (λ kept. kept.1.items ≡ kept_tlids (C.county chart.now) shape_order.now) }
 {
     let mut searches = searches_for(alloc, chart, shape_order, landmarks)?;
     let tlids = kept_along(alloc, chart, shape_order, &mut searches);
-    // Trick: one call for the prover, which otherwise reads the drop of each search.
-    drop(searches);
-    tlids
+    both(names_of(searches), tlids)
 }
 
 /// Returns the kept chains and landmarks of a county, given the order of its chains by their shapes.
@@ -200,10 +213,15 @@ pub(crate) fn find_kept<C: Chart>(
 ) -> Result<Kept, AllocError>
     requires { LeavesChoices (C.county chart.now) shape_order.now }
     ensures tlids { IfOk result (λ kept. kept.tlids.items ≡ kept_tlids (C.county chart.now) shape_order.now) }
+    ensures names { IfOk result (λ kept. AreSameKeys nat_cmp (wanted_feats (C.county chart.now) shape_order.now) kept.names) }
     ensures lands { IfOk result (λ kept. kept.lands.items ≡ kept_lands (C.county chart.now) shape_order.now) }
 {
     let landmarks = kept_landmarks(alloc, chart, shape_order)?;
-    let tlids = kept_chains(alloc, chart, shape_order, &landmarks)?;
+    let (names, tlids) = kept_chains(alloc, chart, shape_order, &landmarks)?;
     let lands = keys_at(alloc, &Lands(chart), &landmarks)?;
-    Ok(Kept { tlids, lands })
+    Ok(Kept {
+        tlids,
+        names,
+        lands,
+    })
 }

@@ -1,9 +1,11 @@
 //! Keys of chains, chain by chain: nodes, polygons or further names.
 
 ghost use Rattle.county_chart.specs.PolygonKeys.{key_on};
-ghost use Rattle.std.specs.Prelude.{OnOk, flat_map, option_to_list, ◌++◌, ◌≡◌};
+ghost use Rattle.ordered_lists.specs.Orders.{contains};
+ghost use Rattle.std.specs.Prelude.{OnOk, filter, flat_map, option_to_list, ◌++◌, ◌≡◌};
 
-use arranged_county::{Half, NumericKey};
+use crate::open_keys::has_key;
+use arranged_county::{Half, Interner, NumericKey};
 use county_chart::{Chart, DirectedChain, PolygonKey, push_all};
 use ordered_lists::Key;
 use std::alloc::AllocError;
@@ -119,5 +121,41 @@ impl<C: Chart> KeyGroups for FeatKeys<'_, C> {
         let feats = self.1[place].feats(self.0);
         keys.clear();
         push_all(keys, &feats)
+    }
+}
+
+/// Removes the keys that aren't wanted.
+fn keep_wanted<K: Key + Hash + NumericKey>(wanted: &Interner<K>, keys: &mut Vec<K>)
+    ensures { keys.new.items ≡ filter (λ key. contains K.cmp key wanted.now) keys.old.items }
+{
+    keys.retain(|key| has_key(wanted, *key));
+}
+
+/// Those FEATs of the further names of directed chains that are wanted.
+#[derive(Drop)]
+pub(crate) struct WantedFeatKeys<'a, C: Chart> {
+    pub(crate) names: FeatKeys<'a, C>,
+    pub(crate) wanted: &'a Interner<u32>,
+}
+
+impl<C: Chart> KeyGroups for WantedFeatKeys<'_, C> {
+    ghost use Rattle.ordered_lists.specs.Orders.{contains};
+    ghost use Rattle.std.specs.Ordering.{nat_cmp};
+    ghost use Rattle.tl_number.specs.CountyParts.{narrowed};
+    ghost use Rattle.tl_number.specs.KeysAlong.{keys_along};
+    ghost use Rattle.tl_number.specs.NamesAlong.{chain_feats};
+
+    type Item = u32;
+
+    ghost groups = { λ keys. keys_along chain_feats (narrowed (λ feat. contains nat_cmp feat keys.wanted.now) (C.county keys.names.0.now)) keys.names.1.now };
+
+    fn count(&self) -> usize {
+        self.names.count()
+    }
+
+    fn copy_keys(&self, place: usize, keys: &mut Vec<u32>) -> Result<(), AllocError> {
+        self.names.copy_keys(place, keys)?;
+        keep_wanted(self.wanted, keys);
+        Ok(())
     }
 }

@@ -4,17 +4,15 @@ ghost use Rattle.std.specs.Prelude.{IfOk, false, length, map, option_to_list, �
 ghost use Rattle.std.specs.List.{list_any};
 ghost use Rattle.std.specs.Ordering.{nat_cmp};
 ghost use Rattle.canonical_form.specs.Growth.{first_seen};
-ghost use Rattle.county_chart.specs.CountyRules.{AllKeysContained, chain_nodes, chain_polygons, feats, polygon_keys, polygons_along};
-ghost use Rattle.county_chart.specs.PolygonKeys.{key_cmp};
+ghost use Rattle.county_chart.specs.CountyRules.{AllKeysContained, chain_nodes, feats, polygon_keys, polygons_along};
 ghost use Rattle.ordered_lists.specs.Orders.{contains, distinct};
 ghost use Rattle.ordered_lists.specs.Places.{at_places};
 ghost use Rattle.record_groups.specs.Groups.{grouped};
 ghost use Rattle.tl_number.specs.CountyParts.{ArePartKeys, HoldsPart, places_among};
 ghost use Rattle.tl_number.specs.KeysAlong.{keys_along};
-ghost use Rattle.tl_number.specs.NamesAlong.{chain_feats};
 
 use crate::kept_places::Kept;
-use crate::key_groups::{FeatKeys, KeyGroups, NodeKeys, PolygonKeys};
+use crate::key_groups::{FeatKeys, KeyGroups, NodeKeys, PolygonKeys, WantedFeatKeys};
 use crate::open_keys::{has_key, interned, keys_of};
 use arranged_county::{Interner, NumericKey, both};
 use county_chart::{Chart, DirectedChain, Feats, Lands, Listed, PolygonKey, Polygons, Tlids};
@@ -34,6 +32,8 @@ pub(crate) struct PartKeys<K: Drop> {
 pub(crate) struct PartTables {
     pub(crate) kept: Kept,
     pub(crate) chains: PartKeys<u64>,
+    /// The FEATs of the further names of each chain.
+    pub(crate) feats: Vec<Vec<u32>>,
     pub(crate) names: PartKeys<u32>,
     pub(crate) polygons: PartKeys<PolygonKey>,
     pub(crate) landmarks: PartKeys<u64>,
@@ -146,21 +146,33 @@ fn nodes_of<C: Chart>(
     Ok(nodes)
 }
 
-fn names_and_polygons<C: Chart>(
-    alloc: Global,
-    chart: &C,
-    chains: &[DirectedChain],
-) -> Result<(PartKeys<u32>, PartKeys<PolygonKey>), AllocError>
-    requires names { length (C.county chart.now).names < 2 ^ 32 }
-    requires polygons { length (C.county chart.now).polygons < 2 ^ 32 }
-    ensures names { IfOk result (λ found. ArePartKeys nat_cmp (first_seen nat_cmp (grouped (keys_along chain_feats (C.county chart.now) chains.now)))
-        (feats (C.county chart.now)) found.0) }
-    ensures polygons { IfOk result (λ found. ArePartKeys key_cmp (first_seen key_cmp (grouped (keys_along chain_polygons (C.county chart.now) chains.now)))
-        (polygon_keys (C.county chart.now)) found.1) }
+/// Returns the keys of each chain.
+fn keys_by_chain<G: KeyGroups>(alloc: Global, chains: &G) -> Result<Vec<Vec<G::Item>>, AllocError>
+    ensures { IfOk result (λ keys. map (λ own. own.items) keys.items ≡ G.groups chains.now) }
 {
-    let names = named_among(alloc, &Feats(chart), &FeatKeys(chart, chains))?;
-    let polygons = named_among(alloc, &Polygons(chart), &PolygonKeys(chart, chains));
-    both(names, polygons)
+    let mut here = Vec::new(alloc);
+    let mut keys = Vec::new(alloc);
+    for place in 0..chains.count() {
+        chains.copy_keys(place, &mut here)?;
+        let own = Vec::from_slice(alloc, &here)?;
+        keys.push(own)?;
+    }
+    Ok(keys)
+}
+
+/// Returns the keys of a list that these chains have, with their places, and the keys of each chain.
+fn named_by_chain<K: Key + Hash + NumericKey, L: Listed<Item = K>, G: KeyGroups<Item = K>>(
+    alloc: Global,
+    all: &L,
+    chains: &G,
+) -> Result<(PartKeys<K>, Vec<Vec<K>>), AllocError>
+    requires { length (L.items all.now) < 2 ^ 32 }
+    ensures among { IfOk result (λ found. ArePartKeys K.cmp (first_seen K.cmp (grouped (G.groups chains.now))) (L.items all.now) found.0) }
+    ensures by_chain { IfOk result (λ found. map (λ own. own.items) found.1.items ≡ G.groups chains.now) }
+{
+    let among = named_among(alloc, all, chains)?;
+    let by_chain = keys_by_chain(alloc, chains);
+    both(among, by_chain)
 }
 
 /// Makes the tables of the part.
@@ -177,10 +189,16 @@ pub(crate) fn part_tables<C: Chart>(
     let landmarks = these_among(alloc, &Lands(chart), &kept.lands)?;
     let there = chains_at(alloc, &chains.places)?;
     let nodes = nodes_of(alloc, chart, &there)?;
-    let (names, polygons) = names_and_polygons(alloc, chart, &there)?;
+    let wanted = WantedFeatKeys {
+        names: FeatKeys(chart, &there),
+        wanted: &kept.names,
+    };
+    let (names, feats) = named_by_chain(alloc, &Feats(chart), &wanted)?;
+    let polygons = named_among(alloc, &Polygons(chart), &PolygonKeys(chart, &there))?;
     Ok(PartTables {
         kept,
         chains,
+        feats,
         names,
         polygons,
         landmarks,

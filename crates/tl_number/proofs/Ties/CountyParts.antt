@@ -49,7 +49,7 @@ few_selected {X} {Y} f test xs =
     let in_pieces = λ (ys : List X). ap length (sym (grouped_selected f ys) ∙ flat_map-map (λ (l : List Y). l) (λ y. option_to_list (f y)) ys) in
     omega (arith, in_pieces xs, in_pieces (filter test xs), few_pieces (λ x. option_to_list (f x)) test xs)
 
-few_filtered : {X : Type 0} (test : X → Bool) (xs : List X) → length (filter test xs) ≤ length xs
+pub few_filtered : {X : Type 0} (test : X → Bool) (xs : List X) → length (filter test xs) ≤ length xs
 few_filtered test xs = omega (arith, length-filter test xs, count_by-le-length test xs)
 
 module _ (county : County) (keeps : ℕ × Chain → Bool) (with_lands : List ℕ) where

@@ -335,6 +335,13 @@ module _ {K : Type 0} {cmp : K → K → Ordering} (kind : KeyKind cmp) (c : Ord
         (to_first_seen kind.order (tested opens (directed_in c n)) k
         (subst (λ ks. Known cmp ks k) (sym (read_at opens (directed_in c n))) there))))
 
+    -- Two choices differ in wanted keys alone, and all keys at open places are there.
+    pub reordered_in : (n m : ℕ) → AreReordered kind.order wanted (seen_in cmp kind.keys c n) (seen_in cmp kind.keys c m)
+    reordered_in n m = rw (← read_all n, ← read_all m) (between wanted (λ p. true) (λ p e. refl) (open_earlier (λ p. true) (λ p e. refl)) n m)
+
+    pub opened_seen_in : (n : ℕ) (k : K) → Known cmp (keys_at_open kind.keys c.county c.shapes) k → Known cmp (seen_in cmp kind.keys c n) k
+    opened_seen_in n k h = rw (← read_all n) (opened_between wanted (λ p. true) (λ p e. refl) (open_earlier (λ p. true) (λ p e. refl)) n k h)
+
     -- A small county, whose chains in a choice are those at kept places; each place with a new key is kept.
     module _ (new_kept : (place : ℕ) → has_new_at cmp c.shapes.places wanted_keys (keys_along kind.keys c.county by_shape) place ≡ true
         → is_kept c.county c.shapes place ≡ true) (small : OrderedCounty) (part : IsKeptPart c small (is_kept c.county c.shapes)) where
@@ -384,13 +391,12 @@ module _ {K : Type 0} {cmp : K → K → Ordering} (kind : KeyKind cmp) (c : Ord
 
       pub seen_alike : AreSeenAlike kind wanted_keys c small
       seen_alike =
-          let all = open_earlier (λ p. true) (λ p e. refl) in
           let open_kept = λ (p : ℕ) (e : opens p ≡ true). or_left (opens p) _ e in
           let at_kept = open_earlier kept open_kept in
           record {
-            reordered = λ n m. rw (← read_all n, ← read_all m) (between wanted (λ p. true) (λ p e. refl) all n m);
+            reordered = reordered_in;
             small_reordered = λ n m. rw (← read_small n, ← read_small m) (between wanted kept open_kept at_kept n m);
             same = λ n. same_keys n ∙ ap (λ ks. filter wanted (first_seen cmp ks)) (read_small n);
-            opened_seen = λ n k h. rw (← read_all n) (opened_between wanted (λ p. true) (λ p e. refl) all n k h);
+            opened_seen = opened_seen_in;
             opened_small = λ n k h. rw (← read_small n) (opened_between wanted kept open_kept at_kept n k h);
           }

@@ -244,7 +244,7 @@ module _ {K : Type 0} {cmp : K → K → Ordering} (o : IsKeyOrder cmp) where
         ∙ sym (comes_before j k ys)
 
   -- keys by first appearance that pass a test are those that pass, by first appearance
-  seen_filtered : (test : K → Bool) (seen keys : List K)
+  pub seen_filtered : (test : K → Bool) (seen keys : List K)
       → filter test (first_seen_after cmp seen keys) ≡ first_seen_after cmp (filter test seen) (filter test keys)
   seen_filtered test seen [] = refl
   seen_filtered test seen (k ∷ keys) =

@@ -1,5 +1,5 @@
 -- Keys of chains whose numbers in two choices compare alike in a county and in its small county, and the records of types 4 and I.
-use Rattle.tl_number.proofs.Common.{AllByRecursion, Bool, Chain, Fields4, FieldsI, FieldsOf, FitsRecord, Four, Greater, I, IfSome, Known, Less, List, None, Option, Ordering, PolygonKey, PolygonSide, RecordType, Renumbering, Some, Type4, TypeI, [], all_at, all_in_pieces, all_known, all_left, all_right, all_unmap, ap, append-nil, ap₂, arith, carried_many, chain_nodes, chain_polygons, contains, drop, drop-map, exact_unsigned, false, false_from_ne_true, false≢true, feats, flat_map, flat_map-map, fours_fit, grouped, grouped_lone, grouped_map, groups_cmp, has_new_at, in_pieces, is_open, key_cmp, key_keys, key_on, key_under, keys_along, known-here, known-left, known-right, known_all, length, length-map, map, map-equal_all, map-map, map_agree_all, nat_cmp, nat_cmp_is, nat_cmp_total, nat_keys, numbered_from, option_and_then, option_map, option_to_list, ordering_then, packed_fours, packed_i, pieces, pieces_together, refl, renumbered, renumbered_polygon, renumbered_side, rights-numbered_from, same_Some, side_of, slice_cmp, slice_get, slice_get-map, subst, suc, sym, table_4, take-map, tied_itself, topologies_fit, true, type_4_by_chain, type_i_by_chain, unwrap_or, zero, ℕ, ◌++◌, ◌<◌, ◌∙◌, ◌∷◌, ◌≡◌}
+use Rattle.tl_number.proofs.Common.{AllByRecursion, Bool, Chain, Fields4, FieldsI, FieldsOf, FitsRecord, Four, Greater, I, IfSome, Known, Less, List, None, Option, Ordering, PolygonKey, PolygonSide, RecordType, Renumbering, Some, Type4, TypeI, [], all_at, all_in_pieces, all_known, all_left, all_right, all_unmap, ap, append-nil, ap₂, arith, carried_many, chain_nodes, chain_polygons, contains, drop, drop-map, exact_unsigned, false, false_from_ne_true, false≢true, flat_map, flat_map-map, fours_fit, grouped, grouped_lone, grouped_map, groups_cmp, has_new_at, in_pieces, is_open, key_cmp, key_keys, key_on, key_under, keys_along, known-here, known-left, known-right, known_all, length, length-map, map, map-equal_all, map-map, map_agree_all, nat_cmp, nat_cmp_is, nat_cmp_total, nat_keys, numbered_from, option_and_then, option_map, option_to_list, ordering_then, packed_fours, packed_i, pieces, pieces_together, refl, renumbered, renumbered_polygon, renumbered_side, rights-numbered_from, same_Some, side_of, slice_cmp, slice_get, slice_get-map, subst, suc, sym, table_4, take-map, tied_itself, topologies_fit, true, type_4_by_chain, type_i_by_chain, unwrap_or, zero, ℕ, ◌++◌, ◌<◌, ◌∙◌, ◌∷◌, ◌≡◌}
 use Rattle.tl_number.proofs.Ties.Columns.{fields_cmp, next_column, place_number, places_alike, places_cmp, rows_cmp}
 use Rattle.tl_number.proofs.Ties.KeptPieces.{all_are_there, chain_at_rank}
 use Rattle.tl_number.proofs.Ties.KeyKinds.{AreNumberedAlike, KeyKind, chain_seen, group_chain, group_fixed, group_read, keys_of_chain, name_kind, new_name, new_node, new_polygon, node_kind, polygon_kind, polygon_number}
@@ -32,20 +32,19 @@ module _ {K : Type 0} {cmp : K → K → Ordering} (kind : KeyKind cmp) where
   number_or_none c i key = unwrap_or (option_map (kind.number (new_in c i)) key) 0
 
   -- a key of a choice has a number
-  above : (c : OrderedCounty) (i : ℕ) (k : K) → Known cmp (kind.all c.county) k → 0 < kind.number (new_in c i) k
+  pub above : (c : OrderedCounty) (i : ℕ) (k : K) → Known cmp (kind.all c.county) k → 0 < kind.number (new_in c i) k
   above c i k h = let e = kind.number_is c i k (kind.listed c i k h) in omega (arith, e)
 
-  module _ {whole small : OrderedCounty} {is_in : ℕ → Bool} (part : IsKeptPart whole small is_in) (are : AreWanted kind whole small is_in)
-      (n k : ℕ) where
-    abbrev CompareAlike : Option K → Option K → Type 0
+  module _ {whole small : OrderedCounty} {is_in : ℕ → Bool} (are : AreWanted kind whole small is_in) (n k : ℕ) where
+    abbrev pub CompareAlike : Option K → Option K → Type 0
     CompareAlike p q = nat_cmp (number_or_none whole n p) (number_or_none whole k q) ≡ nat_cmp (number_or_none small n p) (number_or_none small k q)
 
     -- a key of both counties
-    abbrev AreKeys : K → Type 0
+    abbrev pub AreKeys : K → Type 0
     AreKeys j = Known cmp (kind.all whole.county) j × Known cmp (kind.all small.county) j
 
     -- Numbers of keys compare alike if both keys are wanted or missing: a missing key comes before each other one.
-    wanted_pair : (p q : Option K) → ((j : K) → p ≡ Some j → (contains cmp j are.wanted ≡ true) × AreKeys j)
+    pub wanted_pair : (p q : Option K) → ((j : K) → p ≡ Some j → (contains cmp j are.wanted ≡ true) × AreKeys j)
         → ((j : K) → q ≡ Some j → (contains cmp j are.wanted ≡ true) × AreKeys j) → CompareAlike p q
     wanted_pair None None h l = refl
     wanted_pair None (Some j) h l =
@@ -61,12 +60,14 @@ module _ {K : Type 0} {cmp : K → K → Ordering} (kind : KeyKind cmp) where
         let right = l j refl in
         (are.alike n k).wanted_alike i j left.0 right.0 left.1.1 right.1.1
 
+  module _ {whole small : OrderedCounty} {is_in : ℕ → Bool} (part : IsKeptPart whole small is_in) (are : AreWanted kind whole small is_in)
+      (n k : ℕ) where
     -- They also do if both are one key.
-    same_pair : (p : Option K) → ((j : K) → p ≡ Some j → AreKeys j) → CompareAlike p p
+    same_pair : (p : Option K) → ((j : K) → p ≡ Some j → AreKeys are n k j) → CompareAlike are n k p p
     same_pair None h = refl
     same_pair (Some j) h = go (contains cmp j are.wanted) refl (h j refl)
       where
-        go : (b : Bool) → contains cmp j are.wanted ≡ b → AreKeys j → CompareAlike (Some j) (Some j)
+        go : (b : Bool) → contains cmp j are.wanted ≡ b → AreKeys are n k j → CompareAlike are n k (Some j) (Some j)
         go true e at = (are.alike n k).wanted_alike j j e e at.1 at.1
         go false e at =
             ap (nat_cmp (kind.number (new_in whole n) j)) (sym ((are.alike n k).stay j e at.0))
@@ -77,20 +78,20 @@ module _ {K : Type 0} {cmp : K → K → Ordering} (kind : KeyKind cmp) where
     -- So the numbers of one key of each chain at a kept place compare alike.
     pub key_pair : (place rank rank_too : ℕ) (x y : Chain) → slice_get (chains_at whole n) place ≡ Some x → slice_get (chains_at whole k) place ≡ Some y
         → slice_get (places_in whole is_in) rank ≡ Some place → slice_get (places_in whole is_in) rank_too ≡ Some place
-        → (one_key : Chain → Option K) → ((z : Chain) (j : K) → one_key z ≡ Some j → Known cmp (kind.keys z) j) → CompareAlike (one_key x) (one_key y)
+        → (one_key : Chain → Option K) → ((z : Chain) (j : K) → one_key z ≡ Some j → Known cmp (kind.keys z) j) → CompareAlike are n k (one_key x) (one_key y)
     key_pair place rank rank_too x y there there_too ranked ranked_too one_key one_known = go (is_open whole.shapes.places place) refl
       where
         keys_there : (i at : ℕ) (z : Chain) → slice_get (chains_at whole i) place ≡ Some z → slice_get (places_in whole is_in) at ≡ Some place
-            → (j : K) → one_key z ≡ Some j → AreKeys j
+            → (j : K) → one_key z ≡ Some j → AreKeys are n k j
         keys_there i at z e f j g = (
           kind.in_all whole i j (chain_seen kind.order whole i kind.keys j place z e (one_known z j g)),
           kind.in_all small i j (chain_seen kind.order small i kind.keys j at z (small_there part i place at z e f) (one_known z j g)),
         )
 
-        go : (b : Bool) → is_open whole.shapes.places place ≡ b → CompareAlike (one_key x) (one_key y)
-        go true e = wanted_pair (one_key x) (one_key y) (λ j f. (are.opened n place x e there j (one_known x j f), keys_there n rank x there ranked j f))
+        go : (b : Bool) → is_open whole.shapes.places place ≡ b → CompareAlike are n k (one_key x) (one_key y)
+        go true e = wanted_pair are n k (one_key x) (one_key y) (λ j f. (are.opened n place x e there j (one_known x j f), keys_there n rank x there ranked j f))
             (λ j f. (are.opened k place y e there_too j (one_known y j f), keys_there k rank_too y there_too ranked_too j f))
-        go false e = subst (λ z. CompareAlike (one_key x) (one_key z)) (same_Some x y (sym there ∙ same_at whole n k place e ∙ there_too))
+        go false e = subst (λ z. CompareAlike are n k (one_key x) (one_key z)) (same_Some x y (sym there ∙ same_at whole n k place e ∙ there_too))
             (same_pair (one_key x) (keys_there n rank x there ranked))
 
     -- At a place that is left out, two choices give the keys of the chain the same numbers if the records at all kept places before tie,
@@ -178,7 +179,7 @@ cenid_is c i cenid (Some polyid) = cenid_kept c i (cenid, polyid)
 
 -- ---- records of type I
 
-abbrev topologies : Making TypeI Chain
+abbrev pub topologies : Making TypeI Chain
 topologies = record {
   pieces = λ c. c ∷ [];
   make = λ r n number c. packed_i (n, renumbered r c);
@@ -222,7 +223,7 @@ module _ (r s : Renumbering) (chain : Chain) (nodes : AllByRecursion (λ k. new_
   side_alike cenid None h = refl
   side_alike cenid (Some polyid) h = ap side_of h.0
 
-  same_record : (tlid : ℕ) → packed_i (tlid, renumbered r chain) ≡ packed_i (tlid, renumbered s chain)
+  pub same_record : (tlid : ℕ) → packed_i (tlid, renumbered r chain) ≡ packed_i (tlid, renumbered s chain)
   same_record tlid = λ i. record {
     tlid = tlid;
     body = chain.topology;
@@ -302,17 +303,17 @@ pieces_map f n (suc most) (x ∷ xs) = ap₂ (λ y ys. y ∷ ys) (take-map f n (
     (ap (pieces n most) (drop-map f n (x ∷ xs)) ∙ pieces_map f n most (drop n (x ∷ xs)))
 
 -- numbered elements that are mapped
-numbered_map : {X Y : Type 0} (f : X → Y) (n : ℕ) (xs : List X)
+pub numbered_map : {X Y : Type 0} (f : X → Y) (n : ℕ) (xs : List X)
     → numbered_from n (map f xs) ≡ map (λ (e : ℕ × X). (e.0, f e.1)) (numbered_from n xs)
 numbered_map f n [] = refl
 numbered_map f n (x ∷ xs) = ap (λ es. (n, f x) ∷ es) (numbered_map f (suc n) xs)
 
 -- a record of names under a TLID
-abbrev four : ℕ → ℕ × List ℕ → Fields4
+abbrev pub four : ℕ → ℕ × List ℕ → Fields4
 four tlid piece = record { tlid = tlid; rtsq = piece.0; feats = piece.1 }
 
 -- the records of names with new numbers are made of pieces of the old ones
-fours_made : (f : ℕ → ℕ) (tlid : ℕ) (names : List ℕ) → map (four tlid) (numbered_from 1 (in_pieces 5 (map f names)))
+pub fours_made : (f : ℕ → ℕ) (tlid : ℕ) (names : List ℕ) → map (four tlid) (numbered_from 1 (in_pieces 5 (map f names)))
     ≡ map (λ (e : ℕ × List ℕ). four tlid (e.0, map f e.1)) (numbered_from 1 (in_pieces 5 names))
 fours_made f tlid names =
     ap (λ most. map (four tlid) (numbered_from 1 (pieces 5 most (map f names)))) (length-map names f)
@@ -328,7 +329,7 @@ names_back tlid names =
     ∙ ap (flat_map (λ (piece : List ℕ). piece)) (rights-numbered_from 1 (in_pieces 5 names))
     ∙ pieces_together 5 (length names) names (omega arith) (omega arith)
 
-abbrev fours : Making Type4 (List ℕ)
+abbrev pub fours : Making Type4 (List ℕ)
 fours = record {
   pieces = λ c. in_pieces 5 c.feats;
   make = λ r n number piece. four n (number, map (new_name r) piece);

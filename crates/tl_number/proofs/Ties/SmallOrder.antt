@@ -1,5 +1,5 @@
 -- Two choices are in one order in a county and in its small county.
-use Rattle.tl_number.proofs.Common.{AllByRecursion, Among, Bool, County, DirectedChain, Eight, Equal, Fields8, Five, IsLeastBelow, IsPermutation-sym, IsShapeOrder, IsTotalOrder, Known, LeavesChoices, List, OrderOfShapes, PolygonKey, Two, all_weaker, along_shapes, ap, arranged, chain_polygons, choices, choices_cmp, contains, counted_choices, directed_cmp, false, feats, filter, groups_cmp, in_order, in_order-in_order, in_order-is_permutation, inl, inr, is_either_way, is_gt, is_kept, is_open, keeps_landmark, kept_lands, kept_tlids, key_cmp, key_keys, keys_at_open, known-left, link_key, lt-ltb, map, moves_polygons, name_under, nat_cmp, nat_cmp_total, nat_keys, on_total, open_places, opened_polygons, or_left, or_parts, or_right, ordering_then, packed, place_in, points_along, points_cmp, points_keys, polygon_under, polygons_along, refl, same_groups, slice_cmp, subst, sym, text_of, texts_in_order, then_total, times, type_2_by_chain, type_5_by_name, type_8_together, types_1_to_4_cmp, types_5_to_7_cmp, types_8_to_p_cmp, wanted_feats, wanted_nodes, wanted_polygons, ℕ, ◌+◌, ◌<◌, ◌∙◌, ◌≡◌, ◌⊎◌}
+use Rattle.tl_number.proofs.Common.{Among, Bool, County, DirectedChain, Eight, Equal, Fields8, Five, IsPermutation-sym, IsShapeOrder, IsTotalOrder, Known, LeavesChoices, OrderOfShapes, PolygonKey, Two, along_shapes, ap, arranged, chain_polygons, choices_cmp, contains, counted_choices, directed_cmp, false, feats, filter, groups_cmp, in_order, in_order-in_order, in_order-is_permutation, inl, inr, is_either_way, is_kept, is_open, keeps_landmark, kept_lands, kept_tlids, key_cmp, key_keys, keys_at_open, known-left, link_key, lt-ltb, map, moves_polygons, name_under, nat_cmp, nat_cmp_total, nat_keys, on_total, open_places, opened_polygons, or_left, or_parts, or_right, ordering_then, packed, place_in, points_along, points_cmp, points_keys, polygon_under, polygons_along, refl, same_groups, slice_cmp, sym, text_of, texts_in_order, then_total, times, type_2_by_chain, type_5_by_name, type_8_together, types_1_to_4_cmp, types_5_to_7_cmp, types_8_to_p_cmp, wanted_feats, wanted_nodes, wanted_polygons, ℕ, ◌+◌, ◌∙◌, ◌≡◌, ◌⊎◌}
 use Rattle.record_groups.specs.TypeOneOrder.{ones_cmp}
 use Rattle.tl_number.proofs.Choices.LeastOnes.{by_ones}
 use Rattle.tl_number.proofs.Names.ContentFirst.{same_type_5}
@@ -9,7 +9,7 @@ use Rattle.tl_number.proofs.Ties.KeyKinds.{AreSeenAlike, name_kind, node_kind, n
 use Rattle.tl_number.proofs.Ties.ListsAlike.{value_filtered}
 use Rattle.tl_number.proofs.Ties.OrderedCounty.{IsKeptPart, OrderedCounty, arranges_in, choice, link_on_side, new_in, one_map, order_in, stated, whole_in}
 use Rattle.tl_number.proofs.Ties.Ranks.{reordered_all}
-use Rattle.tl_number.proofs.Ties.SmallCounty.{small_chains, small_choices, small_is, small_leaves, small_within}
+use Rattle.tl_number.proofs.Ties.SmallCounty.{small_chains, small_is, small_leaves, small_within}
 use Rattle.tl_number.proofs.Ties.SmallKeys.{AreWanted, fours_small, topologies_small}
 use Rattle.tl_number.proofs.Ties.SmallLandmarks.{links_alike, sevens_tie}
 use Rattle.tl_number.proofs.Ties.SmallPolygons.{polygon_records_small}
@@ -17,7 +17,6 @@ use Rattle.tl_number.proofs.Ties.SmallRecords.{ones_small, sixes_small}
 use Rattle.tl_number.proofs.Ties.StillKeys.{seen_still}
 use Rattle.tl_number.proofs.Ties.WantedNames.{names_alike, part_contents}
 use Rattle.tl_number.specs.CountyParts.{part_of}
-use Rattle.tl_number.specs.LeastOnes.{HaveLeast, HaveSameOnes}
 use Rattle.tl_number.specs.SmallCounty.{small_county}
 
 -- the chains in the directions of their shapes, put in order, their open places, and how many choices these leave
@@ -49,7 +48,7 @@ module _ (county : County) where
 -- Two choices of a county.
 module _ (c : OrderedCounty) (n k : ℕ) where
   -- their texts are in the order of their records, type by type
-  types_decide : choices_cmp c.county n k ≡ ordering_then (types_1_to_4_cmp (choice c n) (choice c k))
+  pub types_decide : choices_cmp c.county n k ≡ ordering_then (types_1_to_4_cmp (choice c n) (choice c k))
       (ordering_then (types_5_to_7_cmp (choice c n) (choice c k)) (types_8_to_p_cmp (choice c n) (choice c k)))
   types_decide =
       let whole = whole_in c n in
@@ -59,13 +58,13 @@ module _ (c : OrderedCounty) (n k : ℕ) where
       ∙ texts_in_order (choice c n) (choice c k) whole.is_county whole_too.is_county whole.within_limits whole_too.within_limits (one_map c n k)
 
   -- they tie in types 2 and 5
-  twos_tie : Equal ≡ groups_cmp Two (type_2_by_chain (choice c n)) (type_2_by_chain (choice c k))
+  pub twos_tie : Equal ≡ groups_cmp Two (type_2_by_chain (choice c n)) (type_2_by_chain (choice c k))
   twos_tie = same_groups Two (type_2_by_chain (choice c n)) (type_2_by_chain (choice c k))
       (ap (λ a. type_2_by_chain (arranged c.county a)) (stated c n)
       ∙ twos_of_numbers c.county c.is c.known.sides n k
       ∙ sym (ap (λ a. type_2_by_chain (arranged c.county a)) (stated c k)))
 
-  fives_tie : Equal ≡ groups_cmp Five (type_5_by_name (choice c n)) (type_5_by_name (choice c k))
+  pub fives_tie : Equal ≡ groups_cmp Five (type_5_by_name (choice c n)) (type_5_by_name (choice c k))
   fives_tie = same_groups Five (type_5_by_name (choice c n)) (type_5_by_name (choice c k))
       (same_type_5 c.county c.is (order_in c n) (order_in c k) (arranges_in c n) (arranges_in c k))
 
@@ -189,31 +188,11 @@ module _ (whole : OrderedCounty) (order : OrderOfShapes) (small_known : LeavesCh
   same_ones n k = by_ones small n k ∙ sym (ones_small part n k) ∙ sym (by_ones whole n k)
 
 module _ (c : OrderedCounty) where
-  small_same_ones : (n k : ℕ) → ones_cmp (small_county c.county c.shapes) n k ≡ ones_cmp c.county n k
+  pub small_same_ones : (n k : ℕ) → ones_cmp (small_county c.county c.shapes) n k ≡ ones_cmp c.county n k
   small_same_ones = same_ones c (own_order (small_county c.county c.shapes)) (small_leaves c.county c.shapes c.known c.is
       (own_order (small_county c.county c.shapes)) (own_order_is (small_county c.county c.shapes)))
 
-  -- So choices with the same records of type 1 have the same ones there.
-  pub small_have_same : (numbers : List ℕ) → HaveSameOnes c.county numbers → HaveSameOnes (small_county c.county c.shapes) numbers
-  small_have_same numbers = all_weaker (λ n. AllByRecursion (λ m. ones_cmp c.county n m ≡ Equal) numbers)
-      (λ n. AllByRecursion (λ m. ones_cmp (small_county c.county c.shapes) n m ≡ Equal) numbers)
-      (λ n. all_weaker (λ m. ones_cmp c.county n m ≡ Equal) (λ m. ones_cmp (small_county c.county c.shapes) n m ≡ Equal)
-      (λ m e. small_same_ones n m ∙ e) numbers) numbers
-
   -- Two choices are in one order in a county and in its small county.
-  small_same_order : (n k : ℕ) → choices_cmp (small_county c.county c.shapes) n k ≡ choices_cmp c.county n k
+  pub small_same_order : (n k : ℕ) → choices_cmp (small_county c.county c.shapes) n k ≡ choices_cmp c.county n k
   small_same_order = same_order c (own_order (small_county c.county c.shapes)) (small_leaves c.county c.shapes c.known c.is
       (own_order (small_county c.county c.shapes)) (own_order_is (small_county c.county c.shapes)))
-
-  -- So the least choice of the small county is the county's.
-  pub small_least : (k : ℕ) → IsLeastBelow (small_county c.county c.shapes) (choices (small_county c.county c.shapes)) k
-      → IsLeastBelow c.county (choices c.county) k
-  small_least k least m l = subst (λ o. is_gt o ≡ false) (small_same_order k m)
-      (least m (subst (λ count. m < count) (sym (small_choices c.county c.shapes c.known c.is)) l))
-
-  -- And if the least of some choices is the county's, it's the small county's.
-  pub small_have_least : (numbers : List ℕ) → HaveLeast c.county numbers → HaveLeast (small_county c.county c.shapes) numbers
-  small_have_least numbers least n among m l = subst (λ o. is_gt o ≡ false) (sym (small_same_order n m))
-      (least n (all_weaker (λ k. is_gt (choices_cmp (small_county c.county c.shapes) n k) ≡ false) (λ k. is_gt (choices_cmp c.county n k) ≡ false)
-      (λ k e. subst (λ o. is_gt o ≡ false) (small_same_order n k) e) numbers among) m
-      (subst (λ count. m < count) (small_choices c.county c.shapes c.known c.is) l))

@@ -53,7 +53,7 @@ module _ {t : RecordType} {Y : Type 0} (m : Making t Y) where
   abbrev pub by_tlid : FieldsOf t → FieldsOf t → Ordering
   by_tlid r s = ordering_then (nat_cmp (m.tlid r) (m.tlid s)) (fields_cmp t r s)
 
-  tlids_decide : (r s : FieldsOf t) → m.tlid r ≢ m.tlid s → by_tlid r s ≡ nat_cmp (m.tlid r) (m.tlid s)
+  pub tlids_decide : (r s : FieldsOf t) → m.tlid r ≢ m.tlid s → by_tlid r s ≡ nat_cmp (m.tlid r) (m.tlid s)
   tlids_decide r s differ = decided (nat_cmp (m.tlid r) (m.tlid s)) (fields_cmp t r s) (λ e. differ (exact_unsigned (m.tlid r) (m.tlid s) e))
 
   -- records tie with themselves,
@@ -95,7 +95,7 @@ module _ {t : RecordType} {Y : Type 0} (m : Making t Y) where
         ∙ (λ j. grouped (map (λ (e : ℕ × Chain). m.packs (new_in c i) e.0 e.1 j) (numbered_from 1 (chains_at c i))))
 
     -- they are in groups by place
-    groups_are : (i : ℕ) → records_in i ≡ groups_from (made_at i) 0 (length c.shapes.by_shape)
+    pub groups_are : (i : ℕ) → records_in i ≡ groups_from (made_at i) 0 (length c.shapes.by_shape)
     groups_are i = records_are i
         ∙ numbered_groups (made_in i) (made_at i) (chains_at c i) 0 (λ j chain e q f.
         sym (ap (made_if i q) (ap (slice_get (chains_at c i)) (let s : q ≡ j = omega (arith, f) in s) ∙ e)))
@@ -116,7 +116,7 @@ module _ {t : RecordType} {Y : Type 0} (m : Making t Y) where
             place (omega arith)
 
     -- at a place their TLID is the place, counted from 1
-    keyed : (i place : ℕ) → AllByRecursion (λ r. m.tlid r ≡ suc place) (made_at i place)
+    pub keyed : (i place : ℕ) → AllByRecursion (λ r. m.tlid r ≡ suc place) (made_at i place)
     keyed i place = go (slice_get (chains_at c i) place)
       where
         go : (o : Option Chain) → AllByRecursion (λ r. m.tlid r ≡ suc place) (made_if i place o)
@@ -127,7 +127,7 @@ module _ {t : RecordType} {Y : Type 0} (m : Making t Y) where
             (λ e. m.has_tlid (new_in c i) (suc place) e.0 e.1) (numbered_from 1 (m.pieces chain)))
 
     -- a fixed place has as many in all choices
-    lengths : (n k place : ℕ) → is_open c.shapes.places place ≡ false → length (made_at n place) ≡ length (made_at k place)
+    pub lengths : (n k place : ℕ) → is_open c.shapes.places place ≡ false → length (made_at n place) ≡ length (made_at k place)
     lengths n k place fixed =
         go (slice_get (chains_at c n) place) ∙ ap (λ o. length (made_if k place o)) (same_at c n k place fixed)
       where
@@ -137,7 +137,7 @@ module _ {t : RecordType} {Y : Type 0} (m : Making t Y) where
             ∙ sym (length-map (numbered_from 1 (m.pieces chain)) (λ (e : ℕ × Y). m.make (new_in c k) (suc place) e.0 e.1))
 
     -- two choices have as many in all
-    as_many_in : (n k : ℕ) → length (groups_from (made_at n) 0 (length c.shapes.by_shape)) ≡ length (groups_from (made_at k) 0 (length c.shapes.by_shape))
+    pub as_many_in : (n k : ℕ) → length (groups_from (made_at n) 0 (length c.shapes.by_shape)) ≡ length (groups_from (made_at k) 0 (length c.shapes.by_shape))
     as_many_in n k = sym (ap length (groups_are n)) ∙ m.as_many (choice c n) (choice c k) (one_map c n k)
         ∙ ap length (groups_are k)
 

@@ -42,8 +42,11 @@ loop-place-preserved g c =
       searches = c.in_ok-kept.ensures.searches;
     }
 
-pub returns : goal.returns
-returns g c =
+pub returns-clause-names : goal.returns-clause-names
+returns-clause-names g c = c.loop-place.invariant.searches.names.same
+
+pub returns-clause-tlids : goal.returns-clause-tlids
+returns-clause-tlids g c =
     let county = g.C.Chart.county c.args.chart.now in
     let count : c.loop-place.place ≡ length c.by_shape-by_shape.result.now = omega (arith, c.loop-place-test.false, c.loop-place.auto.place-end) in
     c.loop-place.invariant.tlids
