@@ -31,11 +31,20 @@ pub fn visit_records<D, C: Chart, S: Evidence, T: RecordVisitor<D>>(
 {
     let mut buffers = HeadBuffers::new();
     let chains = ChainRecords { chart: county };
-    let shapes = SequencedRecords::<_, Rec2>(county, PhantomData);
-    let feats = SequencedRecords::<_, Rec4>(county, PhantomData);
+    let shapes = SequencedRecords::<_, Rec2> {
+        chart: county,
+        records: PhantomData,
+    };
+    let feats = SequencedRecords::<_, Rec4> {
+        chart: county,
+        records: PhantomData,
+    };
     visit_three(&chains, &shapes, &feats, &mut buffers, visitor, device)?;
     let names = NameRecords { chart: county };
-    let ranges = SequencedRecords::<_, Rec6>(county, PhantomData);
+    let ranges = SequencedRecords::<_, Rec6> {
+        chart: county,
+        records: PhantomData,
+    };
     let landmarks = LandmarkRecords { chart: county };
     visit_three(&names, &ranges, &landmarks, &mut buffers, visitor, device)?;
     let links = LandmarkLinkRecords { county };

@@ -227,28 +227,28 @@ impl SequencedRecord for Rec6 {
 
 /// The records of each chain of one type with a sequence number.
 #[derive(Drop)]
-pub struct SequencedRecords<'a, C: Chart, R>(
+pub struct SequencedRecords<'a, C: Chart, R> {
     /// The county.
-    pub &'a C,
+    pub chart: &'a C,
     /// The type of the records.
-    pub PhantomData<R>,
-);
+    pub records: PhantomData<R>,
+}
 
 impl<C: Chart, R: SequencedRecord> CountedGroups for SequencedRecords<'_, C, R> {
     type Record = R;
 
-    ghost counted = { λ g. R.by_chain (C.county g.0.now) };
+    ghost counted = { λ g. R.by_chain (C.county g.chart.now) };
 
     fn group_count(&self) -> usize {
-        self.0.chain_count()
+        self.chart.chain_count()
     }
 
     fn record_count(&self, group: usize) -> usize {
-        R::count_at(self.0, group)
+        R::count_at(self.chart, group)
     }
 
     fn record_at(&self, group: usize, place: usize) -> R {
-        R::make(self.0, group, place)
+        R::make(self.chart, group, place)
     }
 }
 

@@ -148,8 +148,14 @@ fn have_same_sequenced<R: SequencedRecord + Same, A: Chart, B: Chart>(
     ensures { Decides result (R.by_chain (A.county a.now) ≡ R.by_chain (B.county b.now)) }
 {
     are_same_groups(
-        &SequencedRecords::<_, R>(a, PhantomData),
-        &SequencedRecords::<_, R>(b, PhantomData),
+        &SequencedRecords::<_, R> {
+            chart: a,
+            records: PhantomData,
+        },
+        &SequencedRecords::<_, R> {
+            chart: b,
+            records: PhantomData,
+        },
         &mut buffer.counts,
         &mut other.counts,
     )

@@ -57,8 +57,14 @@ impl<C: Chart> CountedGroups for RangesFrom<'_, C> {
 fn compare_further_names<A: Chart, B: Chart>(a: &A, b: &B) -> Ordering
     ensures { result ≡ groups_cmp Four (type_4_by_chain (A.county a.now)) (type_4_by_chain (B.county b.now)) }
 {
-    let names = SequencedRecords::<_, Rec4>(a, PhantomData);
-    let others = SequencedRecords::<_, Rec4>(b, PhantomData);
+    let names = SequencedRecords::<_, Rec4> {
+        chart: a,
+        records: PhantomData,
+    };
+    let others = SequencedRecords::<_, Rec4> {
+        chart: b,
+        records: PhantomData,
+    };
     compare_groups(&names, &others)
 }
 
