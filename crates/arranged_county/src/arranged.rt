@@ -108,7 +108,14 @@ impl<C: Chart, S: Evidence> Arranged<C, S> {
 }
 
 impl<C: Chart, S: Evidence> Arranged<C, S> {
-    ghost use Rattle.arranged_county.specs.Views.{arranged_county};
+    ghost use Rattle.arranged_county.specs.Views.{arranged_county, directed_chains_of};
+
+    /// Returns the chains of the source county in their new order, with their directions.
+    pub fn directed_chains(&self) -> &[DirectedChain]
+        ensures { result.now ≡ (directed_chains_of self.now).items }
+    {
+        &self.arrangement
+    }
 
     /// Returns the polygon with the POLYID `place + 1`: its key, and the content of its type P record, if it has one. `place` must be below
     /// the number of polygons.

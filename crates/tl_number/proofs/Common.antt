@@ -153,7 +153,7 @@ pub use Rattle.tl_layout.specs.declared.record_type.Record.TheVariants.{Eight, F
 pub use Rattle.tl_layout.specs.declared.type5.Body5.{Body5}
 pub use Rattle.tl_layout.specs.declared.type7.Body7.{Body7}
 pub use Rattle.tl_layout.specs.declared.type_p.BodyP.{BodyP}
-pub use Rattle.tl_number.specs.ChoiceSearch.{IsChosen, LeavesChoices, chosen_county, lesser_choice, numbered_arrangement}
+pub use Rattle.tl_number.specs.ChoiceSearch.{IsArrangedChoice, LeavesChoices, chosen_county, lesser_choice, numbered_arrangement}
 pub use Rattle.tl_number.specs.CountyParts.{ArePartKeys, HoldsPart, feats_along, part_of, part_with, places_among}
 pub use Rattle.tl_number.specs.KeptLandmarks.{LandmarkName, first_name, has_name, keeps_landmark, kept_landmarks, kept_lands, landmark_name_cmp, link_keys_at, moves_polygons, name_if_linked, names_linked, opened_polygons}
 pub use Rattle.tl_number.specs.KeptPlaces.{AreSearched, IsSearchAt}

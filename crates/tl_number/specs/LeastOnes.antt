@@ -1,5 +1,5 @@
 -- The choices with the least records of type 1, digit by digit of their numbers.
-use Rattle.std.specs.Prelude.{List, [], false, flat_map, length, map, true, ℕ, ◌*◌, ◌+◌, ◌<◌, ◌∷◌, ◌≡◌, ◌≤◌}
+use Rattle.std.specs.Prelude.{List, [], false, flat_map, get_or, length, map, true, ℕ, ◌*◌, ◌+◌, ◌<◌, ◌∷◌, ◌≡◌, ◌≤◌}
 use Rattle.std.specs.List.{AllByRecursion}
 use Rattle.std.specs.Ordering.{is_gt, nat_cmp}
 use Rattle.std.specs.declared.cmp.Ordering.{Ordering}
@@ -8,13 +8,15 @@ use Rattle.tl_layout.specs.declared.record_type.Record.{Record}
 use Rattle.ordered_lists.specs.Orders.{contains}
 use Rattle.county_chart.specs.Choices.{choices, ways_at}
 use Rattle.county_chart.specs.County.{County}
+use Rattle.county_chart.specs.ShapeOrder.{OrderOfShapes}
 use Rattle.county_chart.specs.declared.open_place.OpenPlace.{OpenPlace}
 use Rattle.canonical_form.specs.Canonical.{IsNotAfter}
 use Rattle.canonical_form.specs.MovedChains.{AreWithin}
 use Rattle.canonical_form.specs.LeastNumber.{IsLeastBelow, choice_list}
 use Rattle.record_groups.specs.RecordOrder.{records_cmp}
 use Rattle.record_groups.specs.TypeOneOrder.{ones_cmp, ones_of}
-use Rattle.tl_number.specs.ChoiceSearch.{chosen_county}
+use Rattle.tl_number.specs.ChoiceSearch.{IsChosen, chosen_county}
+use Rattle.tl_number.specs.declared.type_1_choices.LeastChoices.{LeastChoices}
 
 -- Of the numbers below a bound, these are the ones whose values come after no other's. There is at least one.
 pub record AreLeastBelow {K : Type 0} (cmp : K → K → Ordering) (value : ℕ → K) (bound : ℕ) (numbers : List ℕ) : Type 0 where
@@ -34,6 +36,12 @@ HaveLeastOnes county bound numbers = AreLeastBelow records_cmp (ones_in county) 
 -- The same for choices whose numbers have the same digits after a digit, by that digit. The digits after it make up a number.
 abbrev pub HaveLeastOnesByDigit : County → ℕ → ℕ → ℕ → List ℕ → Type 0
 HaveLeastOnesByDigit county ways behind bound digits = AreLeastBelow records_cmp (λ digit. ones_in county (digit * ways + behind)) bound digits
+
+-- Of the choices with numbers below a bound, these have the least records of type 1, and the first of them is given with its chains.
+pub record AreLeastChoices (county : County) (shapes : OrderOfShapes) (bound : ℕ) (least : LeastChoices) : Type 0 where
+  pub ones : HaveLeastOnes county bound least.numbers.items
+  pub first : least.first.number ≡ get_or least.numbers.items 0 0
+  pub chosen : IsChosen shapes least.first
 
 -- Numbers with the same digit before this many ways compare as the numbers after the digit do.
 abbrev pub IsDigitApart : County → ℕ → Type 0

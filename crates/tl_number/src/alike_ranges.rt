@@ -7,12 +7,11 @@ ghost use Rattle.std.specs.Prelude.{IfOk, IsTrue, OnOk, take, ◌≡◌};
 ghost use Rattle.arranged_county.specs.Views.{classed_county};
 ghost use Rattle.record_groups.specs.CountyGroups.{type_6_by_chain};
 ghost use Rattle.tl_number.specs.AlikeRanges.{AreAlike, ranges_towards};
-ghost use Rattle.tl_number.specs.ChoiceSearch.{IsChosen, LeavesChoices, chosen_county};
+ghost use Rattle.tl_number.specs.ChoiceSearch.{IsArrangedChoice, LeavesChoices, chosen_county};
 
-use crate::choice_search::ComparedCounty;
+use crate::choice_search::{ArrangedChoice, ComparedCounty};
 use crate::kept_places::open_chains;
-use crate::numbered_arrangement::NumberedArrangement;
-use county_chart::{Chart, DirectedChain, Same, are_same};
+use county_chart::{Chart, DirectedChain, Lent, Same, are_same};
 use std::alloc::{AllocError, Global};
 use tl_profile::ShapeOrder;
 
@@ -89,7 +88,7 @@ pub(crate) fn alike_chains<C: Chart>(
     Ok(alike)
 }
 
-impl<C: Chart> ComparedCounty<'_, '_, C> {
+impl<'a, C: Chart> ComparedCounty<'_, 'a, C> {
     /// Returns the representative that is known of a directed chain, or the chain itself.
     fn representative_of(&self, directed: DirectedChain) -> DirectedChain
         requires { AreAlike (classed_county self.now.classes.now) self.now.alike.now }
@@ -118,18 +117,18 @@ impl<C: Chart> ComparedCounty<'_, '_, C> {
     /// Returns a number of places, from the first on, where two choices have chains with the same further address ranges.
     pub(crate) fn count_alike(
         &self,
-        one: &NumberedArrangement,
-        other: &NumberedArrangement,
+        one: &ArrangedChoice<Lent<'a, C>>,
+        other: &ArrangedChoice<Lent<'a, C>>,
     ) -> usize
         requires known { LeavesChoices (classed_county self.now.classes.now) self.now.shape_order.now }
         requires alike { AreAlike (classed_county self.now.classes.now) self.now.alike.now }
-        requires one { IsChosen self.now.shape_order.now one.now }
-        requires other { IsChosen self.now.shape_order.now other.now }
+        requires one { IsArrangedChoice (classed_county self.now.classes.now) self.now.shape_order.now one.now }
+        requires other { IsArrangedChoice (classed_county self.now.classes.now) self.now.shape_order.now other.now }
         ensures { take result (type_6_by_chain (chosen_county (classed_county self.now.classes.now) one.now.number))
             ≡ take result (type_6_by_chain (chosen_county (classed_county self.now.classes.now) other.now.number)) }
     {
-        let chains = one.chains.as_slice();
-        let others = other.chains.as_slice();
+        let chains = one.county.directed_chains();
+        let others = other.county.directed_chains();
         for place in 0..chains.len() {
             let same = self.are_alike(chains[place], others[place]);
             if !same {

@@ -7,8 +7,8 @@ ghost use Rattle.std.specs.Prelude.{IfOk, length, ◌<◌, ◌≤◌};
 ghost use Rattle.county_chart.specs.CountyRules.{AllKeysContained, polygon_keys, polygons_along};
 ghost use Rattle.county_chart.specs.Choices.{choices, most_choices};
 ghost use Rattle.county_chart.specs.ShapeOrder.{IsShapeOrder};
-ghost use Rattle.tl_number.specs.ChoiceSearch.{LeavesChoices};
-ghost use Rattle.tl_number.specs.LeastOnes.{HaveLeast, HaveSameOnes};
+ghost use Rattle.tl_number.specs.ChoiceSearch.{IsChosen, LeavesChoices};
+ghost use Rattle.tl_number.specs.LeastOnes.{HaveLeast, HaveLeastOnes, HaveSameOnes};
 ghost use Rattle.canonical_form.specs.DirectedChains.{HasChainsOf, arrangement_of};
 ghost use Rattle.canonical_form.specs.LeastNumber.{IsLeastBelow};
 ghost use Rattle.canonical_form.specs.Tidy.{IsLeastChoice};
@@ -37,26 +37,42 @@ fn least_in_part<C: Chart>(alloc: Global, part: &C, numbers: &[u64]) -> Result<u
     least_among_choices(alloc, part, &order, numbers)
 }
 
-/// Returns the number of the choice with the least text. Makes no part of the county if records of type 1 decide.
+/// Returns the number of the choice with the least text, which is among `numbers`. It is searched in a part of the county.
 fn least_number<C: Chart>(
     alloc: Global,
     chart: &C,
     shape_order: &ShapeOrder,
+    numbers: &[u64],
 ) -> Result<u64, AllocError>
-    requires { LeavesChoices (C.county chart.now) shape_order.now }
+    requires known { LeavesChoices (C.county chart.now) shape_order.now }
+    requires ones { HaveLeastOnes (C.county chart.now) (choices (C.county chart.now)) numbers.now }
     ensures { IfOk result (IsLeastBelow (C.county chart.now) (choices (C.county chart.now))) }
 {
-    let numbers = least_by_type_1(alloc, chart, shape_order)?;
-    let least = numbers.as_slice();
-    if least.len() == 1 {
-        return Ok(least[0]);
-    }
     let kept = find_kept(alloc, chart, shape_order)?;
     let tables = part_tables(alloc, chart, kept)?;
-    let found = least_in_part(alloc, &CountyPart::new(chart, &tables), least);
+    let found = least_in_part(alloc, &CountyPart::new(chart, &tables), numbers);
     // Trick: one call for the prover, which otherwise reads the drop of each table.
     drop(tables);
     found
+}
+
+/// Returns the choice with the least text. Makes no part of the county if records of type 1 decide.
+fn least_choice<C: Chart>(
+    alloc: Global,
+    chart: &C,
+    shape_order: &ShapeOrder,
+) -> Result<NumberedArrangement, AllocError>
+    requires { LeavesChoices (C.county chart.now) shape_order.now }
+    ensures number { IfOk result (λ least. IsLeastBelow (C.county chart.now) (choices (C.county chart.now)) least.number) }
+    ensures chosen { IfOk result (IsChosen shape_order.now) }
+{
+    let mut least = least_by_type_1(alloc, chart, shape_order)?;
+    if least.numbers.len() == 1 {
+        return Ok(least.first);
+    }
+    let number = least_number(alloc, chart, shape_order, &least.numbers)?;
+    least.first.choose_again(shape_order, number);
+    Ok(least.first)
 }
 
 /// Returns a choice with the least text, given the order of the chains by their shapes.
@@ -72,7 +88,6 @@ pub(crate) fn least_arrangement<C: Chart>(
     ensures there { IfOk result (λ arrangement. HasChainsOf (C.county chart.now) arrangement.items) }
     ensures once { IfOk result (λ arrangement. NamesEachOnce (C.county chart.now) (arrangement_of (C.county chart.now) arrangement.items)) }
 {
-    let number = least_number(alloc, chart, shape_order)?;
-    let least = NumberedArrangement::new(alloc, shape_order, number)?;
+    let least = least_choice(alloc, chart, shape_order)?;
     Ok(least.chains)
 }

@@ -6,12 +6,12 @@
 
 ghost use Rattle.std.specs.List.{AllByRecursion, list_any};
 ghost use Rattle.std.specs.Ordering.{is_eq, is_gt};
-ghost use Rattle.std.specs.Prelude.{IfOk, OnOk, [], cond, drop, length, map, nat_lt, take, ◌*◌, ◌++◌, ◌+◌, ◌<◌, ◌∷◌, ◌≡◌, ◌≤◌};
+ghost use Rattle.std.specs.Prelude.{IfOk, OnOk, [], cond, drop, get_or, length, map, nat_lt, take, ◌*◌, ◌++◌, ◌+◌, ◌<◌, ◌∷◌, ◌≡◌, ◌≤◌};
 ghost use Rattle.canonical_form.specs.MovedChains.{ArePlacesInOrder, AreWithin};
 ghost use Rattle.county_chart.specs.Choices.{choices, most_choices};
 ghost use Rattle.record_groups.specs.TypeOneOrder.{ones_cmp};
 ghost use Rattle.tl_number.specs.ChoiceSearch.{IsChosen, LeavesChoices};
-ghost use Rattle.tl_number.specs.LeastOnes.{ArePlacesApart, HaveLeastOnes, HaveLeastOnesByDigit, IsDigitApart, combined, ways_of};
+ghost use Rattle.tl_number.specs.LeastOnes.{AreLeastChoices, ArePlacesApart, HaveLeastOnesByDigit, IsDigitApart, combined, ways_of};
 
 use crate::numbered_arrangement::NumberedArrangement;
 use county_chart::{Chart, OpenPlace};
@@ -50,34 +50,44 @@ fn keep_least(digits: &mut Vec<u64>, ordering: Ordering, digit: u64) -> Result<(
     Ok(())
 }
 
-/// Returns the digits below `count` of the choices with the least records of type 1, among those that have the number `behind` in the
-/// digits after it.
+/// The numbers of the choices with the least records of type 1 by the digits so far, and the first of these choices.
+#[derive(Drop)]
+pub(crate) struct LeastChoices {
+    pub(crate) numbers: Vec<u64>,
+    pub(crate) first: NumberedArrangement,
+}
+
+/// Returns the digits below `count` of the choices with the least records of type 1, among those that have the number of `first` in the
+/// digits after it. Makes `first` the one with the first of these digits.
 fn least_digits<C: Chart>(
     alloc: Global,
     chart: &C,
     shape_order: &ShapeOrder,
     count: u64,
     ways: u64,
-    behind: u64,
+    first: &mut NumberedArrangement,
 ) -> Result<Vec<u64>, AllocError>
     requires known { LeavesChoices (C.county chart.now) shape_order.now }
     requires some { 0 < count }
     requires few { count * ways ≤ most_choices }
-    requires behind { behind < ways }
-    ensures { IfOk result (λ digits. HaveLeastOnesByDigit (C.county chart.now) ways behind count digits.items) }
+    requires behind { first.old.number < ways }
+    requires chosen { IsChosen shape_order.now first.old }
+    ensures digits { IfOk result (λ digits. HaveLeastOnesByDigit (C.county chart.now) ways first.old.number count digits.items) }
+    ensures first { IfOk result (λ digits. first.new.number ≡ get_or digits.items 0 0 * ways + first.old.number) }
+    ensures chosen { OnOk result (IsChosen shape_order.now first.new) }
 {
-    let mut least = NumberedArrangement::new(alloc, shape_order, behind)?;
+    let behind = first.number;
     let mut other = NumberedArrangement::new(alloc, shape_order, behind)?;
     let mut digits = Vec::new(alloc);
     digits.push(0)?;
     for digit in 1..count {
         other.choose_again(shape_order, digit * ways + behind);
-        let ordering = compare_by_type_1(chart, shape_order, &least, &other);
+        let ordering = compare_by_type_1(chart, shape_order, first, &other);
         keep_least(&mut digits, ordering, digit)?;
         if ordering.is_le() {
             continue;
         }
-        swap(&mut least, &mut other);
+        swap(first, &mut other);
     }
     Ok(digits)
 }
@@ -159,46 +169,49 @@ fn last_shape(shape_order: &ShapeOrder, end: usize) -> usize
     0
 }
 
-/// Returns the choices with the least records of type 1 by one digit more, which is below `count`.
-fn with_digit<C: Chart>(
+/// Adds one more digit, below `count`, to the numbers of the choices with the least records of type 1.
+fn add_digit<C: Chart>(
     alloc: Global,
     chart: &C,
     shape_order: &ShapeOrder,
     count: u64,
     ways: u64,
-    numbers: &[u64],
-) -> Result<Vec<u64>, AllocError>
+    least: &mut LeastChoices,
+) -> Result<(), AllocError>
     requires known { LeavesChoices (C.county chart.now) shape_order.now }
     requires some { 0 < count }
     requires few { count * ways ≤ most_choices }
     requires apart { IsDigitApart (C.county chart.now) ways }
-    requires numbers { HaveLeastOnes (C.county chart.now) ways numbers.now }
-    ensures { IfOk result (λ all. HaveLeastOnes (C.county chart.now) (count * ways) all.items) }
+    requires least { AreLeastChoices (C.county chart.now) shape_order.now ways least.old }
+    ensures { OnOk result (AreLeastChoices (C.county chart.now) shape_order.now (count * ways) least.new) }
 {
-    let digits = least_digits(alloc, chart, shape_order, count, ways, numbers[0])?;
-    combine(alloc, &digits, ways, numbers)
+    let digits = least_digits(alloc, chart, shape_order, count, ways, &mut least.first)?;
+    least.numbers = combine(alloc, &digits, ways, &least.numbers)?;
+    Ok(())
 }
 
-/// Returns the numbers of the choices with the least records of type 1.
+/// Returns the choices with the least records of type 1.
 pub(crate) fn least_by_type_1<C: Chart>(
     alloc: Global,
     chart: &C,
     shape_order: &ShapeOrder,
-) -> Result<Vec<u64>, AllocError>
+) -> Result<LeastChoices, AllocError>
     requires { LeavesChoices (C.county chart.now) shape_order.now }
-    ensures { IfOk result (λ numbers. HaveLeastOnes (C.county chart.now) (choices (C.county chart.now)) numbers.items) }
+    ensures { IfOk result (AreLeastChoices (C.county chart.now) shape_order.now (choices (C.county chart.now))) }
 {
     let places = shape_order.open_places();
     let mut numbers = Vec::new(alloc);
     numbers.push(0)?;
+    let first = NumberedArrangement::new(alloc, shape_order, 0)?;
+    let mut least = LeastChoices { numbers, first };
     let mut ways = 1;
     let mut end = places.len();
     while end > 0 {
         let first = last_shape(shape_order, end);
         let count = count_ways(&places[first..end]);
-        numbers = with_digit(alloc, chart, shape_order, count, ways, &numbers)?;
+        add_digit(alloc, chart, shape_order, count, ways, &mut least)?;
         ways *= count;
         end = first;
     }
-    Ok(numbers)
+    Ok(least)
 }

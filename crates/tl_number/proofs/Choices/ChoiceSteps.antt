@@ -1,5 +1,5 @@
 -- The lesser of two choices, choice by choice.
-use Rattle.tl_number.proofs.Common.{AllKeysContained, Bool, County, Equal, Four, Greater, IfSome, IsCounty, IsNotAfter, IsWithinLimits, Less, List, None, Option, Ordering, Some, Two, [], all_append, all_weaker, ap, arith, arrangement_within, choice_list, choices_cmp, choices_same, chosen_county, cond, decided, false, false≢true, groups_cmp, is_gt, is_le, lesser_choice, most_records, numbered_choice, numbered_is_choice, ones_cmp, ordering_then, polygon_keys, polygons_along, refl, slice_get, subst, suc, sym, take, texts_in_order, true, type_2_by_chain, type_4_by_chain, types_5_to_7_cmp, types_8_to_p_cmp, zero, ℕ, ◌++◌, ◌+◌, ◌∙◌, ◌∷◌, ◌≡◌}
+use Rattle.tl_number.proofs.Common.{AllKeysContained, Bool, County, Equal, Four, Greater, IsCounty, IsNotAfter, IsWithinLimits, Less, List, None, Ordering, Some, Two, [], all_append, all_weaker, ap, arith, arrangement_within, choice_list, choices_cmp, choices_same, chosen_county, cond, decided, false, false≢true, groups_cmp, is_gt, is_le, lesser_choice, most_records, numbered_choice, numbered_is_choice, ones_cmp, ordering_then, polygon_keys, polygons_along, refl, slice_get, subst, suc, sym, take, texts_in_order, true, type_2_by_chain, type_4_by_chain, types_5_to_7_cmp, types_8_to_p_cmp, zero, ℕ, ◌++◌, ◌+◌, ◌∙◌, ◌∷◌, ◌≡◌}
 use Rattle.tl_number.specs.LeastOnes.{IsLeastAmong}
 use Rattle.tl_number.proofs.Choices.LeastNumbers.{lesser_of, not_after_both}
 use Rattle.canonical_form.proofs.Arrangements.ArrangedCounties.{arranged_county}
@@ -18,12 +18,6 @@ greater_from Greater e = refl
 pub of_each : {X Y : Type 0} (P : X → Y → Type 0) (b : Bool) (x y : X) (v w : Y) → P x v → P y w → P (cond b x y) (cond b v w)
 of_each P true x y v w p q = p
 of_each P false x y v w p q = q
-
--- If a value stored for the first of two isn't dropped, it's a value for the one that is taken.
-pub forgotten : {V : Type 0} (P : ℕ → V → Type 0) (b : Bool) (n m : ℕ) (kept : Option V) → IfSome kept (P n)
-    → IfSome (cond b None kept) (P (cond b m n))
-forgotten P true n m kept p = tt
-forgotten P false n m kept p = p
 
 -- The lesser of the least of some choices and the next one is the least of all these.
 pub lesser_least : (county : County) (numbers : List ℕ) (place old next : ℕ) → slice_get numbers place ≡ Some next

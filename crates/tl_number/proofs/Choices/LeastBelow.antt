@@ -22,19 +22,15 @@ contained n ns known = lt-ltb 0 (times nat_cmp n ns) known
 pub contained_all : (P : ℕ → Type 0) (ns : List ℕ) → AllByRecursion P ns → (n : ℕ) → contains nat_cmp n ns ≡ true → P n
 contained_all P ns all n is_in = known_all nat_keys P ns all n (ltb-true 0 (times nat_cmp n ns) is_in)
 
--- a number of the list stays in it
-pub stays_in : (p : Ordering) (n c : ℕ) (numbers : List ℕ) → is_gt p ≡ false → contains nat_cmp c numbers ≡ true
-    → contains nat_cmp c (cond (is_gt p) (n ∷ []) (numbers ++ cond (is_eq p) (n ∷ []) [])) ≡ true
-stays_in Less n c numbers e is_in = contained c (numbers ++ []) (known-left nat_keys c numbers [] (ltb-true 0 (times nat_cmp c numbers) is_in))
-stays_in Equal n c numbers e is_in =
-    contained c (numbers ++ n ∷ []) (known-left nat_keys c numbers (n ∷ []) (ltb-true 0 (times nat_cmp c numbers) is_in))
-stays_in Greater n c numbers e is_in = absurd (false≢true (sym e))
+-- When the next number is added, the first one stays the first, or gives way to it.
+pub first_stays : (p : Ordering) (n : ℕ) (numbers : List ℕ) → 0 < length numbers → is_gt p ≡ false
+    → get_or (cond (is_gt p) (n ∷ []) (numbers ++ cond (is_eq p) (n ∷ []) [])) 0 0 ≡ get_or numbers 0 0
+first_stays p n [] some e = absurd (omega (arith, some))
+first_stays p n (m ∷ numbers) some e = ap (λ b. get_or (cond b (n ∷ []) ((m ∷ numbers) ++ cond (is_eq p) (n ∷ []) [])) 0 0) e
 
-pub comes_in : (p : Ordering) (n : ℕ) (numbers : List ℕ) → is_gt p ≡ true
-    → contains nat_cmp n (cond (is_gt p) (n ∷ []) (numbers ++ cond (is_eq p) (n ∷ []) [])) ≡ true
-comes_in Less n numbers e = absurd (false≢true e)
-comes_in Equal n numbers e = absurd (false≢true e)
-comes_in Greater n numbers e = contained n (n ∷ []) (known-here nat_keys n [])
+pub first_comes : (p : Ordering) (n : ℕ) (numbers : List ℕ) → is_gt p ≡ true
+    → get_or (cond (is_gt p) (n ∷ []) (numbers ++ cond (is_eq p) (n ∷ []) [])) 0 0 ≡ n
+first_comes p n numbers e = ap (λ b. get_or (cond b (n ∷ []) (numbers ++ cond (is_eq p) (n ∷ []) [])) 0 0) e
 
 -- ---- each digit with each number
 
@@ -80,6 +76,13 @@ module _ (ways : ℕ) where
   some_combined [] numbers h l = absurd (omega (arith, h))
   some_combined (digit ∷ digits) [] h l = absurd (omega (arith, l))
   some_combined (digit ∷ digits) (number ∷ numbers) h l = omega arith
+
+  -- the first of them has both firsts
+  pub first_combined : (digits numbers : List ℕ) → 0 < length digits → 0 < length numbers
+      → get_or (combined ways digits numbers) 0 0 ≡ get_or digits 0 0 * ways + get_or numbers 0 0
+  first_combined [] numbers h l = absurd (omega (arith, h))
+  first_combined (digit ∷ digits) [] h l = absurd (omega (arith, l))
+  first_combined (digit ∷ digits) (number ∷ numbers) h l = refl
 
   -- which stays below the product of the ways
   pub few_combined : (count bound : ℕ) → count * ways ≤ bound → (digits numbers : List ℕ) → AllByRecursion (λ digit. digit < count) digits

@@ -1,8 +1,7 @@
-use Rattle.tl_number.proofs.Common.{AllKeysContained, County, IfOk-weaker, IsCounty, IsLeastBelow, IsNotAfter, IsWithinLimits, List, ap, choice_list, choices, contains, get_or, length, most_choices, most_records, nat_cmp, not_after_itself, part_of, part_with, polygon_keys, polygons_along, subst, sym, wanted_feats, ℕ, ◌<◌, ◌∙◌, ◌≡◌, ◌≤◌}
+use Rattle.tl_number.proofs.Common.{AllKeysContained, IfOk-weaker, IsCounty, IsLeastBelow, IsWithinLimits, ap, choices, contains, most_choices, most_records, nat_cmp, part_of, part_with, polygon_keys, polygons_along, subst, sym, wanted_feats, ℕ, ◌∙◌, ◌≡◌, ◌≤◌}
 use Rattle.tl_number.proofs.Ties.SmallCounty.{small_is, small_sides, small_within}
-use Rattle.tl_number.specs.LeastOnes.{HaveLeast, HaveLeastOnes, HaveSameOnes}
+use Rattle.tl_number.specs.LeastOnes.{HaveLeast, HaveSameOnes}
 use Rattle.tl_number.proofs.Ties.OrderedCounty.{OrderedCounty}
-use Rattle.tl_number.proofs.Choices.LeastBelow.{lone_all}
 use Rattle.tl_number.proofs.Choices.LeastOnes.{least_of_these, least_same}
 use Rattle.tl_number.proofs.Ties.NarrowedChoices.{narrow}
 use Rattle.tl_number.proofs.Ties.NarrowedOrder.{compared, compared_choices, have_least_there, have_same_there, kept_lands_narrow, kept_tlids_narrow, least_of_part}
@@ -12,30 +11,15 @@ use Rattle.tl_number.specs.SmallCounty.{small_county}
 use Rattle.tl_number.proofs.least_choice.least_number.Goals.{In_ok-tables}
 use Rattle.tl_number.proofs.least_choice.least_number.Goals as goal
 
-pub returns-then-least-eq1 : goal.returns-then-least-eq1
-returns-then-least-eq1 g c =
-    let county = g.C.Chart.county c.args.chart.now in
-    let numbers = c.as_slice-least.result.now in
-    let number : ℕ = get_or numbers 0 0 in
-    least_of_these record {
-      county = county;
-      shapes = c.args.shape_order.now;
-      known = c.requires;
-      is = g.met.C.Chart.is_county c.args.chart.now;
-      within = g.met.C.Chart.within_limits c.args.chart.now;
-    } numbers (subst (HaveLeastOnes county (choices county)) (sym c.as_slice-least.ensures.value) c.in_ok-numbers.ensures) number
-    (lone_all (λ m. IsNotAfter (choice_list county number) (choice_list county m)) numbers c.if-least-eq1.true
-    (not_after_itself (choice_list county number)))
-
 pub part_tables-requires : goal.part_tables-requires
-part_tables-requires g c = c.requires.sides
+part_tables-requires g c = c.requires.known.sides
 
 -- the county with its order of shapes
 abbrev ordered : (g : Over) (c : In_ok-tables g) → OrderedCounty
 ordered g c = record {
   county = g.C.Chart.county c.args.chart.now;
   shapes = c.args.shape_order.now;
-  known = c.requires;
+  known = c.requires.known;
   is = g.met.C.Chart.is_county c.args.chart.now;
   within = g.met.C.Chart.within_limits c.args.chart.now;
 }
@@ -68,7 +52,7 @@ pub least_in_part-found-requires-clause-few : goal.least_in_part-found-requires-
 least_in_part-found-requires-clause-few g c =
     let there = (goal.at.least_in_part-found-requires-clause-few g c).In_ok-tables in
     subst (λ part. choices part ≤ most_choices) (sym (c.new.ensures ∙ is_compared g there))
-    (subst (λ count. count ≤ most_choices) (sym (compared_choices (ordered g there))) c.requires.few)
+    (subst (λ count. count ≤ most_choices) (sym (compared_choices (ordered g there))) c.requires.known.few)
 
 pub least_in_part-found-requires-clause-sides : goal.least_in_part-found-requires-clause-sides
 least_in_part-found-requires-clause-sides g c =
@@ -76,24 +60,18 @@ least_in_part-found-requires-clause-sides g c =
     subst (λ part. AllKeysContained (polygons_along part.chains) (polygon_keys part)) (sym (c.new.ensures ∙ is_compared g there))
     (small_sides (narrow (ordered g there)).county c.args.shape_order.now (narrow (ordered g there)).known (narrow (ordered g there)).is)
 
-pub least_in_part-found-requires-clause-some : goal.least_in_part-found-requires-clause-some
-least_in_part-found-requires-clause-some g c = subst (λ numbers. 0 < length numbers) (sym c.as_slice-least.ensures.value) c.in_ok-numbers.ensures.some
-
 pub least_in_part-found-requires-clause-ones : goal.least_in_part-found-requires-clause-ones
 least_in_part-found-requires-clause-ones g c =
     let there = (goal.at.least_in_part-found-requires-clause-ones g c).In_ok-tables in
-    subst (λ (p : County × List ℕ). HaveSameOnes p.0 p.1)
-    (λ i. (sym (c.new.ensures ∙ is_compared g there) i, sym c.as_slice-least.ensures.value i))
-    (have_same_there (ordered g there) c.in_ok-numbers.numbers.items
-    (least_same (ordered g there) (choices (g.C.Chart.county c.args.chart.now)) c.in_ok-numbers.numbers.items c.in_ok-numbers.ensures))
+    subst (λ part. HaveSameOnes part c.args.numbers.now) (sym (c.new.ensures ∙ is_compared g there))
+    (have_same_there (ordered g there) c.args.numbers.now
+    (least_same (ordered g there) (choices (g.C.Chart.county c.args.chart.now)) c.args.numbers.now c.requires.ones))
 
 pub least_in_part-found-requires-clause-least : goal.least_in_part-found-requires-clause-least
 least_in_part-found-requires-clause-least g c =
     let there = (goal.at.least_in_part-found-requires-clause-least g c).In_ok-tables in
-    subst (λ (p : County × List ℕ). HaveLeast p.0 p.1)
-    (λ i. (sym (c.new.ensures ∙ is_compared g there) i, sym c.as_slice-least.ensures.value i))
-    (have_least_there (ordered g there) c.in_ok-numbers.numbers.items
-    (least_of_these (ordered g there) c.in_ok-numbers.numbers.items c.in_ok-numbers.ensures))
+    subst (λ part. HaveLeast part c.args.numbers.now) (sym (c.new.ensures ∙ is_compared g there))
+    (have_least_there (ordered g there) c.args.numbers.now (least_of_these (ordered g there) c.args.numbers.now c.requires.ones))
 
 pub returns : goal.returns
 returns g c =

@@ -1,11 +1,11 @@
 -- the least of the choices that the places from `end` on leave
 use Rattle.std.proofs.Common.{drop, length, take, ◌≡◌, ◌≤◌}
-use Rattle.tl_number.specs.LeastOnes.{ArePlacesApart, HaveLeastOnes, ways_of}
+use Rattle.tl_number.specs.LeastOnes.{AreLeastChoices, ArePlacesApart, ways_of}
 use Rattle.tl_number.proofs.type_1_choices.least_by_type_1.Given as goal
 
 abbrev pub invariant-loop-end : goal.invariant-loop-end
 invariant-loop-end g l = record {
-  least : HaveLeastOnes (g.C.Chart.county l.chart) l.ways l.numbers.items;
+  least : AreLeastChoices (g.C.Chart.county l.chart) l.shape_order l.ways l.least;
   ways : l.ways ≡ ways_of (drop l.end l.shape_order.places);
   end : l.end ≤ length l.shape_order.places;
   apart : ArePlacesApart (length l.shape_order.by_shape) (take l.end l.shape_order.places) (drop l.end l.shape_order.places);

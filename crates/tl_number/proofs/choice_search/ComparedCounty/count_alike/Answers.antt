@@ -21,8 +21,8 @@ bounds-others-place g c =
     omega (
       arith,
       c.loop-place-test.true,
-      ap length (c.as_slice-chains.ensures.value ∙ c.requires.one),
-      ap length (c.as_slice-others.ensures.value ∙ c.requires.other),
+      ap length (c.directed_chains-chains.ensures ∙ c.requires.one.chains),
+      ap length (c.directed_chains-others.ensures ∙ c.requires.other.chains),
       count_in o c.args.one.now.number,
       count_in o c.args.other.now.number,
     )
@@ -34,10 +34,10 @@ loop-place-preserved g c =
     let k = c.args.other.now.number in
     let place = c.loop-place.place in
     let none : DirectedChain = record { place = 0; turned = false } in
-    let chains = c.as_slice-chains.result.now in
-    let others = c.as_slice-others.result.now in
-    let one_is : chains ≡ directed_in o n = c.as_slice-chains.ensures.value ∙ c.requires.one in
-    let other_is : others ≡ directed_in o k = c.as_slice-others.ensures.value ∙ c.requires.other in
+    let chains = c.directed_chains-chains.result.now in
+    let others = c.directed_chains-others.result.now in
+    let one_is : chains ≡ directed_in o n = c.directed_chains-chains.ensures ∙ c.requires.one.chains in
+    let other_is : others ≡ directed_in o k = c.directed_chains-others.ensures ∙ c.requires.other.chains in
     let there : place < length chains = omega (arith, c.loop-place-test.true) in
     let there_too : place < length others = omega (arith, there, ap length one_is, ap length other_is, count_in o n, count_in o k) in
     let holds : c.are_alike-same.result ≡ true = search rules in

@@ -1,14 +1,11 @@
--- The choice with the least text among those so far, which has the records of type 1 that all have; if a county is arranged, it's the
--- county of this choice.
-use Rattle.tl_number.proofs.Common.{AllByRecursion, Equal, IfSome, IsChosen, arranged_county, chosen_county, ones_cmp, take, ◌≡◌}
+-- the choice with the least text among those so far, which has the records of type 1 that all have
+use Rattle.tl_number.proofs.Common.{AllByRecursion, Equal, IsArrangedChoice, ones_cmp, take, ◌≡◌}
 use Rattle.tl_number.specs.LeastOnes.{IsLeastAmong}
 use Rattle.tl_number.proofs.choice_search.ComparedCounty.search_least.Given as goal
 
 abbrev pub invariant-loop-place : goal.invariant-loop-place
 invariant-loop-place g l = record {
-  chosen : IsChosen l.self.shape_order.now l.least;
+  arranged : IsArrangedChoice (g.C.Chart.county l.self.classes.now.chart.now) l.self.shape_order.now l.least;
   least : IsLeastAmong (g.C.Chart.county l.self.classes.now.chart.now) (take l.place l.numbers) l.least.number;
   tied : AllByRecursion (λ m. ones_cmp (g.C.Chart.county l.self.classes.now.chart.now) l.least.number m ≡ Equal) l.numbers;
-  other : IsChosen l.self.shape_order.now l.other;
-  arranged : IfSome l.arranged (λ view. arranged_county view ≡ chosen_county (g.C.Chart.county l.self.classes.now.chart.now) l.least.number);
 }
