@@ -158,6 +158,18 @@ def test_a_county_of_a_name_that_is_gone(four: Four) -> None:
         assert listed("m") == manifest({**four, "in/deep/b": b"another map\n"})
 
 
+def test_a_double_that_a_stopped_run_has_left(room: Path, fake: Path) -> None:
+    """A run that was killed when it had noted the file with its zip's line: the next one notes it once."""
+    complete("in/TGR01001", b"1 one map\n")
+    zip_up("in/TGR01001")
+    put("in/TGR01001.txt", b"1 one map\n")
+    assert len([*tigercanon.manifest("in", output="m")]) == 2
+    whole = Path("m").read_bytes()
+    put("m", whole.replace(b"form 1\n", b"form 1\n# ? -  failed: not checked yet  in/TGR01001.txt\n"))
+    assert [each.is_double for each in tigercanon.manifest("in", output="m")] == [True]
+    assert Path("m").read_bytes() == whole
+
+
 def test_verifications_at_once(four: Four) -> None:
     """They only look whether a run has the lock, and don't keep each other out."""
     put("m", manifest(four).encode())

@@ -181,7 +181,7 @@ class Survey:
         self.judging.tally.doubles += 1
         if self.manifest:
             self.manifest.drop(county.stem)
-            if first.sources:
+            if first.sources and not first.sources.endswith(f", {self.sources[county.stem]}"):
                 line = first._replace(sources=f"{first.sources}, {self.sources[county.stem]}")
                 self.manifest.add(line)
         note = f"the same map as {first.stem}, which is counted once"
