@@ -189,8 +189,8 @@ def remove_stale_folders() -> None:
 
 def remove_stale_parts(stem: str) -> None:
     """Removes what runs that were killed have left of a file."""
-    folder, name = os.path.split(stem)
-    part = re.compile(rf"{re.escape(name)}\.[0-9a-f]+\.part")
+    folder, base = os.path.split(stem)
+    part = re.compile(rf"{re.escape(base)}\.[0-9a-f]+\.part")
     for name in filter(part.fullmatch, os.listdir(folder)):
         path = Path(folder, name)
         with suppress(OSError):  # a run may hold it
