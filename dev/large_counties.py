@@ -282,13 +282,15 @@ def hostile(count: int) -> dict[str, County]:
         "300 landmarks of 14 links": parks(300, 2 * TIED),
         "1,000 landmarks of 14 links": parks(1_000, 2 * TIED),
         "400 landmarks on fixed chains": landmarks_along(count, 400),
+        "2 fixed chains with 4,900 names": spelled(named_chains(2), share_slots=True),
+        "20 fixed chains with 4,900 names": spelled(named_chains(20), share_slots=True),
     }
 
 
 def slowest() -> dict[str, County]:
-    """The counties of a few megabytes that take longest, too long for a test."""
+    """Counties of a few megabytes that take longer than a test may."""
     found = {"2,000 names that share a slot": further_names(1_000, 2_000, 2_000 * TIED)}
-    found.update({f"{fixed} fixed chains with 4,900 names that share a slot": named_chains(fixed) for fixed in (2, 20)})
+    found.update({f"{fixed} fixed chains with 4,900 names of the seven": named_chains(fixed, of_all=True) for fixed in (1, 20)})
     return {name: spelled(county, share_slots=True) for name, county in found.items()}
 
 
@@ -299,12 +301,13 @@ def further_names(count: int, each: int, alike: int) -> maps.County:
     return ties(count, named, [{"FILE": maps.FILE, "FENAME": f"Ash {number // alike:04}"} for number in range(TIED * each)])
 
 
-def named_chains(fixed: int) -> maps.County:
-    """Seven chains of one shape with a few names. Each name first appears on another chain, which has many more names."""
+def named_chains(fixed: int, of_all: bool = False) -> maps.County:
+    """Seven chains of one shape with a few names. Each name first appears on another chain, which has many more names. The seven have
+    these too, if they are of all."""
     more = list(range(1, FURTHER_NAMES))
     own = [0, *range(FURTHER_NAMES, FURTHER_NAMES + fixed - 1)]
     names = [{"FILE": maps.FILE, "FENAME": "Ash"} for _ in range(FURTHER_NAMES + fixed - 1)]
-    county = ties(1_000, [{"names": own} for _ in range(TIED)], names)
+    county = ties(1_000, [{"names": own + more if of_all else own} for _ in range(TIED)], names)
     for chain, name in zip(county.chains, own):
         chain.names = [name, *more]
     return county
