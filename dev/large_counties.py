@@ -290,7 +290,7 @@ def hostile(count: int) -> dict[str, County]:
 def slowest() -> dict[str, County]:
     """Counties of a few megabytes that take longer than a test may."""
     found = {"2,000 names that share a slot": further_names(1_000, 2_000, 2_000 * TIED)}
-    found.update({f"{fixed} fixed chains with 4,900 names of the seven": named_chains(fixed, of_all=True) for fixed in (1, 20)})
+    found.update({f"{fixed} fixed chains with 4,900 names of the seven": named_chains(fixed, of_all=True) for fixed in (2, 20)})
     return {name: spelled(county, share_slots=True) for name, county in found.items()}
 
 
