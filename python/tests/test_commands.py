@@ -94,15 +94,17 @@ def test_the_program_has_the_same_version() -> None:
 class TestProgram:
     """The program is the named one, else the one built here, else tigercanon on the PATH."""
 
-    @pytest.mark.parametrize("place", ["bin", "packages/tigercanon/bin", None])
+    @pytest.mark.parametrize("place", ["bin", "packages/tigercanon/bin", "commands", None])
     def test_an_installed_package(self, room: Path, fake: Path, place: str | None) -> None:
-        """Without a clone around it: the program is on the PATH, or inside the package, as a wheel has it; or there is none."""
+        """Without a clone around it: the program is on the PATH, inside the package, as a wheel has it, or beside the command; or there is
+        none."""
         shutil.copytree(PACKAGE / "tigercanon", "packages/tigercanon")
+        command = put("commands/tigercanon-tools", b"import sys\n\nfrom tigercanon.__main__ import main\n\nsys.exit(main())\n")
         complete("in/a", b"x\n")
         if place:
             os.renames(fake, f"{place}/tigercanon")
         env = {"PYTHONPATH": f"{room}/packages", "PATH": f"{room}/bin:/bin:/usr/bin", "ROOM": str(room), "TMPDIR": f"{room}/tmp"}
-        status, out, err = run([*TOOLS, "fingerprint", "in"], env=env)
+        status, out, err = run([sys.executable, command, "fingerprint", "in"], env=env)
         why = "there is no program tigercanon here: ./tigercanon --prove builds it, and --program names another one"
         wanted = (0, manifest({"in/a": b"x\n"})) if place else (2, f"{NAME}{why}\n")
         assert (status, (out if place else err).decode()) == wanted
