@@ -51,6 +51,13 @@ def test_manifest(four: Four) -> None:
         next(tigercanon.manifest("in", update=True))
 
 
+def test_open_files_after_a_manifest(four: Four) -> None:
+    """The calls leave neither the manifest nor its lock open."""
+    assert len([*tigercanon.manifest("in", output="m")]) == len([*tigercanon.verify("m", "in")]) == len(four)
+    opened = subprocess.run(["ls", "-l", f"/proc/{os.getpid()}/fd"], capture_output=True, text=True).stdout
+    assert f"{os.getcwd()}/m" not in opened and "0 -> " in opened
+
+
 def test_verify(four: Four) -> None:
     put("m", manifest(four).encode())
     complete("in/b", b"county x\n")
