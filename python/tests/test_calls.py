@@ -4,6 +4,7 @@ import os
 import shutil
 import subprocess
 import sys
+import tempfile
 import threading
 import types
 import typing
@@ -100,6 +101,17 @@ def test_duplicates(room: Path) -> None:
     put("m", "".join(["# tigercanon form 1\n", *(f"{number:064}  {name}\n" for name, number in names.items())]).encode())
     groups = [(group.fingerprint[-1], group.counties, group.is_different) for group in tigercanon.duplicates("m")]
     assert groups == [("1", ("a/TGR01001", "b/TGR01001"), False), ("2", ("a/TGR01003", "a/TGR01005"), True)]
+
+
+def test_where_a_county_is_unpacked(room: Path, monkeypatch: pytest.MonkeyPatch) -> None:
+    """In memory, if 64 MiB stay free there, and else in TMPDIR."""
+    monkeypatch.setattr(tempfile, "tempdir", None)
+    monkeypatch.setattr(shutil, "disk_usage", lambda _: types.SimpleNamespace(free=1 << 30))
+    most = (1 << 30) - (64 << 20)
+    with Resources() as resources:
+        assert [Path(resources.place(size)).parents[1] for size in (most, most + 1)] == [room / "shm", room / "tmp"]
+        monkeypatch.setenv("TIGERCANON_SHM", "")
+        assert Path(resources.place(0)).parents[1] == room / "tmp"
 
 
 def at_work(program: Path) -> int:
