@@ -240,7 +240,7 @@ def test_of_two_outputs_one_is_not_whole(room: Path, monkeypatch: pytest.MonkeyP
 
 
 def test_what_killed_runs_have_left_beside_a_file(room: Path) -> None:
-    """It doesn't stand in the way, even if the run had the same number, and is removed once it is old and nobody holds it."""
+    """It doesn't stop the next run, even one with the same process number. It is removed once it is old and no run holds it."""
     kept = {f".new.{os.getpid()}.part", ".new.2.part", ".new.notes.part", ".newer.3.part"}
     for name in (*kept, ".new.1.part", ".new.4.part"):
         put(name, b"old")
