@@ -220,6 +220,7 @@ def tied(count: int) -> Iterator[tuple[str, County]]:
     yield "none", twins(count, {})
     yield "one pair", twins(count, {TIED_PLACE: ("Ash", "Birch")})
     yield "twelve pairs", twins(count, dict.fromkeys(range(100, 1_300, 100), ("Ash", "Birch")))
+    yield "twelve pairs, one alike", twins(count, {100: ("Main", "Main"), **dict.fromkeys(range(200, 1_300, 100), ("Ash", "Birch"))})
     yield "four pairs alike", twins(count, dict.fromkeys(range(100, 500, 100), ("Main", "Main")))
     # One has no start node, and is the first, since a blank comes before any number. Each order of all others has the same text.
     yield "nodes", spelled(ties(count, [{"start": None}, *({} for _ in range(TIED - 1))]))

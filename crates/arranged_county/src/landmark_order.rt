@@ -105,7 +105,7 @@ fn sorted_places(
     places_of(alloc, &sorted)
 }
 
-/// Returns links with their landmarks in the order of these places, and with LANDs counted from 1.
+/// Returns the links of the landmarks at these places, landmark after landmark, with LANDs counted from 1.
 fn links_along(
     alloc: Global,
     lists: &LinkLists<'_>,
@@ -124,7 +124,7 @@ fn links_along(
     Ok(links)
 }
 
-/// Returns the landmarks of a county in this arrangement, which numbers its polygons in this way.
+/// Returns the landmarks of a county in this arrangement. Its polygons are numbered in the order of `polygons`.
 pub(crate) fn arrange_landmarks<C: Chart>(
     alloc: Global,
     classes: &Classes<'_, C>,

@@ -7,3 +7,4 @@ pub mod MovedParts
 pub mod LeastOnes
 pub mod PlacesApart
 pub mod DigitsApart
+pub mod StillOpen

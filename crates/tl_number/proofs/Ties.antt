@@ -3,7 +3,7 @@ pub mod Keys
 pub mod Ranks
 pub mod Places
 pub mod WantedMoves
-pub mod OrderedCounty
+pub mod ComparedChoices
 pub mod KeyKinds
 pub mod StillKeys
 pub mod SearchSteps
@@ -26,3 +26,4 @@ pub mod Narrowed
 pub mod NarrowedChoices
 pub mod NarrowedNames
 pub mod NarrowedOrder
+pub mod ChoicesLeft

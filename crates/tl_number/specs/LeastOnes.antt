@@ -1,17 +1,15 @@
 -- The choices with the least records of type 1, digit by digit of their numbers.
-use Rattle.std.specs.Prelude.{List, [], false, flat_map, get_or, length, map, true, ℕ, ◌*◌, ◌+◌, ◌<◌, ◌∷◌, ◌≡◌, ◌≤◌}
+use Rattle.std.specs.Prelude.{List, false, get_or, length, true, ℕ, ◌*◌, ◌+◌, ◌<◌, ◌≡◌}
 use Rattle.std.specs.List.{AllByRecursion}
 use Rattle.std.specs.Ordering.{is_gt, nat_cmp}
 use Rattle.std.specs.declared.cmp.Ordering.{Ordering}
 use Rattle.std.specs.declared.cmp.Ordering.TheVariants.{Equal}
 use Rattle.tl_layout.specs.declared.record_type.Record.{Record}
 use Rattle.ordered_lists.specs.Orders.{contains}
-use Rattle.county_chart.specs.Choices.{choices, ways_at}
+use Rattle.county_chart.specs.Choices.{choices}
 use Rattle.county_chart.specs.County.{County}
 use Rattle.county_chart.specs.ShapeOrder.{OrderOfShapes}
-use Rattle.county_chart.specs.declared.open_place.OpenPlace.{OpenPlace}
 use Rattle.canonical_form.specs.Canonical.{IsNotAfter}
-use Rattle.canonical_form.specs.MovedChains.{AreWithin}
 use Rattle.canonical_form.specs.LeastNumber.{IsLeastBelow, choice_list}
 use Rattle.record_groups.specs.RecordOrder.{records_cmp}
 use Rattle.record_groups.specs.TypeOneOrder.{ones_cmp, ones_of}
@@ -48,22 +46,6 @@ abbrev pub IsDigitApart : County → ℕ → Type 0
 IsDigitApart county ways = (digit n m : ℕ) → n < ways → m < ways
     → ones_cmp county (digit * ways + n) (digit * ways + m) ≡ ones_cmp county n m
 
--- earlier open places move chains before an edge, and later ones after it
-pub record ArePlacesApart (count : ℕ) (front back : List OpenPlace) : Type 0 where
-  pub edge : ℕ
-  pub inside : edge ≤ count
-  pub ends : AreWithin edge front
-  pub begins : AllByRecursion (λ at. edge ≤ at.place) back
-
--- how many choices open places leave
-abbrev pub ways_of : List OpenPlace → ℕ
-ways_of [] = 1
-ways_of (at ∷ places) = at.alike * ways_at at * ways_of places
-
--- each digit before each number, where the digit counts this many ways
-abbrev pub combined : ℕ → List ℕ → List ℕ → List ℕ
-combined ways digits numbers = flat_map (λ digit. map (λ number. digit * ways + number) numbers) digits
-
 -- all choices of a list have the same records of type 1
 abbrev pub HaveSameOnes : County → List ℕ → Type 0
 HaveSameOnes county numbers = AllByRecursion (λ n. AllByRecursion (λ m. ones_cmp county n m ≡ Equal) numbers) numbers
@@ -71,6 +53,11 @@ HaveSameOnes county numbers = AllByRecursion (λ n. AllByRecursion (λ m. ones_c
 -- no choice of a list has a lesser text than this choice
 abbrev pub IsLeastAmong : County → List ℕ → ℕ → Type 0
 IsLeastAmong county numbers n = AllByRecursion (λ m. IsNotAfter (choice_list county n) (choice_list county m)) numbers
+
+-- a choice of a list, and none of the list has a lesser text
+pub record IsLeastOf (county : County) (numbers : List ℕ) (n : ℕ) : Type 0 where
+  pub there : contains nat_cmp n numbers ≡ true
+  pub least : IsLeastAmong county numbers n
 
 -- the least choice of a list is the least of all
 abbrev pub HaveLeast : County → List ℕ → Type 0

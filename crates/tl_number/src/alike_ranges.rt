@@ -64,7 +64,7 @@ pub(crate) fn alike_chains<C: Chart>(
 ) -> Result<Vec<AlikeChain>, AllocError>
     ensures { IfOk result (λ alike. AreAlike (C.county chart.now) alike.items) }
 {
-    let chains = open_chains(alloc, shape_order)?;
+    let chains = open_chains(alloc, shape_order.by_shape(), shape_order.open_places())?;
     let mut alike = Vec::new(alloc);
     for chain in &chains {
         let place = chain.place;

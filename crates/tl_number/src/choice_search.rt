@@ -7,12 +7,11 @@ ghost use Rattle.std.specs.Prelude.{IfOk, cond, length, ◌<◌, ◌≡◌};
 ghost use Rattle.std.specs.Ordering.{is_gt};
 ghost use Rattle.std.specs.declared.cmp.Ordering.TheVariants.{Equal};
 ghost use Rattle.tl_number.specs.ChoiceSearch.{IsArrangedChoice, LeavesChoices, lesser_choice};
-ghost use Rattle.canonical_form.specs.LeastNumber.{IsLeastBelow, choices_cmp};
+ghost use Rattle.canonical_form.specs.LeastNumber.{choices_cmp};
 ghost use Rattle.record_groups.specs.TypeOneOrder.{ones_cmp};
 ghost use Rattle.tl_number.specs.AlikeRanges.{AreAlike};
-ghost use Rattle.tl_number.specs.LeastOnes.{HaveLeast, HaveSameOnes, IsLeastAmong};
+ghost use Rattle.tl_number.specs.LeastOnes.{HaveSameOnes, IsLeastOf};
 ghost use Rattle.arranged_county.specs.Views.{classed_county};
-ghost use Rattle.county_chart.specs.Choices.{choices};
 
 use crate::alike_ranges::{AlikeChain, alike_chains};
 use crate::arranged_order::compare_arranged;
@@ -110,7 +109,7 @@ impl<'a, C: Chart> ComparedCounty<'_, 'a, C> {
         requires alike { AreAlike (classed_county self.now.classes.now) self.now.alike.now }
         requires some { 0 < length numbers.now }
         requires ones { HaveSameOnes (classed_county self.now.classes.now) numbers.now }
-        ensures { IfOk result (IsLeastAmong (classed_county self.now.classes.now) numbers.now) }
+        ensures { IfOk result (IsLeastOf (classed_county self.now.classes.now) numbers.now) }
     {
         let mut least = self.arrange(alloc, numbers[0])?;
         for place in 1..numbers.len() {
@@ -123,7 +122,7 @@ impl<'a, C: Chart> ComparedCounty<'_, 'a, C> {
     }
 }
 
-/// Returns the number of the choice with the least text. It is in `numbers`, whose choices have the same records of type 1.
+/// Returns the number of the choice with the least text among these, which have the same records of type 1.
 pub(crate) fn least_among_choices<C: Chart>(
     alloc: Global,
     chart: &C,
@@ -133,8 +132,7 @@ pub(crate) fn least_among_choices<C: Chart>(
     requires known { LeavesChoices (C.county chart.now) shape_order.now }
     requires some { 0 < length numbers.now }
     requires ones { HaveSameOnes (C.county chart.now) numbers.now }
-    requires least { HaveLeast (C.county chart.now) numbers.now }
-    ensures { IfOk result (IsLeastBelow (C.county chart.now) (choices (C.county chart.now))) }
+    ensures { IfOk result (IsLeastOf (C.county chart.now) numbers.now) }
 {
     let alike = alike_chains(alloc, chart, shape_order)?;
     let classes = Classes::for_many(alloc, chart)?;

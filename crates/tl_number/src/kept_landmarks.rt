@@ -1,7 +1,7 @@
 //! The kept landmarks: those whose LANDs and links can differ between choices.
 //!
 //! Landmarks are ordered by their contents first. So a choice moves only landmarks that have the same contents as one with a polygon that
-//! first appears at an open place. Landmarks are kept by CFCC and LANAME, which all landmarks with the same contents share.
+//! first appears at a place that is still open. Landmarks are kept by CFCC and LANAME, which all landmarks with the same contents share.
 
 ghost use Rattle.std.specs.List.{list_any, range_with_len};
 ghost use Rattle.std.specs.Prelude.{IfOk, OnOk, filter, length, option_map, option_to_list, ◌++◌, ◌<◌, ◌^◌, ◌≡◌};
@@ -14,12 +14,12 @@ ghost use Rattle.tl_number.specs.KeptLandmarks.{first_name, has_name, kept_landm
 use crate::key_groups::{PolygonKeys, push_if_some};
 use crate::moved_keys::any_moves_keys;
 use crate::open_keys::{has_key, interned, see_along};
+use crate::still_open::StillOpen;
 use arranged_county::Interner;
 use county_chart::{Chart, Listed, PolygonKey, push_all};
 use ordered_lists::{place_of, sort_distinct};
 use std::alloc::{AllocError, Global};
 use tl_layout::Body7;
-use tl_profile::ShapeOrder;
 
 /// CFCC and LANAME of a landmark.
 type LandmarkName = ([u8; 3], [u8; 30]);
@@ -157,31 +157,31 @@ fn places_named<C: Chart>(
     Ok(places)
 }
 
-/// Returns the polygons that first appear at an open place.
+/// Returns the polygons that first appear at a place that is still open.
 fn opened<C: Chart>(
     alloc: Global,
     chart: &C,
-    shape_order: &ShapeOrder,
+    still_open: &StillOpen,
 ) -> Result<Vec<PolygonKey>, AllocError>
-    ensures { IfOk result (λ polygons. polygons.items ≡ opened_polygons (C.county chart.now) shape_order.now) }
+    ensures { IfOk result (λ polygons. polygons.items ≡ opened_polygons (C.county chart.now) still_open.now) }
 {
-    let groups = PolygonKeys(chart, shape_order.by_shape());
-    let (_, polygons) = see_along(alloc, shape_order.open_places(), &groups)?;
+    let groups = PolygonKeys(chart, still_open.by_shape());
+    let (_, polygons) = see_along(alloc, still_open.open_places(), &groups)?;
     Ok(polygons)
 }
 
-/// Returns the places of the landmarks with the name of one that has a polygon which first appears at an open place.
+/// Returns the places of the landmarks with the name of one that has a polygon which first appears at a place that is still open.
 fn places_opened<C: Chart>(
     alloc: Global,
     chart: &C,
-    shape_order: &ShapeOrder,
+    still_open: &StillOpen,
 ) -> Result<Vec<u32>, AllocError>
     requires { length (C.county chart.now).landmarks < 2 ^ 32 }
     ensures { IfOk result (λ places. places.items
-        ≡ filter (λ place. has_name (names_linked (C.county chart.now) (opened_polygons (C.county chart.now) shape_order.now)) (bodies_at (C.county chart.now) place))
+        ≡ filter (λ place. has_name (names_linked (C.county chart.now) (opened_polygons (C.county chart.now) still_open.now)) (bodies_at (C.county chart.now) place))
         (range_with_len 0 (length (C.county chart.now).landmarks))) }
 {
-    let keys = opened(alloc, chart, shape_order)?;
+    let keys = opened(alloc, chart, still_open)?;
     let polygons = interned(alloc, &keys)?;
     let mut names = names_with(alloc, chart, &polygons)?;
     sort_distinct(&mut names);
@@ -192,16 +192,16 @@ fn places_opened<C: Chart>(
 pub(crate) fn kept_landmarks<C: Chart>(
     alloc: Global,
     chart: &C,
-    shape_order: &ShapeOrder,
+    still_open: &StillOpen,
 ) -> Result<Vec<u32>, AllocError>
     requires few { length (C.county chart.now).landmarks < 2 ^ 32 }
-    requires within { AreWithin (length shape_order.now.by_shape) shape_order.now.places }
-    ensures { IfOk result (λ places. places.items ≡ kept_landmarks (C.county chart.now) shape_order.now) }
+    requires within { AreWithin (length still_open.now.by_shape) still_open.now.places }
+    ensures { IfOk result (λ places. places.items ≡ kept_landmarks (C.county chart.now) still_open.now) }
 {
-    let polygons = PolygonKeys(chart, shape_order.by_shape());
-    let moves = any_moves_keys(alloc, shape_order.open_places(), &polygons)?;
+    let polygons = PolygonKeys(chart, still_open.by_shape());
+    let moves = any_moves_keys(alloc, still_open.open_places(), &polygons)?;
     if !moves {
         return Ok(Vec::new(alloc));
     }
-    places_opened(alloc, chart, shape_order)
+    places_opened(alloc, chart, still_open)
 }

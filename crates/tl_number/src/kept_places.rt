@@ -1,10 +1,12 @@
 //! The kept chains: comparing only them compares the choices of a county.
 //!
-//! Choices can differ at open places, and in the numbers of nodes, polygons and names that chains at open places have. These keys are
-//! wanted. The chains at open places are kept, and for each wanted key the first chain at a fixed place that has it. The polygons
-//! of kept landmarks are wanted too. Of the names of a kept chain only the wanted ones are kept.
+//! The choices that are left can differ at places that are still open, and in the numbers of nodes, polygons and names that the chains
+//! there have. These keys are wanted. The chains at all open places are kept, and for each wanted key the first chain that has it where all
+//! these choices have the same one. The polygons of kept landmarks are wanted too. Of the names of a kept chain only the wanted ones are
+//! kept.
 
 ghost use Rattle.std.specs.Prelude.{IfOk, OnOk, flat_map, length, ◌++◌, ◌+◌, ◌<◌, ◌||◌, ◌≡◌};
+ghost use Rattle.canonical_form.specs.MovedChains.{AreWithin};
 ghost use Rattle.canonical_form.specs.DirectedChains.{HasChainsOf};
 ghost use Rattle.canonical_form.specs.Growth.{first_seen, first_seen_after};
 ghost use Rattle.county_chart.specs.CountyRules.{chain_polygons};
@@ -23,10 +25,11 @@ use crate::key_groups::{FeatKeys, NodeKeys, PolygonKeys};
 use crate::key_search::{KeySearch, search_place};
 use crate::open_keys::{is_open_at, keys_of};
 use crate::part_tables::keys_at;
+use crate::still_open::StillOpen;
 use arranged_county::{Interner, both};
 use county_chart::{Chart, DirectedChain, Lands, PolygonKey};
 use std::alloc::{AllocError, Global};
-use tl_profile::ShapeOrder;
+use tl_profile::{OpenPlace, ShapeOrder};
 
 /// The kept chains and landmarks of a county, and the names that kept chains keep.
 #[derive(Drop)]
@@ -54,17 +57,17 @@ fn see_links<C: Chart>(
     Ok(())
 }
 
-/// Returns the chains at open places.
+/// Returns the chains of an arrangement that are at open places.
 pub(crate) fn open_chains(
     alloc: Global,
-    shape_order: &ShapeOrder,
+    by_shape: &[DirectedChain],
+    places: &[OpenPlace],
 ) -> Result<Vec<DirectedChain>, AllocError>
-    ensures { IfOk result (λ chains. chains.items ≡ at_places shape_order.now.by_shape (open_among shape_order.now.places (length shape_order.now.by_shape))) }
+    ensures { IfOk result (λ chains. chains.items ≡ at_places by_shape.now (open_among places.now (length by_shape.now))) }
 {
-    let by_shape = shape_order.by_shape();
     let mut chains = Vec::new(alloc);
     for place in 0..by_shape.len() {
-        let opened = is_open_at(shape_order.open_places(), place);
+        let opened = is_open_at(places, place);
         if !opened {
             continue;
         }
@@ -96,17 +99,17 @@ pub(crate) struct Searches {
     pub(crate) names: KeySearch<u32>,
 }
 
-/// Searches for the keys whose numbers can differ between choices, at the first place.
+/// Searches for the keys whose numbers can differ between choices that are left, at the first place.
 fn searches_for<C: Chart>(
     alloc: Global,
     chart: &C,
-    shape_order: &ShapeOrder,
+    still_open: &StillOpen,
     landmarks: &[u32],
 ) -> Result<Searches, AllocError>
-    requires { landmarks.now ≡ kept_landmarks (C.county chart.now) shape_order.now }
-    ensures { IfOk result (AreSearched (C.county chart.now) shape_order.now 0) }
+    requires { landmarks.now ≡ kept_landmarks (C.county chart.now) still_open.now }
+    ensures { IfOk result (AreSearched (C.county chart.now) still_open.now 0) }
 {
-    let chains = open_chains(alloc, shape_order)?;
+    let chains = open_chains(alloc, still_open.by_shape(), still_open.open_places())?;
     let nodes = keys_of(alloc, &NodeKeys(chart, &chains))?;
     let polygons = wanted_polygons(alloc, chart, landmarks, &chains)?;
     let names = keys_of(alloc, &FeatKeys(chart, &chains))?;
@@ -128,16 +131,17 @@ fn any_of(at_open: bool, node: bool, polygon: bool, name: bool) -> bool
 fn keeps_place<C: Chart>(
     chart: &C,
     shape_order: &ShapeOrder,
+    still_open: &StillOpen,
     place: usize,
     searches: &mut Searches,
 ) -> Result<bool, AllocError>
-    requires within { place < length shape_order.now.by_shape }
-    requires searches { AreSearched (C.county chart.now) shape_order.now place searches.old }
-    ensures kept { IfOk result (λ kept. kept ≡ is_kept (C.county chart.now) shape_order.now place) }
-    ensures searches { OnOk result (AreSearched (C.county chart.now) shape_order.now (place + 1) searches.new) }
+    requires within { place < length still_open.now.by_shape }
+    requires searches { AreSearched (C.county chart.now) still_open.now place searches.old }
+    ensures kept { IfOk result (λ kept. kept ≡ is_kept (C.county chart.now) shape_order.now still_open.now place) }
+    ensures searches { OnOk result (AreSearched (C.county chart.now) still_open.now (place + 1) searches.new) }
 {
-    let places = shape_order.open_places();
-    let chains = shape_order.by_shape();
+    let places = still_open.open_places();
+    let chains = still_open.by_shape();
     let node = search_place(places, &NodeKeys(chart, chains), place, &mut searches.nodes)?;
     let polygon = search_place(
         places,
@@ -146,7 +150,8 @@ fn keeps_place<C: Chart>(
         &mut searches.polygons,
     )?;
     let name = search_place(places, &FeatKeys(chart, chains), place, &mut searches.names)?;
-    Ok(any_of(is_open_at(places, place), node, polygon, name))
+    let at_open = is_open_at(shape_order.open_places(), place);
+    Ok(any_of(at_open, node, polygon, name))
 }
 
 /// Returns the TLIDs of the chains that are kept, by searches at the first place.
@@ -154,17 +159,19 @@ fn kept_along<C: Chart>(
     alloc: Global,
     chart: &C,
     shape_order: &ShapeOrder,
+    still_open: &StillOpen,
     searches: &mut Searches,
 ) -> Result<Vec<u64>, AllocError>
     requires there { HasChainsOf (C.county chart.now) shape_order.now.by_shape }
-    requires searches { AreSearched (C.county chart.now) shape_order.now 0 searches.old }
-    ensures tlids { IfOk result (λ tlids. tlids.items ≡ kept_tlids (C.county chart.now) shape_order.now) }
-    ensures names { OnOk result (AreSameKeys nat_cmp (wanted_feats (C.county chart.now) shape_order.now) searches.new.names.wanted) }
+    requires count { length shape_order.now.by_shape ≡ length still_open.now.by_shape }
+    requires searches { AreSearched (C.county chart.now) still_open.now 0 searches.old }
+    ensures tlids { IfOk result (λ tlids. tlids.items ≡ kept_tlids (C.county chart.now) shape_order.now still_open.now) }
+    ensures names { OnOk result (AreSameKeys nat_cmp (wanted_feats (C.county chart.now) still_open.now) searches.new.names.wanted) }
 {
     let by_shape = shape_order.by_shape();
     let mut tlids = Vec::new(alloc);
     for place in 0..by_shape.len() {
-        let kept = keeps_place(chart, shape_order, place, searches)?;
+        let kept = keeps_place(chart, shape_order, still_open, place, searches)?;
         if !kept {
             continue;
         }
@@ -189,19 +196,21 @@ fn kept_chains<C: Chart>(
     alloc: Global,
     chart: &C,
     shape_order: &ShapeOrder,
+    still_open: &StillOpen,
     landmarks: &[u32],
 ) -> Result<(Interner<u32>, Vec<u64>), AllocError>
     requires known { LeavesChoices (C.county chart.now) shape_order.now }
-    requires landmarks { landmarks.now ≡ kept_landmarks (C.county chart.now) shape_order.now }
-    ensures names { IfOk result (λ kept. AreSameKeys nat_cmp (wanted_feats (C.county chart.now) shape_order.now) kept.0) }
-    ensures tlids { IfOk result (λ kept. kept.1.items ≡ kept_tlids (C.county chart.now) shape_order.now) }
+    requires count { length shape_order.now.by_shape ≡ length still_open.now.by_shape }
+    requires landmarks { landmarks.now ≡ kept_landmarks (C.county chart.now) still_open.now }
+    ensures names { IfOk result (λ kept. AreSameKeys nat_cmp (wanted_feats (C.county chart.now) still_open.now) kept.0) }
+    ensures tlids { IfOk result (λ kept. kept.1.items ≡ kept_tlids (C.county chart.now) shape_order.now still_open.now) }
 {
-    let mut searches = searches_for(alloc, chart, shape_order, landmarks)?;
-    let tlids = kept_along(alloc, chart, shape_order, &mut searches);
+    let mut searches = searches_for(alloc, chart, still_open, landmarks)?;
+    let tlids = kept_along(alloc, chart, shape_order, still_open, &mut searches);
     both(names_of(searches), tlids)
 }
 
-/// Returns the kept chains and landmarks of a county, given the order of its chains by their shapes.
+/// Returns the kept chains and landmarks of a county, given the order of its chains by their shapes and the places that are still open.
 ///
 /// # Errors
 ///
@@ -210,14 +219,17 @@ pub(crate) fn find_kept<C: Chart>(
     alloc: Global,
     chart: &C,
     shape_order: &ShapeOrder,
+    still_open: &StillOpen,
 ) -> Result<Kept, AllocError>
-    requires { LeavesChoices (C.county chart.now) shape_order.now }
-    ensures tlids { IfOk result (λ kept. kept.tlids.items ≡ kept_tlids (C.county chart.now) shape_order.now) }
-    ensures names { IfOk result (λ kept. AreSameKeys nat_cmp (wanted_feats (C.county chart.now) shape_order.now) kept.names) }
-    ensures lands { IfOk result (λ kept. kept.lands.items ≡ kept_lands (C.county chart.now) shape_order.now) }
+    requires known { LeavesChoices (C.county chart.now) shape_order.now }
+    requires count { length shape_order.now.by_shape ≡ length still_open.now.by_shape }
+    requires within { AreWithin (length still_open.now.by_shape) still_open.now.places }
+    ensures tlids { IfOk result (λ kept. kept.tlids.items ≡ kept_tlids (C.county chart.now) shape_order.now still_open.now) }
+    ensures names { IfOk result (λ kept. AreSameKeys nat_cmp (wanted_feats (C.county chart.now) still_open.now) kept.names) }
+    ensures lands { IfOk result (λ kept. kept.lands.items ≡ kept_lands (C.county chart.now) still_open.now) }
 {
-    let landmarks = kept_landmarks(alloc, chart, shape_order)?;
-    let (names, tlids) = kept_chains(alloc, chart, shape_order, &landmarks)?;
+    let landmarks = kept_landmarks(alloc, chart, still_open)?;
+    let (names, tlids) = kept_chains(alloc, chart, shape_order, still_open, &landmarks)?;
     let lands = keys_at(alloc, &Lands(chart), &landmarks)?;
     Ok(Kept {
         tlids,

@@ -23,6 +23,7 @@ mod moved_keys;
 mod numbered_arrangement;
 mod open_keys;
 mod part_tables;
+mod still_open;
 mod type_1_choices;
 
 pub use arranged_county::{

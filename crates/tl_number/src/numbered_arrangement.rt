@@ -31,7 +31,7 @@ fn place_chain(arrangement: &mut [DirectedChain], at: OpenPlace, number: u64) ->
 }
 
 /// Moves chains from the order of shapes to the choice with this number, from the last open place to the first.
-fn choose(arrangement: &mut [DirectedChain], places: &[OpenPlace], number: u64)
+pub(crate) fn choose(arrangement: &mut [DirectedChain], places: &[OpenPlace], number: u64)
     requires { AreWithin (length arrangement.old) places.now }
     ensures arrangement { arrangement.new ≡ (moved other_way places.now (arrangement.old, number)).0 }
     ensures count { length arrangement.new ≡ length arrangement.old }

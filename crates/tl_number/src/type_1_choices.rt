@@ -2,7 +2,8 @@
 //!
 //! Records of type 1 come first in a text, and those at the places of one shape depend on the order and the directions of the chains of
 //! this shape alone. So they are compared shape by shape: the orders and directions with the least records of type 1 are candidates, and
-//! the choice with the least text is among their combinations. In the number of a choice, the last shape has the last digit.
+//! the choice with the least text is among their combinations. Where a shape has one candidate, its chains stay. In the number of a choice,
+//! the last shape has the last digit.
 
 ghost use Rattle.std.specs.List.{AllByRecursion, list_any};
 ghost use Rattle.std.specs.Ordering.{is_eq, is_gt};
@@ -11,9 +12,12 @@ ghost use Rattle.canonical_form.specs.MovedChains.{ArePlacesInOrder, AreWithin};
 ghost use Rattle.county_chart.specs.Choices.{choices, most_choices};
 ghost use Rattle.record_groups.specs.TypeOneOrder.{ones_cmp};
 ghost use Rattle.tl_number.specs.ChoiceSearch.{IsChosen, LeavesChoices};
-ghost use Rattle.tl_number.specs.LeastOnes.{AreLeastChoices, ArePlacesApart, HaveLeastOnesByDigit, IsDigitApart, combined, ways_of};
+ghost use Rattle.tl_number.specs.LeastOnes.{AreLeastChoices, HaveLeastOnesByDigit, IsDigitApart};
+ghost use Rattle.tl_number.specs.ShapeDigits.{ArePlacesApart, combined, ways_of};
+ghost use Rattle.tl_number.specs.StillOpen.{AreStillOpen, LeavesOpen};
 
 use crate::numbered_arrangement::NumberedArrangement;
+use crate::still_open::StillOpen;
 use county_chart::{Chart, OpenPlace};
 use record_groups::compare_ones;
 use std::alloc::{AllocError, Global};
@@ -50,15 +54,17 @@ fn keep_least(digits: &mut Vec<u64>, ordering: Ordering, digit: u64) -> Result<(
     Ok(())
 }
 
-/// The numbers of the choices with the least records of type 1 by the digits so far, and the first of these choices.
+/// The numbers of the choices with the least records of type 1 by the digits so far, the first of these choices, and the places at which
+/// they differ.
 #[derive(Drop)]
 pub(crate) struct LeastChoices {
     pub(crate) numbers: Vec<u64>,
     pub(crate) first: NumberedArrangement,
+    pub(crate) still_open: StillOpen,
 }
 
-/// Returns the digits below `count` of the choices with the least records of type 1, among those that have the number of `first` in the
-/// digits after it. Makes `first` the one with the first of these digits.
+/// Finds the choices with the least records of type 1 among those whose later digits are the number of `first`. Returns what their next
+/// digit, which is below `count`, can be. The first of them replaces `first`.
 fn least_digits<C: Chart>(
     alloc: Global,
     chart: &C,
@@ -169,7 +175,7 @@ fn last_shape(shape_order: &ShapeOrder, end: usize) -> usize
     0
 }
 
-/// Adds one more digit, below `count`, to the numbers of the choices with the least records of type 1.
+/// Adds one more digit, below `count`, to the numbers of the choices with the least records of type 1. Returns what the digit can be.
 fn add_digit<C: Chart>(
     alloc: Global,
     chart: &C,
@@ -177,17 +183,43 @@ fn add_digit<C: Chart>(
     count: u64,
     ways: u64,
     least: &mut LeastChoices,
-) -> Result<(), AllocError>
+) -> Result<Vec<u64>, AllocError>
     requires known { LeavesChoices (C.county chart.now) shape_order.now }
     requires some { 0 < count }
     requires few { count * ways ≤ most_choices }
     requires apart { IsDigitApart (C.county chart.now) ways }
     requires least { AreLeastChoices (C.county chart.now) shape_order.now ways least.old }
-    ensures { OnOk result (AreLeastChoices (C.county chart.now) shape_order.now (count * ways) least.new) }
+    ensures least { OnOk result (AreLeastChoices (C.county chart.now) shape_order.now (count * ways) least.new) }
+    ensures digits { IfOk result (λ digits. AllByRecursion (λ digit. digit < count) digits.items) }
+    ensures numbers { IfOk result (λ digits. least.new.numbers.items ≡ combined ways digits.items least.old.numbers.items) }
+    ensures still { least.new.still_open ≡ least.old.still_open }
 {
     let digits = least_digits(alloc, chart, shape_order, count, ways, &mut least.first)?;
     least.numbers = combine(alloc, &digits, ways, &least.numbers)?;
-    Ok(())
+    Ok(digits)
+}
+
+/// Returns the only choice before any digit is known: the order of shapes, where no place is still open.
+fn choice_without_digits(
+    alloc: Global,
+    shape_order: &ShapeOrder,
+) -> Result<LeastChoices, AllocError>
+    requires { AreWithin (length shape_order.now.by_shape) shape_order.now.places }
+    ensures numbers { IfOk result (λ least. least.numbers.items ≡ 0 ∷ []) }
+    ensures first { IfOk result (λ least. least.first.number ≡ 0) }
+    ensures chosen { IfOk result (λ least. IsChosen shape_order.now least.first) }
+    ensures chains { IfOk result (λ least. least.still_open.by_shape ≡ shape_order.now.by_shape) }
+    ensures places { IfOk result (λ least. least.still_open.places ≡ []) }
+{
+    let mut numbers = Vec::new(alloc);
+    numbers.push(0)?;
+    let first = NumberedArrangement::new(alloc, shape_order, 0)?;
+    let still_open = StillOpen::new(alloc, shape_order)?;
+    Ok(LeastChoices {
+        numbers,
+        first,
+        still_open,
+    })
 }
 
 /// Returns the choices with the least records of type 1.
@@ -197,19 +229,21 @@ pub(crate) fn least_by_type_1<C: Chart>(
     shape_order: &ShapeOrder,
 ) -> Result<LeastChoices, AllocError>
     requires { LeavesChoices (C.county chart.now) shape_order.now }
-    ensures { IfOk result (AreLeastChoices (C.county chart.now) shape_order.now (choices (C.county chart.now))) }
+    ensures least { IfOk result (AreLeastChoices (C.county chart.now) shape_order.now (choices (C.county chart.now))) }
+    ensures left { IfOk result (λ least. LeavesOpen shape_order.now.by_shape shape_order.now.places least.numbers.items least.still_open) }
+    ensures still { IfOk result (λ least. AreStillOpen shape_order.now.places least.still_open) }
 {
     let places = shape_order.open_places();
-    let mut numbers = Vec::new(alloc);
-    numbers.push(0)?;
-    let first = NumberedArrangement::new(alloc, shape_order, 0)?;
-    let mut least = LeastChoices { numbers, first };
+    let mut least = choice_without_digits(alloc, shape_order)?;
     let mut ways = 1;
     let mut end = places.len();
     while end > 0 {
         let first = last_shape(shape_order, end);
         let count = count_ways(&places[first..end]);
-        add_digit(alloc, chart, shape_order, count, ways, &mut least)?;
+        let digits = add_digit(alloc, chart, shape_order, count, ways, &mut least)?;
+        least
+            .still_open
+            .settle(alloc, &places[first..end], &digits)?;
         ways *= count;
         end = first;
     }

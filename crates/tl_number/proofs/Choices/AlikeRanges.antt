@@ -1,7 +1,7 @@
 -- The records of type 6 of two choices, from the first chain on whose ranges differ.
 use Rattle.tl_number.proofs.Common.{County, DirectedChain, IsWithinLimits, List, Ranges, Record, Some, [], ap, arith, chosen_county, directed_chain, drop, few_chains, groups_cmp, kept_entry, length, length-map, map, most_records, nat_list_cmp_total, numbered_from, option_map, ordering_then, packed_sixes, refl, slice_get, slice_get-map, spelling_of, suc, sym, take, tied_itself, type_6_by_chain, zero, ℕ, ◌+◌, ◌<◌, ◌^◌, ◌∙◌, ◌∷◌, ◌≡◌}
 use Rattle.std.proofs.lemmas.List.{length-drop}
-use Rattle.tl_number.proofs.Ties.OrderedCounty.{OrderedCounty, chains_at, chains_numbered, directed_in, new_in, read_in, stated}
+use Rattle.tl_number.proofs.Ties.ComparedChoices.{ComparedChoices, OrderedCounty, all_choices, chains_at, chains_numbered, directed_in, new_in, read_in, stated}
 use Rattle.tl_number.specs.AlikeRanges.{ranges_towards}
 use Rattle.canonical_form.specs.Arrangement.{arranged}
 use Rattle.canonical_form.proofs.Arrangements.PolygonNumbers.{numbered_at}
@@ -44,6 +44,9 @@ few_from county within first group there = omega (
 )
 
 module _ (c : OrderedCounty) where
+  abbrev all : ComparedChoices
+  all = all_choices c
+
   -- the records of type 6 of a choice, chain by chain
   abbrev pub sixes_in : ℕ → List (List Fields6)
   sixes_in i = type_6_by_chain (chosen_county c.county i)
@@ -52,21 +55,21 @@ module _ (c : OrderedCounty) where
   abbrev sixes_of : ℕ → List Ranges → List Fields6
   sixes_of tlid ranges = map (λ piece. record { tlid = tlid; rtsq = piece.0; ranges = piece.1 }) (numbered_from 1 ranges)
 
-  sixes_there : (i place : ℕ) (directed : DirectedChain) → slice_get (directed_in c i) place ≡ Some directed
+  sixes_there : (i place : ℕ) (directed : DirectedChain) → slice_get (directed_in all i) place ≡ Some directed
       → slice_get (sixes_in i) place ≡ Some (sixes_of (1 + place) (ranges_towards c.county directed))
   sixes_there i place directed e =
-      let there = read_there (directed_chain c.county) (directed_in c i) (chains_at c i) (read_in c i) place directed e in
-      ap (λ order. slice_get (type_6_by_chain (arranged c.county order)) place) (sym (stated c i))
-      ∙ ap (λ entries. slice_get (map packed_sixes entries) place) (chains_numbered c i)
-      ∙ slice_get-map packed_sixes (map (kept_entry (new_in c i)) (numbered_from 1 (chains_at c i))) place
-      ∙ ap (option_map packed_sixes) (slice_get-map (kept_entry (new_in c i)) (numbered_from 1 (chains_at c i)) place
-      ∙ ap (option_map (kept_entry (new_in c i)))
-      (numbered_at 1 (chains_at c i) place ∙ ap (option_map (λ chain. (1 + place, chain))) there.1))
+      let there = read_there (directed_chain c.county) (directed_in all i) (chains_at all i) (read_in all i) place directed e in
+      ap (λ order. slice_get (type_6_by_chain (arranged c.county order)) place) (sym (stated all i))
+      ∙ ap (λ entries. slice_get (map packed_sixes entries) place) (chains_numbered all i)
+      ∙ slice_get-map packed_sixes (map (kept_entry (new_in all i)) (numbered_from 1 (chains_at all i))) place
+      ∙ ap (option_map packed_sixes) (slice_get-map (kept_entry (new_in all i)) (numbered_from 1 (chains_at all i)) place
+      ∙ ap (option_map (kept_entry (new_in all i)))
+      (numbered_at 1 (chains_at all i) place ∙ ap (option_map (λ chain. (1 + place, chain))) there.1))
       ∙ sym (ap (λ chain. Some (sixes_of (1 + place) (ranges_of chain))) there.2)
 
   -- chains with the same ranges at the next place have the same records
-  pub sixes_next : (n k place : ℕ) (one other : DirectedChain) → slice_get (directed_in c n) place ≡ Some one
-      → slice_get (directed_in c k) place ≡ Some other → ranges_towards c.county one ≡ ranges_towards c.county other
+  pub sixes_next : (n k place : ℕ) (one other : DirectedChain) → slice_get (directed_in all n) place ≡ Some one
+      → slice_get (directed_in all k) place ≡ Some other → ranges_towards c.county one ≡ ranges_towards c.county other
       → take place (sixes_in n) ≡ take place (sixes_in k) → take (place + 1) (sixes_in n) ≡ take (place + 1) (sixes_in k)
   sixes_next n k place one other e f same before = same_next (sixes_in n) (sixes_in k) place before
       (sixes_there n place one e ∙ ap (λ ranges. Some (sixes_of (1 + place) ranges)) same ∙ sym (sixes_there k place other f))

@@ -12,7 +12,7 @@ use Rattle.county_chart.specs.Choices.{is_settled, open_place_at, open_places, r
 use Rattle.county_chart.specs.declared.open_place.OpenPlace.{OpenPlace}
 use Rattle.canonical_form.specs.MovedChains.{AreWithin}
 use Rattle.canonical_form.specs.NumberedChoices.{moved}
-use Rattle.tl_number.specs.LeastOnes.{ArePlacesApart, ways_of}
+use Rattle.tl_number.specs.ShapeDigits.{ArePlacesApart, ways_of}
 use Rattle.tl_number.proofs.Choices.MovedParts.{same_before, same_behind}
 
 -- lists whose elements compare alike at each place compare alike

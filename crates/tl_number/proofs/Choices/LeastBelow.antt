@@ -13,7 +13,8 @@ use Rattle.ordered_lists.proofs.Lists.Elements.{all_append, all_both, all_left, 
 use Rattle.ordered_lists.proofs.Lists.InOrder.{not_greater}
 use Rattle.std.proofs.lemmas.Nat.{div_below, mod_below, mul-add-lt}
 use Rattle.std.proofs.Math.Nat.{div-add-mod}
-use Rattle.tl_number.specs.LeastOnes.{AreLeastBelow, combined}
+use Rattle.tl_number.specs.LeastOnes.{AreLeastBelow}
+use Rattle.tl_number.specs.ShapeDigits.{combined}
 
 contained : (n : ℕ) (ns : List ℕ) → Known nat_cmp ns n → contains nat_cmp n ns ≡ true
 contained n ns known = lt-ltb 0 (times nat_cmp n ns) known

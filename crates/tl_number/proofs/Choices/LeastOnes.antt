@@ -19,11 +19,16 @@ use Rattle.record_groups.specs.TypeOneOrder.{one_at, ones_cmp, ones_of}
 use Rattle.record_groups.proofs.Texts.GroupOrders.{records_total}
 use Rattle.record_groups.proofs.Texts.TypeOnes.{length-ones_arranged_by, ones_arranged_by, same_one}
 use Rattle.tl_layout.specs.RecordText.{text_of}
-use Rattle.tl_number.specs.LeastOnes.{ArePlacesApart, HaveLeast, HaveLeastOnes, HaveSameOnes, IsDigitApart, ones_in, ways_of}
+use Rattle.tl_number.specs.LeastOnes.{HaveLeast, HaveLeastOnes, HaveSameOnes, IsDigitApart, ones_in}
+use Rattle.tl_number.specs.ShapeDigits.{ArePlacesApart, ways_of}
 use Rattle.tl_number.proofs.Choices.ChoiceSteps.{ones_decide}
 use Rattle.tl_number.proofs.Choices.DigitsApart.{digits_apart, fewer_ways, some_ways, ways_running, ways_taken}
 use Rattle.tl_number.proofs.Choices.LeastBelow.{least_leads, least_tie}
-use Rattle.tl_number.proofs.Ties.OrderedCounty.{OrderedCounty, choice, count_in, directed_in, stated, whole_in}
+use Rattle.tl_number.proofs.Ties.ComparedChoices.{ComparedChoices, OrderedCounty, all_choices, choice, count_in, directed_in, stated, whole_in}
+
+-- the order of two choices by their records of type 1
+pub by_ones : (c : ComparedChoices) (i k : ℕ) → ones_cmp c.county (c.number i) (c.number k) ≡ records_cmp (ones_of (choice c i)) (ones_of (choice c k))
+by_ones c i k = sym (λ j. records_cmp (ones_of (arranged c.county (stated c i j))) (ones_of (arranged c.county (stated c k j))))
 
 module _ (c : OrderedCounty) where
   -- open places leave as many choices as the county
@@ -57,48 +62,47 @@ module _ (c : OrderedCounty) where
       grown a zero h = absurd (omega (arith, h))
       grown a (suc b) h = grind arith
 
+  abbrev all : ComparedChoices
+  all = all_choices c
+
   -- The record of type 1 at a place belongs to the directed chain there.
-  record_at : (i place : ℕ) (directed : DirectedChain) → slice_get (directed_in c i) place ≡ Some directed
-      → slice_get (ones_of (choice c i)) place ≡ one_at c.county directed place
-  record_at i = ones_arranged_by c.county (directed_in c i) c.is (whole_in c i)
+  record_at : (i place : ℕ) (directed : DirectedChain) → slice_get (directed_in all i) place ≡ Some directed
+      → slice_get (ones_of (choice all i)) place ≡ one_at c.county directed place
+  record_at i = ones_arranged_by c.county (directed_in all i) c.is (whole_in all i)
 
-  count_of : (i : ℕ) → length (ones_of (choice c i)) ≡ length (directed_in c i)
-  count_of i = length-ones_arranged_by c.county (directed_in c i) c.is (whole_in c i)
+  count_of : (i : ℕ) → length (ones_of (choice all i)) ≡ length (directed_in all i)
+  count_of i = length-ones_arranged_by c.county (directed_in all i) c.is (whole_in all i)
 
-  as_many : (i k : ℕ) → length (ones_of (choice c i)) ≡ length (ones_of (choice c k))
-  as_many i k = count_of i ∙ count_in c i ∙ sym (count_of k ∙ count_in c k)
+  as_many : (i k : ℕ) → length (ones_of (choice all i)) ≡ length (ones_of (choice all k))
+  as_many i k = count_of i ∙ count_in all i ∙ sym (count_of k ∙ count_in all k)
 
-  same_record : (i k place : ℕ) → slice_get (directed_in c i) place ≡ slice_get (directed_in c k) place
-      → slice_get (ones_of (choice c i)) place ≡ slice_get (ones_of (choice c k)) place
-  same_record i k place same = go (nat_lt place (length (directed_in c i))) refl
+  same_record : (i k place : ℕ) → slice_get (directed_in all i) place ≡ slice_get (directed_in all k) place
+      → slice_get (ones_of (choice all i)) place ≡ slice_get (ones_of (choice all k)) place
+  same_record i k place same = go (nat_lt place (length (directed_in all i))) refl
     where
       none : DirectedChain
       none = record { place = 0; turned = false }
 
-      go : (b : Bool) → nat_lt place (length (directed_in c i)) ≡ b
-          → slice_get (ones_of (choice c i)) place ≡ slice_get (ones_of (choice c k)) place
+      go : (b : Bool) → nat_lt place (length (directed_in all i)) ≡ b
+          → slice_get (ones_of (choice all i)) place ≡ slice_get (ones_of (choice all k)) place
       go true e =
-          let directed = get_or (directed_in c i) place none in
-          let there : slice_get (directed_in c i) place ≡ Some directed =
-          slice_get-get_or (directed_in c i) place none (ltb-true place (length (directed_in c i)) e) in
+          let directed = get_or (directed_in all i) place none in
+          let there : slice_get (directed_in all i) place ≡ Some directed =
+          slice_get-get_or (directed_in all i) place none (ltb-true place (length (directed_in all i)) e) in
           record_at i place directed there ∙ sym (record_at k place directed (sym same ∙ there))
       go false e =
-          let past : length (directed_in c i) ≤ place = ltb-false place (length (directed_in c i)) e in
-          slice_get_past (ones_of (choice c i)) place (omega (arith, past, count_of i))
-          ∙ sym (slice_get_past (ones_of (choice c k)) place (omega (arith, past, count_of k, count_in c i, count_in c k)))
-
-  -- the order of two choices by these records
-  pub by_ones : (i k : ℕ) → ones_cmp c.county i k ≡ records_cmp (ones_of (choice c i)) (ones_of (choice c k))
-  by_ones i k = sym (λ j. records_cmp (ones_of (arranged c.county (stated c i j))) (ones_of (arranged c.county (stated c k j))))
+          let past : length (directed_in all i) ≤ place = ltb-false place (length (directed_in all i)) e in
+          slice_get_past (ones_of (choice all i)) place (omega (arith, past, count_of i))
+          ∙ sym (slice_get_past (ones_of (choice all k)) place (omega (arith, past, count_of k, count_in all i, count_in all k)))
 
   -- If earlier open places move chains before all that later ones move, the digits of the later ones compare alike after each digit.
   pub ones_apart : (front back : List OpenPlace) → c.shapes.places ≡ front ++ back → ArePlacesApart (length c.shapes.by_shape) front back
       → IsDigitApart c.county (ways_of back)
   ones_apart front back split apart digit n m l k =
-      by_ones (digit * ways_of back + n) (digit * ways_of back + m)
-      ∙ digits_apart other_way spelling_cmp same_one c.shapes.by_shape c.shapes.places (λ i. ones_of (choice c i)) same_record as_many
+      by_ones all (digit * ways_of back + n) (digit * ways_of back + m)
+      ∙ digits_apart other_way spelling_cmp same_one c.shapes.by_shape c.shapes.places (λ i. ones_of (choice all i)) same_record as_many
       front back split c.known.within apart digit n m l k
-      ∙ sym (by_ones n m)
+      ∙ sym (by_ones all n m)
 
   -- Choices with the least records of type 1 have the same ones.
   pub least_same : (bound : ℕ) (numbers : List ℕ) → HaveLeastOnes c.county bound numbers → HaveSameOnes c.county numbers

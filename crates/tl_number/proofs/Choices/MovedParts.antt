@@ -1,5 +1,5 @@
 -- Moves at open places in two parts: the later places take the last digits of a number, and the earlier places the others.
-use Rattle.std.proofs.Common.{List, None, Some, [], ap, append_assoc, arith, drop, length, length-drop, length-take, refl, slice_get, subst, suc, sym, take, take-append-drop, zero, ℕ, ◌%◌, ◌*◌, ◌++◌, ◌+◌, ◌/◌, ◌<◌, ◌∙◌, ◌∷◌, ◌≡◌, ◌≤◌}
+use Rattle.std.proofs.Common.{Bool, List, None, Some, [], ap, append_assoc, arith, cond, drop, false, length, length-drop, length-take, map, refl, slice_get, subst, suc, sym, take, take-append-drop, true, zero, ℕ, ◌%◌, ◌*◌, ◌++◌, ◌+◌, ◌-◌, ◌/◌, ◌<◌, ◌∙◌, ◌∷◌, ◌≡◌, ◌≤◌}
 use Rattle.std.specs.List.{AllByRecursion}
 use Rattle.std.proofs.lemmas.Nat.{div_below, mod_below}
 use Rattle.std.proofs.Math.Nat.{div-add-mod}
@@ -11,7 +11,7 @@ use Rattle.canonical_form.specs.MovedChains.{AreWithin, IsApart}
 use Rattle.canonical_form.specs.NumberedChoices.{first_stood, moved, moved_at, stood, turned_by}
 use Rattle.canonical_form.proofs.Choices.Choosing.{stood-digits}
 use Rattle.canonical_form.proofs.Choices.FixedPlaces.{moved_apart, moved_count}
-use Rattle.tl_number.specs.LeastOnes.{ways_of}
+use Rattle.tl_number.specs.ShapeDigits.{ways_of}
 
 -- lists that agree up to a place begin alike
 take_agree : {X : Type 0} (count : ℕ) (xs ys : List X) → ((place : ℕ) → place < count → slice_get xs place ≡ slice_get ys place)
@@ -38,7 +38,40 @@ get_right (x ∷ xs) [] zs place e l = absurd (omega (arith, e))
 get_right (x ∷ xs) (y ∷ ys) zs zero e l = absurd (omega (arith, l))
 get_right (x ∷ xs) (y ∷ ys) zs (suc place) e l = get_right xs ys zs place (omega (arith, e)) (omega (arith, l))
 
+-- a list after another one begins where that one ends
+take_past : {X : Type 0} (xs ys : List X) (n k : ℕ) → n ≡ length xs + k → take n (xs ++ ys) ≡ xs ++ take k ys
+take_past [] ys n k e = ap (λ m. take m ys) (let same : n ≡ k = omega (arith, e) in same)
+take_past (x ∷ xs) ys zero k e = absurd (omega (arith, e))
+take_past (x ∷ xs) ys (suc n) k e = ap (λ zs. x ∷ zs) (take_past xs ys n k (omega (arith, e)))
+
+drop_past : {X : Type 0} (xs ys : List X) (n k : ℕ) → n ≡ length xs + k → drop n (xs ++ ys) ≡ drop k ys
+drop_past [] ys n k e = ap (λ m. drop m ys) (let same : n ≡ k = omega (arith, e) in same)
+drop_past (x ∷ xs) ys zero k e = absurd (omega (arith, e))
+drop_past (x ∷ xs) ys (suc n) k e = drop_past xs ys n k (omega (arith, e))
+
 module _ {X : Type 0} (turn : X → X) where
+  -- the number 0 moves nothing
+  first_zero : (at : OpenPlace) → 0 < at.alike → (xs : List X) → first_stood turn at xs 0 ≡ (xs, 0)
+  first_zero at some [] = refl
+  first_zero at some (x ∷ xs) =
+      let none : (0 * ways_at at + 0) * at.alike + 0 ≡ 0 = omega arith in
+      ap (λ n. stood turn at.alike (ways_at at) x (xs, n)) (sym none)
+      ∙ stood-digits turn at.alike (ways_at at) x xs 0 0 0 some (either at.either_way)
+    where
+      either : (b : Bool) → 0 < cond b 2 1
+      either true = omega arith
+      either false = omega arith
+
+  pub moved-zero : (places : List OpenPlace) (xs : List X) → AreWithin (length xs) places → moved turn places (xs, 0) ≡ (xs, 0)
+  moved-zero [] xs within = refl
+  moved-zero (at ∷ places) xs within =
+      ap (moved_at turn at) (moved-zero places xs within.1)
+      ∙ (λ j. (
+        take at.place xs ++ (first_zero at within.0.some (drop at.place xs) j).0,
+        (first_zero at within.0.some (drop at.place xs) j).1,
+      ))
+      ∙ ap (λ ys. (ys, 0)) (take-append-drop at.place xs)
+
   -- places one after another
   pub moved-append : (front back : List OpenPlace) (state : List X × ℕ) → moved turn (front ++ back) state ≡ moved turn front (moved turn back state)
   moved-append [] back state = refl
@@ -140,6 +173,70 @@ module _ {X : Type 0} (turn : X → X) where
       let later = moved turn places (xs, n) in
       ap (moved_at turn at) (moved-before places xs ys n within.1)
       ∙ moved_at-before at within.0.some later.0 ys later.1 (omega (arith, within.0.there, moved_count turn places xs n within.1))
+
+  -- an open place, counted from an edge
+  abbrev from_edge : ℕ → OpenPlace → OpenPlace
+  from_edge edge at = record { place = at.place - edge; alike = at.alike; either_way = at.either_way }
+
+  -- what comes before the elements that places move stays
+  moved_at-after : (at : OpenPlace) (xs ys : List X) (n : ℕ) → length xs ≤ at.place
+      → moved_at turn at (xs ++ ys, n)
+      ≡ (xs ++ (moved_at turn (from_edge (length xs) at) (ys, n)).0, (moved_at turn (from_edge (length xs) at) (ys, n)).1)
+  moved_at-after at xs ys n past =
+      let k : ℕ = at.place - length xs in
+      let there : at.place ≡ length xs + k = omega (arith, past) in
+      (λ j. (
+        take_past xs ys at.place k there j ++ (first_stood turn at (drop_past xs ys at.place k there j) n).0,
+        (first_stood turn at (drop_past xs ys at.place k there j) n).1,
+      ))
+      ∙ ap (λ zs. (zs, (first_stood turn at (drop k ys) n).1)) (append_assoc xs (take k ys) (first_stood turn at (drop k ys) n).0)
+
+  moved-after : (places : List OpenPlace) (xs ys : List X) (n : ℕ) → AllByRecursion (λ at. length xs ≤ at.place) places
+      → moved turn places (xs ++ ys, n)
+      ≡ (xs ++ (moved turn (map (from_edge (length xs)) places) (ys, n)).0, (moved turn (map (from_edge (length xs)) places) (ys, n)).1)
+  moved-after [] xs ys n past = refl
+  moved-after (at ∷ places) xs ys n past =
+      let later = moved turn (map (from_edge (length xs)) places) (ys, n) in
+      ap (moved_at turn at) (moved-after places xs ys n past.1) ∙ moved_at-after at xs later.0 later.1 past.0
+
+  -- So moves before an edge and moves after it can be made in either order.
+  pub moved-either : (front back : List OpenPlace) (xs : List X) (edge : ℕ) → edge ≤ length xs → AreWithin edge front
+      → AllByRecursion (λ at. edge ≤ at.place) back → (digit n : ℕ)
+      → (moved turn front ((moved turn back (xs, n)).0, digit)).0 ≡ (moved turn back ((moved turn front (xs, digit)).0, n)).0
+  moved-either front back xs edge inside ends begins digit n =
+      ap (λ ys. (moved turn front (ys, digit)).0) (ap (λ ys. (moved turn back (ys, n)).0) split ∙ ap (λ r. r.0) (moved-after back first rest n (past first taken)))
+      ∙ ap (λ r. r.0) (moved-before front first (behind (length first)) digit ends_here)
+      ∙ ap (λ count. done ++ behind count) (sym count)
+      ∙ sym (ap (λ ys. (moved turn back ((moved turn front (ys, digit)).0, n)).0) split
+      ∙ ap (λ r. (moved turn back (r.0, n)).0) (moved-before front first rest digit ends_here)
+      ∙ ap (λ r. r.0) (moved-after back done rest n (past done (count ∙ taken))))
+    where
+      first : List X
+      first = take edge xs
+
+      rest : List X
+      rest = drop edge xs
+
+      done : List X
+      done = (moved turn front (first, digit)).0
+
+      split : xs ≡ first ++ rest
+      split = sym (take-append-drop edge xs)
+
+      taken : length first ≡ edge
+      taken = omega (arith, length-take edge xs, inside)
+
+      ends_here : AreWithin (length first) front
+      ends_here = subst (λ count. AreWithin count front) (sym taken) ends
+
+      count : length done ≡ length first
+      count = moved_count turn front first digit ends_here
+
+      behind : ℕ → List X
+      behind from = (moved turn (map (from_edge from) back) (rest, n)).0
+
+      past : (ys : List X) → length ys ≡ edge → AllByRecursion (λ at. length ys ≤ at.place) back
+      past ys e = subst (λ from. AllByRecursion (λ at. from ≤ at.place) back) (sym e) begins
 
   -- Earlier places that end before a place at which or after which all later ones begin.
   module _ (front back : List OpenPlace) (xs : List X) (within : AreWithin (length xs) back) (edge : ℕ) (inside : edge ≤ length xs)

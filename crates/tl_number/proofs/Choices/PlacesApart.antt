@@ -5,7 +5,7 @@ use Rattle.std.specs.List.{AllByRecursion, list_any}
 use Rattle.std.proofs.lemmas.Bool.{or_parts}
 use Rattle.ordered_lists.proofs.Lists.Counted.{all_take}
 use Rattle.canonical_form.specs.MovedChains.{ArePlacesInOrder, AreWithin}
-use Rattle.tl_number.specs.LeastOnes.{ArePlacesApart}
+use Rattle.tl_number.specs.ShapeDigits.{ArePlacesApart}
 use Rattle.county_chart.specs.declared.open_place.OpenPlace.{OpenPlace}
 
 module _ (at : OpenPlace) where

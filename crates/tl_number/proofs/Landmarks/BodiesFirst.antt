@@ -1,5 +1,5 @@
 -- Landmarks are ordered by their bodies first, so two arrangements of a county have the same landmarks.
-use Rattle.tl_number.proofs.Common.{Arrangement, Arranges, Body7, County, IsCounty, IsInOrder, List, ap, arranged, carried_landmark, entry_values, in_order, in_order-in_order, in_order-is_permutation, in_order-map, in_order-weaker, landmark_body_cmp, landmark_body_keys, landmark_key, landmark_key_cmp, landmark_key_keys, landmarks_arranged, landmarks_in_order, lands_arranged, link_part_cmp, links_of, links_relinked, lists_keys, map, map-map, on, on_total, renaming_of, slice_cmp, sym, then-first, ℕ, ◌∙◌, ◌≡◌}
+use Rattle.tl_number.proofs.Common.{Arrangement, Arranges, Body7, County, IsCounty, IsInOrder, List, ap, arranged, carried_landmark, entry_values, in_order-in_order, in_order-is_permutation, in_order-map, in_order-weaker, landmark_body_cmp, landmark_body_keys, landmark_key, landmark_key_cmp, landmark_key_keys, landmarks_arranged, landmarks_in_order, lands_arranged, link_part_cmp, links_of, links_relinked, lists_keys, map, map-map, on, on_total, renaming_of, slice_cmp, sym, then-first, ℕ, ◌∙◌, ◌≡◌}
 use Rattle.tl_number.proofs.Lists.OrderPlaces.{IsByValue, same_made}
 
 module _ (county : County) (is : IsCounty county) where

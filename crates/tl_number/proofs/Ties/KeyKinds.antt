@@ -1,7 +1,7 @@
 -- Kinds of keys of chains, as nodes, polygons and names: their numbers in choices, and the order in which they first appear.
 use Rattle.tl_number.proofs.Common.{AllContained, Among, Bool, Chain, County, DirectedChain, IsKeyOrder, IsTrue, Known, List, Option, Ordering, PolygonKey, Renumbering, Some, [], all_among, among-get, among-pieces, among-unpieces, among_known, ap, append-nil, ap₂, arith, at_places, chain_feats, chain_nodes, chain_nodes-renumbered, chain_polygons, chain_polygons-renumbered, contains, directed_chain, false, false_from_ne_true, false≢true, feats, feats_in_order, filter, first_open, first_seen, flat_map, flat_map-map, from_first_seen, from_placed, group_at, group_of, grouped, grouped_map, has_new_at, image, image-numbered, image-under_cenid, is_kept, is_open, key_cmp, key_keys, key_on, keys_along, keys_at_open, known-left, known-permutation, known_is_among, length, length-map, lt-ltb, ltb-true, map, map-at_places, map-map, names_renamed, nat_cmp, nat_keys, nodes_along, nodes_from_placed, nodes_to_placed, none_past, numbered_from, option_map, option_to_list, or_left, other_way, place_in, placed, polygons_along, polygons_from_placed, polygons_in_order, polygons_to_placed, range_with_len, refl, renumbered, rights-numbered_from, slice_get, slice_get-map, subst, sym, times, to_filter, to_first_seen, true, turned, unwrap_or, ℕ, ◌++◌, ◌+◌, ◌∙◌, ◌≡◌}
 use Rattle.tl_number.proofs.Ties.Keys.{AreAlike, alike_itself, fixed_before, groups_at, groups_listed, swapped_alike, turned_alike}
-use Rattle.tl_number.proofs.Ties.OrderedCounty.{IsKeptPart, OrderedCounty, arranges_in, cenid_kept, chains_at, count_in, directed_in, fixed_there, length_at, new_in, order_in, places_in, read_in, whole_in}
+use Rattle.tl_number.proofs.Ties.ComparedChoices.{ComparedChoices, IsKeptPart, arranges_in, cenid_kept, chains_at, count_in, directed_in, fixed_there, length_at, new_in, order_in, places_in, read_in, whole_in}
 use Rattle.tl_number.proofs.Ties.Ranks.{AreReordered, IsKeptEarlier, in_filtered, in_range, masked_by, next_cmp, places_alike, reordered_all, reordered_back, reordered_then, same_place, same_wanted, to_filtered}
 use Rattle.tl_number.proofs.Ties.WantedMoves.{AreEarlier, all_kept, all_moved, first_earlier, kept_keys, kept_there, wanted_earlier}
 use Rattle.tl_number.proofs.Names.NamePlaces.{feats_permuted}
@@ -11,7 +11,7 @@ use Rattle.arranged_county.proofs.Views.ViewTables.{keys_paired, nodes_paired}
 use Rattle.canonical_form.proofs.Sameness.CarriedCounty.{feats-turned}
 
 -- The keys of the chains of a choice.
-module _ (c : OrderedCounty) (i : ℕ) {K : Type 0} (keys : Chain → List K) where
+module _ (c : ComparedChoices) (i : ℕ) {K : Type 0} (keys : Chain → List K) where
   abbrev pub along_in : List (List K)
   along_in = keys_along keys c.county (directed_in c i)
 
@@ -39,20 +39,20 @@ module _ (c : OrderedCounty) (i : ℕ) {K : Type 0} (keys : Chain → List K) wh
   pub group_chain : (place : ℕ) (x : Chain) → slice_get (chains_at c i) place ≡ Some x → group_at along_in place ≡ keys x ++ []
   group_chain place x e = group_read place ∙ ap (λ o. unwrap_or (option_map keys_of_chain o) []) e
 
-  -- at a fixed place they are those in the order of shapes
-  pub group_fixed : (place : ℕ) → is_open c.shapes.places place ≡ false
-      → group_at along_in place ≡ group_at (keys_along keys c.county c.shapes.by_shape) place
+  -- at a fixed place they are those in the arrangement from which choices differ
+  pub group_fixed : (place : ℕ) → is_open c.still.places place ≡ false
+      → group_at along_in place ≡ group_at (keys_along keys c.county c.still.by_shape) place
   group_fixed place fixed = ap (λ (g : Option (List K)). unwrap_or g []) (slice_get-map keys_of (directed_in c i) place
-      ∙ ap (option_map keys_of) (fixed_there c i place fixed) ∙ sym (slice_get-map keys_of c.shapes.by_shape place))
+      ∙ ap (option_map keys_of) (fixed_there c i place fixed) ∙ sym (slice_get-map keys_of c.still.by_shape place))
     where
       keys_of : DirectedChain → List K
       keys_of directed = flat_map keys (option_to_list (directed_chain c.county directed))
 
 -- the keys of the chains of a choice by first appearance
-abbrev pub seen_in : {K : Type 0} → (K → K → Ordering) → (Chain → List K) → OrderedCounty → ℕ → List K
+abbrev pub seen_in : {K : Type 0} → (K → K → Ordering) → (Chain → List K) → ComparedChoices → ℕ → List K
 seen_in cmp keys c i = first_seen cmp (grouped (keys_along keys c.county (directed_in c i)))
 
-module _ {K : Type 0} {cmp : K → K → Ordering} (o : IsKeyOrder cmp) (c : OrderedCounty) (i : ℕ) (keys : Chain → List K) (k : K) where
+module _ {K : Type 0} {cmp : K → K → Ordering} (o : IsKeyOrder cmp) (c : ComparedChoices) (i : ℕ) (keys : Chain → List K) (k : K) where
   -- a key of a chain is one of them
   pub chain_seen : (place : ℕ) (x : Chain) → slice_get (chains_at c i) place ≡ Some x → Known cmp (keys x) k → Known cmp (seen_in cmp keys c i) k
   chain_seen place x e h =
@@ -79,12 +79,12 @@ pub record KeyKind {K : Type 0} (cmp : K → K → Ordering) : Type 0 where
   pub new : Renumbering → K → K
   pub number : Renumbering → K → ℕ
   pub all : County → List K
-  pub list : OrderedCounty → ℕ → List K
+  pub list : ComparedChoices → ℕ → List K
   pub renumbered_keys : (r : Renumbering) (x : Chain) → keys (renumbered r x) ≡ map (new r) (keys x)
-  pub in_all : (c : OrderedCounty) (i : ℕ) (k : K) → Known cmp (seen_in cmp keys c i) k → Known cmp (all c.county) k
-  pub listed : (c : OrderedCounty) (i : ℕ) (k : K) → Known cmp (all c.county) k → Known cmp (list c i) k
-  pub number_is : (c : OrderedCounty) (i : ℕ) (k : K) → Known cmp (list c i) k → number (new_in c i) k ≡ 1 + place_in cmp (list c i) k
-  pub numbered : (c : OrderedCounty) (i j : ℕ) (k : K) → number (new_in c i) k ≡ number (new_in c j) k → new (new_in c i) k ≡ new (new_in c j) k
+  pub in_all : (c : ComparedChoices) (i : ℕ) (k : K) → Known cmp (seen_in cmp keys c i) k → Known cmp (all c.county) k
+  pub listed : (c : ComparedChoices) (i : ℕ) (k : K) → Known cmp (all c.county) k → Known cmp (list c i) k
+  pub number_is : (c : ComparedChoices) (i : ℕ) (k : K) → Known cmp (list c i) k → number (new_in c i) k ≡ 1 + place_in cmp (list c i) k
+  pub numbered : (c : ComparedChoices) (i j : ℕ) (k : K) → number (new_in c i) k ≡ number (new_in c j) k → new (new_in c i) k ≡ new (new_in c j) k
 
 -- ---- nodes
 
@@ -118,7 +118,7 @@ abbrev pub polygon_number : Renumbering → PolygonKey → ℕ
 polygon_number r k = (new_polygon r k).1
 
 -- they are seen in the choice's order
-pub polygons_seen : (c : OrderedCounty) (i : ℕ) → seen_in key_cmp chain_polygons c i ≡ polygons_in_order c.county (order_in c i)
+pub polygons_seen : (c : ComparedChoices) (i : ℕ) → seen_in key_cmp chain_polygons c i ≡ polygons_in_order c.county (order_in c i)
 polygons_seen c i = ap (first_seen key_cmp) (keys_placed c i chain_polygons)
 
 abbrev pub polygon_kind : KeyKind key_cmp
@@ -145,7 +145,7 @@ abbrev pub new_name : Renumbering → ℕ → ℕ
 new_name r = image nat_cmp r.names
 
 -- a name of a chain is one of the county
-pub name_known : (c : OrderedCounty) (i k : ℕ) → Known nat_cmp (seen_in nat_cmp chain_feats c i) k → Known nat_cmp (feats c.county) k
+pub name_known : (c : ComparedChoices) (i k : ℕ) → Known nat_cmp (seen_in nat_cmp chain_feats c i) k → Known nat_cmp (feats c.county) k
 name_known c i k h =
     let chains : List (ℕ × Chain) = placed c.county (order_in c i) in
     let named = among-unpieces (λ (entry : ℕ × Chain). chain_feats entry.1) k chains
@@ -177,7 +177,7 @@ name_kind = record {
 
 -- Numbers of keys in two choices. Two wanted keys compare alike in both counties; any other key has one number in both choices, in each county
 -- that has it.
-pub record AreNumberedAlike {K : Type 0} {cmp : K → K → Ordering} (kind : KeyKind cmp) (wanted : List K) (whole small : OrderedCounty) (n m : ℕ)
+pub record AreNumberedAlike {K : Type 0} {cmp : K → K → Ordering} (kind : KeyKind cmp) (wanted : List K) (whole small : ComparedChoices) (n m : ℕ)
     : Type 0 where
   pub wanted_alike : (j k : K) → contains cmp j wanted ≡ true → contains cmp k wanted ≡ true → Known cmp (kind.all small.county) j
       → Known cmp (kind.all small.county) k
@@ -191,10 +191,10 @@ module _ {K : Type 0} {cmp : K → K → Ordering} (kind : KeyKind cmp) (wanted_
   abbrev is_wanted : K → Bool
   is_wanted k = contains cmp k wanted_keys
 
-  abbrev pub AreMasked : OrderedCounty → Type 0
+  abbrev pub AreMasked : ComparedChoices → Type 0
   AreMasked c = (n m : ℕ) → masked_by is_wanted (kind.list c n) ≡ masked_by is_wanted (kind.list c m)
 
-  module _ (c : OrderedCounty) (masked : AreMasked c) (n m : ℕ) where
+  module _ (c : ComparedChoices) (masked : AreMasked c) (n m : ℕ) where
     wanted_compare : (j k : K) → is_wanted j ≡ true → is_wanted k ≡ true → Known cmp (kind.list c n) j → Known cmp (kind.list c m) k
         → nat_cmp (kind.number (new_in c n) j) (kind.number (new_in c m) k)
         ≡ nat_cmp (place_in cmp (filter is_wanted (kind.list c n)) j) (place_in cmp (filter is_wanted (kind.list c m)) k)
@@ -208,7 +208,7 @@ module _ {K : Type 0} {cmp : K → K → Ordering} (kind : KeyKind cmp) (wanted_
         ∙ ap (λ p. 1 + p) (same_place kind.order is_wanted (kind.list c n) (kind.list c m) (masked n m) k e)
         ∙ sym (kind.number_is c m k (kind.listed c m k h))
 
-  pub numbered_alike : (whole small : OrderedCounty) → AreMasked whole → AreMasked small
+  pub numbered_alike : (whole small : ComparedChoices) → AreMasked whole → AreMasked small
       → ((n : ℕ) → filter is_wanted (kind.list whole n) ≡ filter is_wanted (kind.list small n))
       → (n m : ℕ) → AreNumberedAlike kind wanted_keys whole small n m
   numbered_alike whole small masked small_masked same n m = record {
@@ -227,21 +227,21 @@ module _ {K : Type 0} {cmp : K → K → Ordering} (kind : KeyKind cmp) (wanted_
 
 -- Keys by first appearance in the choices of a county and of its small county: in each county two choices differ in wanted keys alone, both
 -- counties have these in one order, and all keys of chains at open places are there.
-pub record AreSeenAlike {K : Type 0} {cmp : K → K → Ordering} (kind : KeyKind cmp) (wanted_keys : List K) (whole small : OrderedCounty) : Type 0 where
+pub record AreSeenAlike {K : Type 0} {cmp : K → K → Ordering} (kind : KeyKind cmp) (wanted_keys : List K) (whole small : ComparedChoices) : Type 0 where
   pub reordered : (n m : ℕ) → AreReordered kind.order (λ k. contains cmp k wanted_keys) (seen_in cmp kind.keys whole n) (seen_in cmp kind.keys whole m)
   pub small_reordered : (n m : ℕ)
       → AreReordered kind.order (λ k. contains cmp k wanted_keys) (seen_in cmp kind.keys small n) (seen_in cmp kind.keys small m)
   pub same : (n : ℕ) → filter (λ k. contains cmp k wanted_keys) (seen_in cmp kind.keys whole n)
       ≡ filter (λ k. contains cmp k wanted_keys) (seen_in cmp kind.keys small n)
-  pub opened_seen : (n : ℕ) (k : K) → Known cmp (keys_at_open kind.keys whole.county whole.shapes) k → Known cmp (seen_in cmp kind.keys whole n) k
-  pub opened_small : (n : ℕ) (k : K) → Known cmp (keys_at_open kind.keys whole.county whole.shapes) k → Known cmp (seen_in cmp kind.keys small n) k
+  pub opened_seen : (n : ℕ) (k : K) → Known cmp (keys_at_open kind.keys whole.county whole.still) k → Known cmp (seen_in cmp kind.keys whole n) k
+  pub opened_small : (n : ℕ) (k : K) → Known cmp (keys_at_open kind.keys whole.county whole.still) k → Known cmp (seen_in cmp kind.keys small n) k
 
-module _ {K : Type 0} {cmp : K → K → Ordering} (kind : KeyKind cmp) (c : OrderedCounty) where
+module _ {K : Type 0} {cmp : K → K → Ordering} (kind : KeyKind cmp) (c : ComparedChoices) where
   abbrev opens : ℕ → Bool
-  opens = is_open c.shapes.places
+  opens = is_open c.still.places
 
   abbrev by_shape : List DirectedChain
-  by_shape = c.shapes.by_shape
+  by_shape = c.still.by_shape
 
   -- the keys of a directed chain
   abbrev keys_of : DirectedChain → List K
@@ -263,8 +263,8 @@ module _ {K : Type 0} {cmp : K → K → Ordering} (kind : KeyKind cmp) (c : Ord
   read_all : (n : ℕ) → tested (λ p. true) (directed_in c n) ≡ grouped (along_in c n kind.keys)
   read_all n = all_kept keys_of 0 (directed_in c n) ∙ sym (grouped_map keys_of (directed_in c n))
 
-  -- those at open places of the order of shapes
-  read_open : tested opens by_shape ≡ keys_at_open kind.keys c.county c.shapes
+  -- those at places that are still open
+  read_open : tested opens by_shape ≡ keys_at_open kind.keys c.county c.still
   read_open = read_at opens by_shape ∙ sym (grouped_map (keys_there by_shape) _)
 
   -- Choices, read at the places that pass a test.
@@ -275,14 +275,14 @@ module _ {K : Type 0} {cmp : K → K → Ordering} (kind : KeyKind cmp) (c : Ord
 
     from_shapes : (n : ℕ) → AreReordered kind.order wanted (seen by_shape) (seen (directed_in c n))
     from_shapes n = (all_moved kind.order keys_of opens keep open_kept wanted other_way
-        (turned_alike c.county kind.order kind.keys kind.turned_keys) c.shapes.places by_shape n c.known.within
-        (covered_among c.shapes.places c.shapes.places (λ place e. e)) earlier).reordered [] (λ k h. h)
+        (turned_alike c.county kind.order kind.keys kind.turned_keys) c.still.places by_shape (c.digits n) c.inside
+        (covered_among c.still.places c.still.places (λ place e. e)) earlier).reordered [] (λ k h. h)
 
     between : (n m : ℕ) → AreReordered kind.order wanted (seen (directed_in c n)) (seen (directed_in c m))
     between n m = reordered_then kind.order wanted _ _ _ (reordered_back kind.order wanted _ _ (from_shapes n)) (from_shapes m)
 
     -- the keys at open places are among them
-    opened_between : (n : ℕ) (k : K) → Known cmp (keys_at_open kind.keys c.county c.shapes) k → Known cmp (seen (directed_in c n)) k
+    opened_between : (n : ℕ) (k : K) → Known cmp (keys_at_open kind.keys c.county c.still) k → Known cmp (seen (directed_in c n)) k
     opened_between n k h =
         let along : ℕ → List K = keys_there by_shape in
         let places : List ℕ = range_with_len 0 (length by_shape) in
@@ -293,21 +293,21 @@ module _ {K : Type 0} {cmp : K → K → Ordering} (kind : KeyKind cmp) (c : Ord
         (subst (λ ks. Known cmp ks k) (sym (read_at keep by_shape)) (among_known kind.order k (flat_map along (filter keep places))
         (among-pieces along there.0 k (filter keep places) (to_filter keep there.0 places place.0 (open_kept there.0 place.1)) there.2))))
 
-  -- A key that doesn't first appear at an open place of the order of shapes has one place in all choices.
-  pub unopened_stays : (n m : ℕ) (k : K) → contains cmp k (first_open cmp c.shapes.places (keys_along kind.keys c.county by_shape)) ≡ false
+  -- A key that doesn't first appear at a place that is still open has one place in all choices.
+  pub unopened_stays : (n m : ℕ) (k : K) → contains cmp k (first_open cmp c.still.places (keys_along kind.keys c.county by_shape)) ≡ false
       → place_in cmp (seen_in cmp kind.keys c n) k ≡ place_in cmp (seen_in cmp kind.keys c m) k
   unopened_stays n m k e =
       same_place kind.order opened (seen_in cmp kind.keys c n) (seen_in cmp kind.keys c m)
       (reordered_all kind.order opened (seen_in cmp kind.keys c n) (seen_in cmp kind.keys c m)
       (rw (← read_all n, ← read_all m) (between opened (λ p. true) (λ p f. refl)
       (first_earlier kind.order keys_of opens (λ p. true) (λ p f. refl) opened (λ p. refl) [] [] 0 by_shape (λ j f h. h)
-      (λ j h. lt-ltb 0 (times cmp j (first_open cmp c.shapes.places (keys_along kind.keys c.county by_shape))) h)) n m))) k e
+      (λ j h. lt-ltb 0 (times cmp j (first_open cmp c.still.places (keys_along kind.keys c.county by_shape))) h)) n m))) k e
     where
       opened : K → Bool
-      opened j = contains cmp j (first_open cmp c.shapes.places (keys_along kind.keys c.county by_shape))
+      opened j = contains cmp j (first_open cmp c.still.places (keys_along kind.keys c.county by_shape))
 
   -- If all keys at open places are wanted:
-  module _ (wanted_keys : List K) (opened_wanted : (k : K) → Known cmp (keys_at_open kind.keys c.county c.shapes) k → Known cmp wanted_keys k) where
+  module _ (wanted_keys : List K) (opened_wanted : (k : K) → Known cmp (keys_at_open kind.keys c.county c.still) k → Known cmp wanted_keys k) where
     abbrev wanted : K → Bool
     wanted k = contains cmp k wanted_keys
 
@@ -339,14 +339,14 @@ module _ {K : Type 0} {cmp : K → K → Ordering} (kind : KeyKind cmp) (c : Ord
     pub reordered_in : (n m : ℕ) → AreReordered kind.order wanted (seen_in cmp kind.keys c n) (seen_in cmp kind.keys c m)
     reordered_in n m = rw (← read_all n, ← read_all m) (between wanted (λ p. true) (λ p e. refl) (open_earlier (λ p. true) (λ p e. refl)) n m)
 
-    pub opened_seen_in : (n : ℕ) (k : K) → Known cmp (keys_at_open kind.keys c.county c.shapes) k → Known cmp (seen_in cmp kind.keys c n) k
+    pub opened_seen_in : (n : ℕ) (k : K) → Known cmp (keys_at_open kind.keys c.county c.still) k → Known cmp (seen_in cmp kind.keys c n) k
     opened_seen_in n k h = rw (← read_all n) (opened_between wanted (λ p. true) (λ p e. refl) (open_earlier (λ p. true) (λ p e. refl)) n k h)
 
     -- A small county, whose chains in a choice are those at kept places; each place with a new key is kept.
-    module _ (new_kept : (place : ℕ) → has_new_at cmp c.shapes.places wanted_keys (keys_along kind.keys c.county by_shape) place ≡ true
-        → is_kept c.county c.shapes place ≡ true) (small : OrderedCounty) (part : IsKeptPart c small (is_kept c.county c.shapes)) where
+    module _ (new_kept : (place : ℕ) → has_new_at cmp c.still.places wanted_keys (keys_along kind.keys c.county by_shape) place ≡ true
+        → is_kept c.county c.shapes c.still place ≡ true) (small : ComparedChoices) (part : IsKeptPart c small (is_kept c.county c.shapes c.still)) where
       abbrev kept : ℕ → Bool
-      kept = is_kept c.county c.shapes
+      kept = is_kept c.county c.shapes c.still
 
       -- the keys at kept places
       read_kept : (n : ℕ) → tested kept (directed_in c n) ≡ flat_map (keys_there (directed_in c n)) (places_in c kept)
@@ -378,9 +378,9 @@ module _ {K : Type 0} {cmp : K → K → Ordering} (kind : KeyKind cmp) (c : Ord
               → IsKeptEarlier kind.order kept (group_at here) place k
           kept_earlier place out k h is_wanted =
               let along : List (List K) = keys_along kind.keys c.county by_shape in
-              let nothing = false_from_ne_true (has_new_at cmp c.shapes.places wanted_keys along place) (λ e. false≢true (sym out ∙ new_kept place e)) in
+              let nothing = false_from_ne_true (has_new_at cmp c.still.places wanted_keys along place) (λ e. false≢true (sym out ∙ new_kept place e)) in
               let first =
-              fixed_before kind.order c.shapes.places along wanted_keys place nothing k is_wanted
+              fixed_before kind.order c.still.places along wanted_keys place nothing k is_wanted
               (subst (λ ks. Known cmp ks k) (group_fixed c n kind.keys place (part.fixed place out)) h) in
               record {
                 before = first.0.first;
@@ -391,7 +391,7 @@ module _ {K : Type 0} {cmp : K → K → Ordering} (kind : KeyKind cmp) (c : Ord
 
       pub seen_alike : AreSeenAlike kind wanted_keys c small
       seen_alike =
-          let open_kept = λ (p : ℕ) (e : opens p ≡ true). or_left (opens p) _ e in
+          let open_kept = λ (p : ℕ) (e : opens p ≡ true). or_left (is_open c.shapes.places p) _ (c.opened p e) in
           let at_kept = open_earlier kept open_kept in
           record {
             reordered = reordered_in;

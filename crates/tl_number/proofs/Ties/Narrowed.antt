@@ -23,7 +23,7 @@ fewer n (suc most) (suc more) (x ∷ xs) (y ∷ ys) m l =
     (omega (arith, l, length-drop n (x ∷ xs), length-drop n (y ∷ ys))) in
     omega (arith, rest)
 
--- a group of which the elements that pass a test are left
+-- the elements of a group that pass a test
 pub group_filtered : {X : Type 0} (test : X → Bool) (groups : List (List X)) (place : ℕ) → group_at (map (filter test) groups) place ≡ filter test (group_at groups place)
 group_filtered {X} test groups place = ap (λ (g : Option (List X)). unwrap_or g []) (slice_get-map (filter test) groups place) ∙ go (slice_get groups place)
   where
@@ -233,7 +233,7 @@ module _ (wanted : ℕ → Bool) (county : County) where
       counts = packed_within most_records narrow counts_narrow;
     }
 
-  -- ---- an order of the county's shapes is one of its shapes, and leaves as many choices
+  -- ---- an order of the county's shapes is an order of its own shapes too, and leaves as many choices
 
   pub choices_narrow : choices narrow ≡ choices county
   choices_narrow =

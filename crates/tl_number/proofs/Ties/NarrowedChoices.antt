@@ -7,13 +7,13 @@ use Rattle.county_chart.specs.Packing.{packed_p}
 use Rattle.tl_number.proofs.Ties.CountyParts.{all_pass}
 use Rattle.tl_number.proofs.Ties.KeyKinds.{AreNumberedAlike, AreSeenAlike, keys_placed, name_kind, new_node, new_polygon, opened_seen_in, reordered_in, seen_in}
 use Rattle.tl_number.proofs.Ties.Narrowed.{directed_narrow, feats_narrow, keys_narrow, narrow_chain, narrow_is, narrow_leaves, narrow_within}
-use Rattle.tl_number.proofs.Ties.OrderedCounty.{OrderedCounty, chains_at, chains_numbered, choice, directed_in, new_in, order_in, read_in}
+use Rattle.tl_number.proofs.Ties.ComparedChoices.{ComparedChoices, chains_at, chains_numbered, choice, directed_in, new_in, order_in, read_in}
 use Rattle.tl_number.proofs.Ties.Ranks.{AreReordered, in_filtered, masked_by, seen_filtered, to_filtered}
 use Rattle.tl_number.proofs.Ties.SmallKeys.{numbered_map, same_record}
 use Rattle.tl_number.proofs.Ties.WantedNames.{names_alike}
 use Rattle.tl_number.specs.CountyParts.{narrowed}
 
--- lists that differ in wanted keys alone do so if only the keys that pass a test are left
+-- if two lists differ only in wanted keys, so do their keys that pass a test
 module _ {K : Type 0} {cmp : K → K → Ordering} (o : IsKeyOrder cmp) where
   reordered_filter : (wanted test : K → Bool) (xs ys : List K) → AreReordered o wanted xs ys → AreReordered o wanted (filter test xs) (filter test ys)
   reordered_filter wanted test xs ys h = record {
@@ -25,23 +25,31 @@ module _ {K : Type 0} {cmp : K → K → Ordering} (o : IsKeyOrder cmp) where
         ∙ sym (ap (masked_by wanted) (filter-filtered test also ys));
   }
 
--- of all groups, the elements that pass a test
+-- the elements of all groups that pass a test
 pub grouped_filter : {X : Type 0} (test : X → Bool) (groups : List (List X)) → grouped (map (filter test) groups) ≡ filter test (grouped groups)
 grouped_filter test [] = refl
 grouped_filter test (group ∷ groups) = ap (λ xs. filter test group ++ xs) (grouped_filter test groups) ∙ sym (filter-append test group (grouped groups))
 
--- the county with only the names that chains at open places have; it has the same order of shapes
-module _ (c : OrderedCounty) where
+-- the county with only the names that chains at places that are still open have; it has the same order of shapes
+module _ (c : ComparedChoices) where
   abbrev pub is_wanted : ℕ → Bool
-  is_wanted feat = contains nat_cmp feat (wanted_feats c.county c.shapes)
+  is_wanted feat = contains nat_cmp feat (wanted_feats c.county c.still)
 
-  abbrev pub narrow : OrderedCounty
+  abbrev pub narrow : ComparedChoices
   narrow = record {
     county = narrowed is_wanted c.county;
     shapes = c.shapes;
     known = narrow_leaves is_wanted c.county c.shapes c.known;
     is = narrow_is is_wanted c.county c.is;
     within = narrow_within is_wanted c.county c.within;
+    still = c.still;
+    base = c.base;
+    based = c.based;
+    inside = c.inside;
+    opened = c.opened;
+    number = c.number;
+    digits = c.digits;
+    stand = c.stand;
   }
 
   -- Its chains in a choice are those of the county, with only wanted names.
@@ -66,21 +74,21 @@ module _ (c : OrderedCounty) where
       ∙ ap (first_seen nat_cmp) (grouped_filter is_wanted along)
       ∙ sym (seen_filtered nat_keys is_wanted [] (grouped along))
 
-  seen_alike : AreSeenAlike name_kind (wanted_feats c.county c.shapes) c narrow
+  seen_alike : AreSeenAlike name_kind (wanted_feats c.county c.still) c narrow
   seen_alike = record {
-    reordered = reordered_in name_kind c (wanted_feats c.county c.shapes) (λ k h. h);
+    reordered = reordered_in name_kind c (wanted_feats c.county c.still) (λ k h. h);
     small_reordered = λ n m. subst (AreReordered nat_keys is_wanted (seen_in nat_cmp chain_feats narrow n)) (sym (seen_narrow m))
         (subst (λ ks. AreReordered nat_keys is_wanted ks (filter is_wanted (seen_in nat_cmp chain_feats c m))) (sym (seen_narrow n))
         (reordered_filter nat_keys is_wanted is_wanted (seen_in nat_cmp chain_feats c n) (seen_in nat_cmp chain_feats c m)
-        (reordered_in name_kind c (wanted_feats c.county c.shapes) (λ k h. h) n m)));
+        (reordered_in name_kind c (wanted_feats c.county c.still) (λ k h. h) n m)));
     same = λ n. sym (ap (filter is_wanted) (seen_narrow n)
         ∙ filter_all is_wanted (filter is_wanted (seen_in nat_cmp chain_feats c n)) (all_pass is_wanted (seen_in nat_cmp chain_feats c n)));
-    opened_seen = opened_seen_in name_kind c (wanted_feats c.county c.shapes) (λ k h. h);
+    opened_seen = opened_seen_in name_kind c (wanted_feats c.county c.still) (λ k h. h);
     opened_small = λ n k h. subst (λ ks. Known nat_cmp ks k) (sym (seen_narrow n)) (to_filtered nat_keys is_wanted (seen_in nat_cmp chain_feats c n) k
-        (opened_seen_in name_kind c (wanted_feats c.county c.shapes) (λ j l. l) n k h) (lt-ltb 0 (times nat_cmp k (wanted_feats c.county c.shapes)) h));
+        (opened_seen_in name_kind c (wanted_feats c.county c.still) (λ j l. l) n k h) (lt-ltb 0 (times nat_cmp k (wanted_feats c.county c.still)) h));
   }
 
-  pub numbered_narrow : (n m : ℕ) → AreNumberedAlike name_kind (wanted_feats c.county c.shapes) c narrow n m
+  pub numbered_narrow : (n m : ℕ) → AreNumberedAlike name_kind (wanted_feats c.county c.still) c narrow n m
   numbered_narrow = names_alike c narrow seen_alike (λ k h. refl)
 
   -- ---- nodes, polygons and landmarks have the same new numbers

@@ -5,13 +5,13 @@ use Rattle.tl_number.proofs.Ties.Columns.{place_number, places_alike, places_cmp
 use Rattle.tl_number.proofs.Ties.KeyKinds.{chain_seen, name_kind, new_name, opened_in}
 use Rattle.tl_number.proofs.Ties.Narrowed.{narrow_chain}
 use Rattle.tl_number.proofs.Ties.NarrowedChoices.{is_wanted, narrow, numbered_narrow, there_narrow}
-use Rattle.tl_number.proofs.Ties.OrderedCounty.{OrderedCounty, chains_at, choice, new_in, same_at}
+use Rattle.tl_number.proofs.Ties.ComparedChoices.{ComparedChoices, chains_at, choice, new_in, same_at}
 use Rattle.tl_number.proofs.Ties.ListsAlike.{among_filtered}
 use Rattle.tl_number.proofs.Ties.Ranks.{wanted_decide}
 use Rattle.tl_number.proofs.Ties.SmallKeys.{AreWanted, four, fours, fours_made, wanted_pair}
 use Rattle.tl_number.proofs.Ties.SmallRecords.{as_many_in, by_tlid, choices_decide, first_twice, groups_are, images_in_order, keyed, lengths, made_at, made_if, made_in, tlid_first, tlids_decide}
 
--- ---- records of one chain compare as its names
+-- ---- records of one chain compare as the numbers of its names do
 
 -- a last comparison that finds both equal decides nothing
 then_none : (o : Ordering) → ordering_then o Equal ≡ o
@@ -19,7 +19,7 @@ then_none Less = refl
 then_none Equal = refl
 then_none Greater = refl
 
--- as many numbers in places compare as lists
+-- numbers in equally many places compare as lists do
 places_order : (count : ℕ) (us vs : List ℕ) → length us ≡ length vs → length us ≤ count → places_cmp count (place_number us) (place_number vs) ≡ slice_cmp nat_cmp us vs
 places_order zero [] [] e l = refl
 places_order zero [] (v ∷ vs) e l = absurd (omega (arith, e))
@@ -86,8 +86,8 @@ module _ {X : Type 0} (cmp : X → X → Ordering) (key : X → ℕ) (by_key : (
       ap (λ o. ordering_then o (slice_cmp cmp xs ys))
       (by_key x y (λ f. absurd (omega (arith, e, f, more))) ∙ sym (nat_cmp_is (key x) (key y) Less (omega (arith, e, more))))
 
-  -- Two groups whose records compare alike one by one, and what is after them. Where one group has fewer records, its list goes on with a
-  -- greater key.
+  -- Two groups whose records compare alike one by one, each followed by other records. If one group has fewer records, a greater key
+  -- follows it.
   module _ {V W : Type 0} (n : ℕ) (f h : V → X) (g k : W → X) (keyed : (v : V) → (key (f v) ≡ n) × (key (h v) ≡ n))
       (keyed_too : (w : W) → (key (g w) ≡ n) × (key (k w) ≡ n)) (P : V → Type 0) (Q : W → Type 0)
       (alike : (v : V) (w : W) → P v → Q w → cmp (f v) (g w) ≡ cmp (h v) (k w)) where
@@ -107,7 +107,7 @@ module _ {X : Type 0} (cmp : X → X → Ordering) (key : X → ℕ) (by_key : (
         ap₂ ordering_then (alike v w p.0 q.0)
         (pairs_decide vs ws p.1 q.1 xs ys us zs a b c d (omega (arith, many)) (omega (arith, some)) rest)
 
-  -- The groups from a place on, and the next one.
+  -- The groups from a place on: the first of them, and those after it.
   abbrev IsKeyed : (ℕ → List X) → Type 0
   IsKeyed F = (place : ℕ) → AllByRecursion (λ x. key x ≡ suc place) (F place)
 
@@ -119,17 +119,17 @@ module _ {X : Type 0} (cmp : X → X → Ordering) (key : X → ℕ) (by_key : (
 
 -- ---- two choices of a county, and of the county whose chains have only wanted names
 
-module _ (c : OrderedCounty) (n k : ℕ) where
+module _ (c : ComparedChoices) (n k : ℕ) where
   abbrev by : FieldsOf Type4 → FieldsOf Type4 → Ordering
   by = by_tlid fours
 
   abbrev keeps : ℕ → Bool
   keeps = is_wanted c
 
-  abbrev thin : OrderedCounty
+  abbrev thin : ComparedChoices
   thin = narrow c
 
-  abbrev number : OrderedCounty → ℕ → ℕ → ℕ
+  abbrev number : ComparedChoices → ℕ → ℕ → ℕ
   number of i = new_name (new_in of i)
 
   -- a wanted name of the county
@@ -138,9 +138,9 @@ module _ (c : OrderedCounty) (n k : ℕ) where
 
   abbrev are : AreWanted name_kind c thin (λ place. true)
   are = record {
-    wanted = wanted_feats c.county c.shapes;
+    wanted = wanted_feats c.county c.still;
     alike = numbered_narrow c;
-    opened = opened_in name_kind c (wanted_feats c.county c.shapes) (λ j h. h);
+    opened = opened_in name_kind c (wanted_feats c.county c.still) (λ j h. h);
     kept = λ place e. refl;
   }
 
@@ -182,7 +182,7 @@ module _ (c : OrderedCounty) (n k : ℕ) where
         ∙ sym (names_order own_tlid (map (number thin n) some) (map (number thin k) some) (length-map some (number thin n) ∙ sym (length-map some (number thin k))))
         ∙ ap₂ (slice_cmp by) (fours_made (number thin n) own_tlid some) (fours_made (number thin k) own_tlid some)
 
-  fixed_alike : (place : ℕ) → is_open c.shapes.places place ≡ false
+  fixed_alike : (place : ℕ) → is_open c.still.places place ≡ false
       → slice_cmp by (made_at fours c n place) (made_at fours c k place) ≡ slice_cmp by (made_at fours thin n place) (made_at fours thin k place)
   fixed_alike place fixed =
       ap (slice_cmp by (made_at fours c n place)) (ap (made_if fours c k place) (same_at c k n place fixed))
@@ -201,14 +201,14 @@ module _ (c : OrderedCounty) (n k : ℕ) where
   abbrev pieces_of : Option Chain → List (ℕ × List ℕ)
   pieces_of chain = unwrap_or (option_map (λ x. numbered_from 1 (in_pieces 5 x.feats)) chain) []
 
-  abbrev made_of : OrderedCounty → ℕ → ℕ → ℕ × List ℕ → FieldsOf Type4
+  abbrev made_of : ComparedChoices → ℕ → ℕ → ℕ × List ℕ → FieldsOf Type4
   made_of of i tlid piece = four tlid (piece.0, map (number of i) piece.1)
 
-  pieces_made : (of : OrderedCounty) (i place : ℕ) (chain : Option Chain) → made_if fours of i place chain ≡ map (made_of of i (suc place)) (pieces_of chain)
+  pieces_made : (of : ComparedChoices) (i place : ℕ) (chain : Option Chain) → made_if fours of i place chain ≡ map (made_of of i (suc place)) (pieces_of chain)
   pieces_made of i place None = refl
   pieces_made of i place (Some x) = refl
 
-  module _ (place : ℕ) (opened : is_open c.shapes.places place ≡ true) (i : ℕ) where
+  module _ (place : ℕ) (opened : is_open c.still.places place ≡ true) (i : ℕ) where
     wanted_there : (chain : Option Chain) → slice_get (chains_at c i) place ≡ chain → IfSome chain (λ x. AllByRecursion IsWantedName x.feats)
     wanted_there None e = tt
     wanted_there (Some x) e = all_known nat_keys IsWantedName x.feats (λ j h. (are.opened i place x opened e j h, name_there i place x e j h))
@@ -261,13 +261,13 @@ module _ (c : OrderedCounty) (n k : ℕ) where
   -- ---- all places
 
   -- records of the places from one on
-  abbrev from_place : OrderedCounty → ℕ → ℕ → ℕ → List (FieldsOf Type4)
+  abbrev from_place : ComparedChoices → ℕ → ℕ → ℕ → List (FieldsOf Type4)
   from_place of i place count = groups_from (made_at fours of i) place count
 
-  later : (of : OrderedCounty) (i place count : ℕ) → AllByRecursion (IsLater by fours.tlid (tlids_decide fours) (suc place)) (from_place of i (suc place) count)
+  later : (of : ComparedChoices) (i place count : ℕ) → AllByRecursion (IsLater by fours.tlid (tlids_decide fours) (suc place)) (from_place of i (suc place) count)
   later of i place count = all_later by fours.tlid (tlids_decide fours) (made_at fours of i) (keyed fours of i) (suc place) (suc place) count (omega arith)
 
-  open_next : (place count : ℕ) → is_open c.shapes.places place ≡ true
+  open_next : (place count : ℕ) → is_open c.still.places place ≡ true
       → length (from_place c n place (suc count)) ≡ length (from_place c k place (suc count))
       → length (from_place thin n place (suc count)) ≡ length (from_place thin k place (suc count))
       → (length (from_place c n (suc place) count) ≡ length (from_place c k (suc place) count)
@@ -294,15 +294,15 @@ module _ (c : OrderedCounty) (n k : ℕ) where
       → length (from_place thin n place count) ≡ length (from_place thin k place count)
       → slice_cmp by (from_place c n place count) (from_place c k place count) ≡ slice_cmp by (from_place thin n place count) (from_place thin k place count)
   all_places place zero many some = refl
-  all_places place (suc count) many some = go (is_open c.shapes.places place) refl (all_places (suc place) count)
+  all_places place (suc count) many some = go (is_open c.still.places place) refl (all_places (suc place) count)
     where
-      here : OrderedCounty → ℕ → List (FieldsOf Type4)
+      here : ComparedChoices → ℕ → List (FieldsOf Type4)
       here of i = made_at fours of i place
 
-      rest : OrderedCounty → ℕ → List (FieldsOf Type4)
+      rest : ComparedChoices → ℕ → List (FieldsOf Type4)
       rest of i = from_place of i (suc place) count
 
-      go : (b : Bool) → is_open c.shapes.places place ≡ b → (length (rest c n) ≡ length (rest c k) → length (rest thin n) ≡ length (rest thin k)
+      go : (b : Bool) → is_open c.still.places place ≡ b → (length (rest c n) ≡ length (rest c k) → length (rest thin n) ≡ length (rest thin k)
           → slice_cmp by (rest c n) (rest c k) ≡ slice_cmp by (rest thin n) (rest thin k))
           → slice_cmp by (here c n ++ rest c n) (here c k ++ rest c k) ≡ slice_cmp by (here thin n ++ rest thin n) (here thin k ++ rest thin k)
       go true e next = open_next place count e many some next
@@ -318,10 +318,10 @@ module _ (c : OrderedCounty) (n k : ℕ) where
   -- The records of type 4 compare alike.
   pub fours_narrow : groups_cmp Four (type_4_by_chain (choice c n)) (type_4_by_chain (choice c k))
       ≡ groups_cmp Four (type_4_by_chain (choice thin n)) (type_4_by_chain (choice thin k))
-  fours_narrow = by_place c ∙ all_places 0 (length c.shapes.by_shape) (as_many_in fours c n k) (as_many_in fours thin n k) ∙ sym (by_place thin)
+  fours_narrow = by_place c ∙ all_places 0 (length c.still.by_shape) (as_many_in fours c n k) (as_many_in fours thin n k) ∙ sym (by_place thin)
     where
-      by_place : (of : OrderedCounty) → groups_cmp Four (type_4_by_chain (choice of n)) (type_4_by_chain (choice of k))
-          ≡ slice_cmp by (from_place of n 0 (length of.shapes.by_shape)) (from_place of k 0 (length of.shapes.by_shape))
+      by_place : (of : ComparedChoices) → groups_cmp Four (type_4_by_chain (choice of n)) (type_4_by_chain (choice of k))
+          ≡ slice_cmp by (from_place of n 0 (length of.still.by_shape)) (from_place of k 0 (length of.still.by_shape))
       by_place of = choices_decide Type4 type_4_by_chain fours_fit of n k
           ∙ tlid_first fours (λ r s. first_twice (nat_cmp r.tlid s.tlid) (rows_cmp (drop 1 table_4) r s)) n k of
           ∙ ap₂ (slice_cmp by) (groups_are fours of n) (groups_are fours of k)

@@ -1,18 +1,17 @@
--- Two choices are in one order in a county and in the part of it in which they are compared: the small county of the county whose chains
+-- Two choices are in the same order in a county and in the part of it where they are compared: the small county of the county whose chains
 -- have only wanted names.
-use Rattle.tl_number.proofs.Common.{AllByRecursion, Bool, County, DirectedChain, Eight, Equal, I, IsLeastBelow, List, One, OpenPlace, P, Six, [], all_known, all_weaker, ap, ap₂, at_places, bodies_at, chain_feats, chain_nodes, chain_polygons, choices, choices_cmp, cond, contains, false, filter, filter_all, first_open, fixed_keys, flat_map, group_at, grouped, groups_cmp, has_name, has_new, has_new_at, is_gt, is_kept, is_open, kept_landmarks, kept_lands, kept_tlids, key_cmp, keys_along, lands, length, link_keys_at, list_any, lt-ltb, map, map-map, names_linked, nat_cmp, nat_keys, nat_lt, not, open_among, ordering_then, range_with_len, refl, subst, sym, times, times-filter, true, wanted_feats, wanted_nodes, wanted_polygons, ℕ, ◌&&◌, ◌++◌, ◌<◌, ◌||◌, ◌∙◌, ◌∷◌, ◌≡◌}
+use Rattle.tl_number.proofs.Common.{Bool, County, DirectedChain, Eight, I, List, One, OpenPlace, P, Six, [], all_known, ap, ap₂, at_places, bodies_at, chain_feats, chain_nodes, chain_polygons, choices, choices_cmp, cond, contains, false, filter, filter_all, first_open, fixed_keys, flat_map, group_at, grouped, groups_cmp, has_name, has_new, has_new_at, is_kept, is_open, kept_landmarks, kept_lands, kept_tlids, key_cmp, keys_along, lands, length, link_keys_at, list_any, lt-ltb, map, map-map, names_linked, nat_cmp, nat_keys, nat_lt, not, open_among, ordering_then, range_with_len, refl, sym, times, times-filter, true, wanted_feats, wanted_nodes, wanted_polygons, ℕ, ◌&&◌, ◌++◌, ◌||◌, ◌∙◌, ◌∷◌, ◌≡◌}
 use Rattle.record_groups.specs.TypeOneOrder.{ones_cmp}
 use Rattle.std.specs.Prelude.{slice_index}
 use Rattle.tl_number.proofs.Choices.LeastOnes.{by_ones}
 use Rattle.tl_number.proofs.Ties.Narrowed.{choices_narrow, feats_narrow, group_filtered, keys_narrow, tlids_narrow}
 use Rattle.tl_number.proofs.Ties.NarrowedChoices.{areas_narrow, eights_narrow, grouped_filter, is_wanted, narrow, ones_narrow, sixes_narrow, topologies_narrow}
 use Rattle.tl_number.proofs.Ties.NarrowedNames.{fours_narrow}
-use Rattle.tl_number.proofs.Ties.OrderedCounty.{OrderedCounty}
+use Rattle.tl_number.proofs.Ties.ComparedChoices.{ComparedChoices}
 use Rattle.tl_number.proofs.Ties.SmallCounty.{small_choices}
 use Rattle.tl_number.proofs.Ties.SmallLandmarks.{sevens_tie}
 use Rattle.tl_number.proofs.Ties.SmallOrder.{fives_tie, small_same_ones, small_same_order, twos_tie, types_decide}
 use Rattle.tl_number.specs.KeptLandmarks.{keeps_landmark}
-use Rattle.tl_number.specs.LeastOnes.{HaveLeast, HaveSameOnes}
 use Rattle.tl_number.specs.MovedKeys.{moves_keys}
 use Rattle.tl_number.specs.SmallCounty.{small_county}
 
@@ -56,9 +55,9 @@ module _ (wanted : List ℕ) where
   all_wanted : filter wants wanted ≡ wanted
   all_wanted = filter_all wants wanted (all_known nat_keys (λ key. wants key ≡ true) wanted (λ key h. lt-ltb 0 (times nat_cmp key wanted) h))
 
-module _ (c : OrderedCounty) where
+module _ (c : ComparedChoices) where
   abbrev by_shape : List DirectedChain
-  by_shape = c.shapes.by_shape
+  by_shape = c.still.by_shape
 
   abbrev thin : County
   thin = (narrow c).county
@@ -71,48 +70,48 @@ module _ (c : OrderedCounty) where
   nodes_along_shapes : keys_along chain_nodes thin by_shape ≡ keys_along chain_nodes c.county by_shape
   nodes_along_shapes = keys_narrow (is_wanted c) c.county chain_nodes (λ chain. refl) by_shape
 
-  landmarks_same : kept_landmarks thin c.shapes ≡ kept_landmarks c.county c.shapes
+  landmarks_same : kept_landmarks thin c.still ≡ kept_landmarks c.county c.still
   unfolding keeps_landmark
-  landmarks_same = ap (λ along. filter (λ place. list_any (moves_keys key_cmp along) c.shapes.places
-      && has_name (names_linked c.county (first_open key_cmp c.shapes.places along)) (bodies_at c.county place))
+  landmarks_same = ap (λ along. filter (λ place. list_any (moves_keys key_cmp along) c.still.places
+      && has_name (names_linked c.county (first_open key_cmp c.still.places along)) (bodies_at c.county place))
       (range_with_len 0 (length c.county.landmarks))) sides_along
 
-  pub kept_lands_narrow : kept_lands thin c.shapes ≡ kept_lands c.county c.shapes
+  pub kept_lands_narrow : kept_lands thin c.still ≡ kept_lands c.county c.still
   kept_lands_narrow = ap (at_places (lands c.county)) landmarks_same
 
   abbrev opens : List ℕ
-  opens = open_among c.shapes.places (length by_shape)
+  opens = open_among c.still.places (length by_shape)
 
-  feats_wanted : wanted_feats thin c.shapes ≡ wanted_feats c.county c.shapes
+  feats_wanted : wanted_feats thin c.still ≡ wanted_feats c.county c.still
   feats_wanted = ap (λ along. grouped (map (group_at along) opens)) (feats_narrow (is_wanted c) c.county by_shape)
-      ∙ groups_left (is_wanted c) (keys_along chain_feats c.county by_shape) opens ∙ all_wanted (wanted_feats c.county c.shapes)
+      ∙ groups_left (is_wanted c) (keys_along chain_feats c.county by_shape) opens ∙ all_wanted (wanted_feats c.county c.still)
 
-  nodes_wanted : wanted_nodes thin c.shapes ≡ wanted_nodes c.county c.shapes
+  nodes_wanted : wanted_nodes thin c.still ≡ wanted_nodes c.county c.still
   nodes_wanted = ap (λ along. grouped (map (group_at along) opens)) nodes_along_shapes
 
-  polygons_wanted : wanted_polygons thin c.shapes ≡ wanted_polygons c.county c.shapes
+  polygons_wanted : wanted_polygons thin c.still ≡ wanted_polygons c.county c.still
   polygons_wanted = ap₂ (λ along landmarks. grouped (map (group_at along) opens) ++ flat_map (link_keys_at c.county) landmarks) sides_along landmarks_same
 
-  kept_same : (place : ℕ) → is_kept thin c.shapes place ≡ is_kept c.county c.shapes place
+  kept_same : (place : ℕ) → is_kept thin c.shapes c.still place ≡ is_kept c.county c.shapes c.still place
   kept_same place =
-      let names : has_new_at nat_cmp c.shapes.places (wanted_feats thin c.shapes) (keys_along chain_feats thin by_shape) place
-      ≡ has_new_at nat_cmp c.shapes.places (wanted_feats c.county c.shapes) (keys_along chain_feats c.county by_shape) place =
-      ap₂ (λ wanted along. has_new_at nat_cmp c.shapes.places wanted along place) feats_wanted (feats_narrow (is_wanted c) c.county by_shape)
-      ∙ new_narrow (wanted_feats c.county c.shapes) c.shapes.places (keys_along chain_feats c.county by_shape) place in
+      let names : has_new_at nat_cmp c.still.places (wanted_feats thin c.still) (keys_along chain_feats thin by_shape) place
+      ≡ has_new_at nat_cmp c.still.places (wanted_feats c.county c.still) (keys_along chain_feats c.county by_shape) place =
+      ap₂ (λ wanted along. has_new_at nat_cmp c.still.places wanted along place) feats_wanted (feats_narrow (is_wanted c) c.county by_shape)
+      ∙ new_narrow (wanted_feats c.county c.still) c.still.places (keys_along chain_feats c.county by_shape) place in
       λ i. is_open c.shapes.places place
-      || (has_new_at nat_cmp c.shapes.places (nodes_wanted i) (nodes_along_shapes i) place
-      || (has_new_at key_cmp c.shapes.places (polygons_wanted i) (sides_along i) place || names i))
+      || (has_new_at nat_cmp c.still.places (nodes_wanted i) (nodes_along_shapes i) place
+      || (has_new_at key_cmp c.still.places (polygons_wanted i) (sides_along i) place || names i))
 
-  pub kept_tlids_narrow : kept_tlids thin c.shapes ≡ kept_tlids c.county c.shapes
+  pub kept_tlids_narrow : kept_tlids thin c.shapes c.still ≡ kept_tlids c.county c.shapes c.still
   kept_tlids_narrow = λ i. map (λ directed. slice_index (tlids_narrow (is_wanted c) c.county i) directed.place)
-      (at_places by_shape (filter (λ place. kept_same place i) (range_with_len 0 (length by_shape))))
+      (at_places c.shapes.by_shape (filter (λ place. kept_same place i) (range_with_len 0 (length c.shapes.by_shape))))
 
   -- ---- two choices are in one order
 
-  narrow_same_ones : (n k : ℕ) → ones_cmp thin n k ≡ ones_cmp c.county n k
+  narrow_same_ones : (n k : ℕ) → ones_cmp thin (c.number n) (c.number k) ≡ ones_cmp c.county (c.number n) (c.number k)
   narrow_same_ones n k = by_ones (narrow c) n k ∙ ap₂ (groups_cmp One) (ones_narrow c n) (ones_narrow c k) ∙ sym (by_ones c n k)
 
-  narrow_same_order : (n k : ℕ) → choices_cmp thin n k ≡ choices_cmp c.county n k
+  narrow_same_order : (n k : ℕ) → choices_cmp thin (c.number n) (c.number k) ≡ choices_cmp c.county (c.number n) (c.number k)
   narrow_same_order n k =
       types_decide (narrow c) n k
       ∙ (λ i. ordering_then
@@ -126,31 +125,13 @@ module _ (c : OrderedCounty) where
 
   -- the part of the county
   abbrev pub compared : County
-  compared = small_county thin c.shapes
+  compared = small_county thin c.shapes c.still
 
-  same_ones : (n k : ℕ) → ones_cmp compared n k ≡ ones_cmp c.county n k
+  pub same_ones : (n k : ℕ) → ones_cmp compared (c.number n) (c.number k) ≡ ones_cmp c.county (c.number n) (c.number k)
   same_ones n k = small_same_ones (narrow c) n k ∙ narrow_same_ones n k
 
-  same_order : (n k : ℕ) → choices_cmp compared n k ≡ choices_cmp c.county n k
+  pub same_order : (n k : ℕ) → choices_cmp compared (c.number n) (c.number k) ≡ choices_cmp c.county (c.number n) (c.number k)
   same_order n k = small_same_order (narrow c) n k ∙ narrow_same_order n k
 
   pub compared_choices : choices compared ≡ choices c.county
-  compared_choices = small_choices thin c.shapes (narrow c).known (narrow c).is ∙ choices_narrow (is_wanted c) c.county
-
-  -- So choices with the same records of type 1 have the same ones there.
-  pub have_same_there : (numbers : List ℕ) → HaveSameOnes c.county numbers → HaveSameOnes compared numbers
-  have_same_there numbers = all_weaker (λ n. AllByRecursion (λ m. ones_cmp c.county n m ≡ Equal) numbers)
-      (λ n. AllByRecursion (λ m. ones_cmp compared n m ≡ Equal) numbers)
-      (λ n. all_weaker (λ m. ones_cmp c.county n m ≡ Equal) (λ m. ones_cmp compared n m ≡ Equal)
-      (λ m e. same_ones n m ∙ e) numbers) numbers
-
-  -- The least choice of the part is the county's,
-  pub least_of_part : (k : ℕ) → IsLeastBelow compared (choices compared) k → IsLeastBelow c.county (choices c.county) k
-  least_of_part k least m l = subst (λ o. is_gt o ≡ false) (same_order k m) (least m (subst (λ count. m < count) (sym compared_choices) l))
-
-  -- and if the least of some choices is the county's, it's the part's.
-  pub have_least_there : (numbers : List ℕ) → HaveLeast c.county numbers → HaveLeast compared numbers
-  have_least_there numbers least n among m l = subst (λ o. is_gt o ≡ false) (sym (same_order n m))
-      (least n (all_weaker (λ k. is_gt (choices_cmp compared n k) ≡ false) (λ k. is_gt (choices_cmp c.county n k) ≡ false)
-      (λ k e. subst (λ o. is_gt o ≡ false) (same_order n k) e) numbers among) m
-      (subst (λ count. m < count) compared_choices l))
+  compared_choices = small_choices (narrow c) ∙ choices_narrow (is_wanted c) c.county

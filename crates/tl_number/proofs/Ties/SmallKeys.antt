@@ -4,38 +4,38 @@ use Rattle.tl_number.proofs.Ties.Columns.{fields_cmp, next_column, place_number,
 use Rattle.tl_number.proofs.Ties.KeptPieces.{all_are_there, chain_at_rank}
 use Rattle.tl_number.proofs.Ties.KeyKinds.{AreNumberedAlike, KeyKind, chain_seen, group_chain, group_fixed, group_read, keys_of_chain, name_kind, new_name, new_node, new_polygon, node_kind, polygon_kind, polygon_number}
 use Rattle.tl_number.proofs.Ties.Keys.{fixed_before}
-use Rattle.tl_number.proofs.Ties.OrderedCounty.{IsKeptPart, OrderedCounty, cenid_kept, chains_at, choice, length_at, new_in, places_in, same_at}
+use Rattle.tl_number.proofs.Ties.ComparedChoices.{ComparedChoices, IsKeptPart, cenid_kept, chains_at, choice, length_at, new_in, places_in, same_at}
 use Rattle.tl_number.proofs.Ties.SmallRecords.{AreAlike, AreTiedBefore, Making, by_tlid, first_twice, fit_at, made_at, made_in, records_are, records_small, tied_same, tlid_first}
 
 -- The wanted keys of a kind: their numbers compare alike in both counties, each key of a chain at an open place is one of them, and a
 -- place where one is new is kept.
-pub record AreWanted {K : Type 0} {cmp : K → K → Ordering} (kind : KeyKind cmp) (whole small : OrderedCounty) (is_in : ℕ → Bool) : Type 0 where
+pub record AreWanted {K : Type 0} {cmp : K → K → Ordering} (kind : KeyKind cmp) (whole small : ComparedChoices) (is_in : ℕ → Bool) : Type 0 where
   pub wanted : List K
   pub alike : (n k : ℕ) → AreNumberedAlike kind wanted whole small n k
-  pub opened : (i place : ℕ) (x : Chain) → is_open whole.shapes.places place ≡ true → slice_get (chains_at whole i) place ≡ Some x → (k : K)
+  pub opened : (i place : ℕ) (x : Chain) → is_open whole.still.places place ≡ true → slice_get (chains_at whole i) place ≡ Some x → (k : K)
       → Known cmp (kind.keys x) k → contains cmp k wanted ≡ true
-  pub kept : (place : ℕ) → has_new_at cmp whole.shapes.places wanted (keys_along kind.keys whole.county whole.shapes.by_shape) place ≡ true
+  pub kept : (place : ℕ) → has_new_at cmp whole.still.places wanted (keys_along kind.keys whole.county whole.still.by_shape) place ≡ true
       → is_in place ≡ true
 
 -- the chain at a kept place is in the small county, too
-small_there : {whole small : OrderedCounty} {is_in : ℕ → Bool} → IsKeptPart whole small is_in → (i place rank : ℕ) (x : Chain)
+small_there : {whole small : ComparedChoices} {is_in : ℕ → Bool} → IsKeptPart whole small is_in → (i place rank : ℕ) (x : Chain)
     → slice_get (chains_at whole i) place ≡ Some x → slice_get (places_in whole is_in) rank ≡ Some place → slice_get (chains_at small i) rank ≡ Some x
 small_there {whole} {small} {is_in} part i place rank x e ranked =
     ap (λ xs. slice_get xs rank) (part.chains i)
-    ∙ chain_at_rank (chains_at whole i) (places_in whole is_in) (all_are_there (chains_at whole i) is_in (length whole.shapes.by_shape)
+    ∙ chain_at_rank (chains_at whole i) (places_in whole is_in) (all_are_there (chains_at whole i) is_in (length whole.still.by_shape)
     (sym (length_at whole i))) rank place ranked
     ∙ e
 
 module _ {K : Type 0} {cmp : K → K → Ordering} (kind : KeyKind cmp) where
   -- the number of a key in a choice, or 0 if there is none
-  abbrev pub number_or_none : OrderedCounty → ℕ → Option K → ℕ
+  abbrev pub number_or_none : ComparedChoices → ℕ → Option K → ℕ
   number_or_none c i key = unwrap_or (option_map (kind.number (new_in c i)) key) 0
 
   -- a key of a choice has a number
-  pub above : (c : OrderedCounty) (i : ℕ) (k : K) → Known cmp (kind.all c.county) k → 0 < kind.number (new_in c i) k
+  pub above : (c : ComparedChoices) (i : ℕ) (k : K) → Known cmp (kind.all c.county) k → 0 < kind.number (new_in c i) k
   above c i k h = let e = kind.number_is c i k (kind.listed c i k h) in omega (arith, e)
 
-  module _ {whole small : OrderedCounty} {is_in : ℕ → Bool} (are : AreWanted kind whole small is_in) (n k : ℕ) where
+  module _ {whole small : ComparedChoices} {is_in : ℕ → Bool} (are : AreWanted kind whole small is_in) (n k : ℕ) where
     abbrev pub CompareAlike : Option K → Option K → Type 0
     CompareAlike p q = nat_cmp (number_or_none whole n p) (number_or_none whole k q) ≡ nat_cmp (number_or_none small n p) (number_or_none small k q)
 
@@ -60,7 +60,7 @@ module _ {K : Type 0} {cmp : K → K → Ordering} (kind : KeyKind cmp) where
         let right = l j refl in
         (are.alike n k).wanted_alike i j left.0 right.0 left.1.1 right.1.1
 
-  module _ {whole small : OrderedCounty} {is_in : ℕ → Bool} (part : IsKeptPart whole small is_in) (are : AreWanted kind whole small is_in)
+  module _ {whole small : ComparedChoices} {is_in : ℕ → Bool} (part : IsKeptPart whole small is_in) (are : AreWanted kind whole small is_in)
       (n k : ℕ) where
     -- They also do if both are one key.
     same_pair : (p : Option K) → ((j : K) → p ≡ Some j → AreKeys are n k j) → CompareAlike are n k p p
@@ -79,7 +79,7 @@ module _ {K : Type 0} {cmp : K → K → Ordering} (kind : KeyKind cmp) where
     pub key_pair : (place rank rank_too : ℕ) (x y : Chain) → slice_get (chains_at whole n) place ≡ Some x → slice_get (chains_at whole k) place ≡ Some y
         → slice_get (places_in whole is_in) rank ≡ Some place → slice_get (places_in whole is_in) rank_too ≡ Some place
         → (one_key : Chain → Option K) → ((z : Chain) (j : K) → one_key z ≡ Some j → Known cmp (kind.keys z) j) → CompareAlike are n k (one_key x) (one_key y)
-    key_pair place rank rank_too x y there there_too ranked ranked_too one_key one_known = go (is_open whole.shapes.places place) refl
+    key_pair place rank rank_too x y there there_too ranked ranked_too one_key one_known = go (is_open whole.still.places place) refl
       where
         keys_there : (i at : ℕ) (z : Chain) → slice_get (chains_at whole i) place ≡ Some z → slice_get (places_in whole is_in) at ≡ Some place
             → (j : K) → one_key z ≡ Some j → AreKeys are n k j
@@ -88,7 +88,7 @@ module _ {K : Type 0} {cmp : K → K → Ordering} (kind : KeyKind cmp) where
           kind.in_all small i j (chain_seen kind.order small i kind.keys j at z (small_there part i place at z e f) (one_known z j g)),
         )
 
-        go : (b : Bool) → is_open whole.shapes.places place ≡ b → CompareAlike are n k (one_key x) (one_key y)
+        go : (b : Bool) → is_open whole.still.places place ≡ b → CompareAlike are n k (one_key x) (one_key y)
         go true e = wanted_pair are n k (one_key x) (one_key y) (λ j f. (are.opened n place x e there j (one_known x j f), keys_there n rank x there ranked j f))
             (λ j f. (are.opened k place y e there_too j (one_known y j f), keys_there k rank_too y there_too ranked_too j f))
         go false e = subst (λ z. CompareAlike are n k (one_key x) (one_key z)) (same_Some x y (sym there ∙ same_at whole n k place e ∙ there_too))
@@ -97,12 +97,12 @@ module _ {K : Type 0} {cmp : K → K → Ordering} (kind : KeyKind cmp) where
     -- At a place that is left out, two choices give the keys of the chain the same numbers if the records at all kept places before tie,
     -- and if the keys can be read from records.
     module _ {t : RecordType} {Y : Type 0} (m : Making t Y) (read : List (FieldsOf t) → List K)
-        (reads : (c : OrderedCounty) (i number : ℕ) (x : Chain) → read (made_in m c i number x) ≡ kind.keys (renumbered (new_in c i) x)) where
+        (reads : (c : ComparedChoices) (i number : ℕ) (x : Chain) → read (made_in m c i number x) ≡ kind.keys (renumbered (new_in c i) x)) where
       abbrev IsSame : K → Type 0
       IsSame j = kind.new (new_in whole n) j ≡ kind.new (new_in whole k) j
 
       abbrev new_at : ℕ → Bool
-      new_at q = has_new_at cmp whole.shapes.places are.wanted (keys_along kind.keys whole.county whole.shapes.by_shape) q
+      new_at q = has_new_at cmp whole.still.places are.wanted (keys_along kind.keys whole.county whole.still.by_shape) q
 
       read_at : (i q : ℕ) (x : Chain) → slice_get (chains_at whole i) q ≡ Some x → read (made_at m whole i q) ≡ kind.keys (renumbered (new_in whole i) x)
       read_at i q x e = ap (λ o. read (unwrap_or (option_map (made_in m whole i (suc q)) o) [])) e ∙ reads whole i (suc q) x
@@ -110,7 +110,7 @@ module _ {K : Type 0} {cmp : K → K → Ordering} (kind : KeyKind cmp) where
       module _ (place : ℕ) (chain : Chain) (out : is_in place ≡ false) (before : AreTiedBefore m part n k place)
           (there : slice_get (chains_at whole n) place ≡ Some chain) where
         -- the keys at a fixed place before where one is new
-        at_first : (q : ℕ) → q < place → is_open whole.shapes.places q ≡ false → new_at q ≡ true → (o : Option Chain)
+        at_first : (q : ℕ) → q < place → is_open whole.still.places q ≡ false → new_at q ≡ true → (o : Option Chain)
             → slice_get (chains_at whole n) q ≡ o → (j : K) → Known cmp (unwrap_or (option_map (keys_of_chain whole n kind.keys) o) []) j → IsSame j
         at_first q l fixed new None e j h = absurd (omega (arith, h))
         at_first q l fixed new (Some x) e j h = known_all kind.order IsSame (kind.keys x ++ []) (subst (AllByRecursion IsSame) (sym (append-nil (kind.keys x)))
@@ -122,13 +122,13 @@ module _ {K : Type 0} {cmp : K → K → Ordering} (kind : KeyKind cmp) where
         same_key : (j : K) → Known cmp (kind.keys chain) j → IsSame j
         same_key j h = go (contains cmp j are.wanted) refl
           where
-            fixed : is_open whole.shapes.places place ≡ false
+            fixed : is_open whole.still.places place ≡ false
             fixed = part.fixed place out
 
             go : (b : Bool) → contains cmp j are.wanted ≡ b → IsSame j
             go true e =
                 let nothing = false_from_ne_true (new_at place) (λ f. false≢true (sym out ∙ are.kept place f)) in
-                let found = fixed_before kind.order whole.shapes.places (keys_along kind.keys whole.county whole.shapes.by_shape)
+                let found = fixed_before kind.order whole.still.places (keys_along kind.keys whole.county whole.still.by_shape)
                 are.wanted place nothing j e
                 (subst (λ js. Known cmp js j) (sym (group_chain whole n kind.keys place chain there) ∙ group_fixed whole n kind.keys place fixed)
                 (known-left kind.order j (kind.keys chain) [] h)) in
@@ -173,7 +173,7 @@ polyid_is : (r : Renumbering) (cenid : List ℕ) (polyid : Option ℕ)
 polyid_is r cenid None = refl
 polyid_is r cenid (Some polyid) = refl
 
-cenid_is : (c : OrderedCounty) (i : ℕ) (cenid : List ℕ) (polyid : Option ℕ) → (renumbered_polygon (new_in c i) cenid polyid).cenid ≡ cenid
+cenid_is : (c : ComparedChoices) (i : ℕ) (cenid : List ℕ) (polyid : Option ℕ) → (renumbered_polygon (new_in c i) cenid polyid).cenid ≡ cenid
 cenid_is c i cenid None = refl
 cenid_is c i cenid (Some polyid) = cenid_kept c i (cenid, polyid)
 
@@ -242,7 +242,7 @@ only_chain : (c d : Chain) (index : ℕ) → slice_get (c ∷ []) index ≡ Some
 only_chain c d zero e = cc
 only_chain c d (suc index) e = cc
 
-module _ {whole small : OrderedCounty} {is_in : ℕ → Bool} (part : IsKeptPart whole small is_in)
+module _ {whole small : ComparedChoices} {is_in : ℕ → Bool} (part : IsKeptPart whole small is_in)
     (nodes : AreWanted node_kind whole small is_in) (polygons : AreWanted polygon_kind whole small is_in) (n k : ℕ) where
   -- two chains at one kept place
   module _ (place rank rank_too : ℕ) (c d : Chain) (there : slice_get (chains_at whole n) place ≡ Some c)
@@ -357,7 +357,7 @@ name_listed index place c k e = go (slice_get (in_pieces 5 c.feats) index) e
     go None f all = cc
     go (Some piece) f all = subst (λ o. IfSome o (Known nat_cmp c.feats)) f (all_at (Known nat_cmp c.feats) piece all place)
 
-module _ {whole small : OrderedCounty} {is_in : ℕ → Bool} (part : IsKeptPart whole small is_in) (names : AreWanted name_kind whole small is_in)
+module _ {whole small : ComparedChoices} {is_in : ℕ → Bool} (part : IsKeptPart whole small is_in) (names : AreWanted name_kind whole small is_in)
     (n k : ℕ) where
   -- The records of type 4 are in one order in both counties.
   pub fours_small : groups_cmp Four (type_4_by_chain (choice whole n)) (type_4_by_chain (choice whole k))
@@ -371,14 +371,14 @@ module _ {whole small : OrderedCounty} {is_in : ℕ → Bool} (part : IsKeptPart
       3 columns
       (tlid_first fours (λ r s. first_twice (nat_cmp r.tlid s.tlid) (rows_cmp (drop 1 table_4) r s)) n k)
     where
-      back : (c : OrderedCounty) (i tlid : ℕ) (chain : Chain) → flat_map (λ (r : Fields4). r.feats)
+      back : (c : ComparedChoices) (i tlid : ℕ) (chain : Chain) → flat_map (λ (r : Fields4). r.feats)
           (map (λ (e : ℕ × List ℕ). four tlid (e.0, map (new_name (new_in c i)) e.1)) (numbered_from 1 (in_pieces 5 chain.feats)))
           ≡ map (new_name (new_in c i)) chain.feats
       back c i tlid chain = ap (flat_map (λ (r : Fields4). r.feats)) (sym (fours_made (new_name (new_in c i)) tlid chain.feats))
           ∙ names_back tlid (map (new_name (new_in c i)) chain.feats)
 
       -- a place of a record has the number of the name there
-      named : (c : OrderedCounty) (i index : ℕ) (chain : Chain) (piece : List ℕ) → slice_get (in_pieces 5 chain.feats) index ≡ Some piece → (place : ℕ)
+      named : (c : ComparedChoices) (i index : ℕ) (chain : Chain) (piece : List ℕ) → slice_get (in_pieces 5 chain.feats) index ≡ Some piece → (place : ℕ)
           → place_number (map (new_name (new_in c i)) piece) place ≡ number_or_none name_kind c i (name_in index place chain)
       named c i index chain piece e place = ap (λ o. unwrap_or o 0) (slice_get-map (new_name (new_in c i)) piece place
           ∙ ap (option_map (new_name (new_in c i))) (sym (ap (option_and_then (λ names. slice_get names place)) e)))

@@ -10,14 +10,14 @@ use Rattle.tl_number.proofs.Ties.Columns.{columns_alike, columns_decide, fields_
 use Rattle.tl_number.proofs.Ties.KeyKinds.{polygon_kind, polygon_number}
 use Rattle.tl_number.proofs.Ties.Keys.{place_later}
 use Rattle.tl_number.proofs.Ties.ListsAlike.{among_filtered, images_alike, order_alike, order_mapped}
-use Rattle.tl_number.proofs.Ties.OrderedCounty.{OrderedCounty, arranges_in, cenid_kept, choice, link_on_side, new_in, order_in, whole_in}
+use Rattle.tl_number.proofs.Ties.ComparedChoices.{ComparedChoices, arranges_in, cenid_kept, choice, link_on_side, new_in, order_in, whole_in}
 use Rattle.tl_number.proofs.Ties.PartChoices.{filter_narrower, filter_ordered}
 use Rattle.tl_number.proofs.Ties.Ranks.{masked_by, next_cmp, places_alike, same_place, wanted_decide}
 use Rattle.tl_number.proofs.Ties.SmallKeys.{AreWanted}
 use Rattle.tl_number.proofs.Ties.SmallRecords.{choices_decide, eights_fit, images_in_order}
 
 -- Records of type 7 tie in any two choices of a county.
-pub sevens_tie : (c : OrderedCounty) (n k : ℕ) → Equal ≡ groups_cmp Seven (type_7_by_landmark (choice c n)) (type_7_by_landmark (choice c k))
+pub sevens_tie : (c : ComparedChoices) (n k : ℕ) → Equal ≡ groups_cmp Seven (type_7_by_landmark (choice c n)) (type_7_by_landmark (choice c k))
 sevens_tie c n k = same_groups Seven (type_7_by_landmark (choice c n)) (type_7_by_landmark (choice c k)) (ap (map packed_sevens)
     (same_landmarks c.county c.is (order_in c n) (order_in c k) (arranges_in c n) (arranges_in c k)))
 
@@ -112,7 +112,7 @@ module _ {V : Type 0} where
 
 -- ---- new LANDs
 
-module _ (c : OrderedCounty) (i : ℕ) where
+module _ (c : ComparedChoices) (i : ℕ) where
   -- the landmarks of a choice in their order, their LANDs, and the new number of a LAND
   abbrev landmarks_in : List (ℕ × List Body7)
   landmarks_in = landmarks_in_order c.county (order_in c i)
@@ -140,7 +140,7 @@ land_known county all link there = ltb-true 0 (times nat_cmp link.land (lands co
 
 -- ---- A small county with landmarks that are kept by their contents, and the links of these. The polygons of these links are wanted. Those of
 -- other links have one number in all choices.
-module _ {whole small : OrderedCounty} {is_in : ℕ → Bool} (polygons : AreWanted polygon_kind whole small is_in)
+module _ {whole small : ComparedChoices} {is_in : ℕ → Bool} (polygons : AreWanted polygon_kind whole small is_in)
     (keep : ℕ → Bool) (keeps : List Body7 → Bool)
     (by_contents : (e : ℕ × List Body7) → Among e whole.county.landmarks → keep e.0 ≡ keeps e.1)
     (landmarks : small.county.landmarks ≡ filter (λ e. keep e.0) whole.county.landmarks)
@@ -183,7 +183,7 @@ module _ {whole small : OrderedCounty} {is_in : ℕ → Bool} (polygons : AreWan
 
   -- One choice.
   module _ (n : ℕ) where
-    abbrev relinked_in : OrderedCounty → Fields8 → Fields8
+    abbrev relinked_in : ComparedChoices → Fields8 → Fields8
     relinked_in c = relinked (new_in c n).polygons
 
     parts_alike : (x y : Fields8) → Among x all_links → Among y all_links → keep x.land ≡ true → keep y.land ≡ true
@@ -192,18 +192,18 @@ module _ {whole small : OrderedCounty} {is_in : ℕ → Bool} (polygons : AreWan
     parts_alike x y h l e f = ap₂ ordering_then (numbers_alike n n x y h l e f) (ap (λ o. ordering_then o (bytes_cmp x.file y.file)) (cenids_alike n n x y))
 
     -- The key of a landmark has its own links in order, whatever other links there are.
-    abbrev key_under : OrderedCounty → List Fields8 → ℕ × List Body7 → List Body7 × List LinkPart
+    abbrev key_under : ComparedChoices → List Fields8 → ℕ × List Body7 → List Body7 × List LinkPart
     key_under c ls = landmark_key (in_order link_cmp (map (relinked_in c) ls))
 
-    abbrev parts_of : OrderedCounty → List Fields8 → List LinkPart
+    abbrev parts_of : ComparedChoices → List Fields8 → List LinkPart
     parts_of c ls = map link_part (in_order link_cmp (map (relinked_in c) ls))
 
-    key_links : (c : OrderedCounty) (ls : List Fields8) (land : ℕ) → links_of (in_order link_cmp (map (relinked_in c) ls)) land
+    key_links : (c : ComparedChoices) (ls : List Fields8) (land : ℕ) → links_of (in_order link_cmp (map (relinked_in c) ls)) land
         ≡ parts_of c (filter (λ link. link.land == land) ls)
     key_links c ls land = ap (map link_part) (filter_ordered link_keys.total (λ (link : Fields8). link.land == land) (map (relinked_in c) ls)
         ∙ ap (in_order link_cmp) (filter-mapped (λ (link : Fields8). link.land == land) (relinked_in c) ls))
 
-    order_is : (c : OrderedCounty) → landmarks_in c n ≡ in_order (on (key_under c c.county.links) landmark_key_cmp) c.county.landmarks
+    order_is : (c : ComparedChoices) → landmarks_in c n ≡ in_order (on (key_under c c.county.links) landmark_key_cmp) c.county.landmarks
     order_is c = ap (λ keys. in_order (on (landmark_key (in_order link_cmp (map (relinked keys) c.county.links))) landmark_key_cmp) c.county.landmarks)
         (sym (polygons_renamed c.county (order_in c n) c.is (arranges_in c n)))
 
@@ -348,7 +348,7 @@ module _ {whole small : OrderedCounty} {is_in : ℕ → Bool} (polygons : AreWan
       )
 
   module _ (i : ℕ) where
-    abbrev carried : OrderedCounty → Fields8 → Fields8
+    abbrev carried : ComparedChoices → Fields8 → Fields8
     carried c = carried_link (new_in c i)
 
     abbrev in_choice : List Fields8

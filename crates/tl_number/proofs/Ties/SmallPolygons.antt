@@ -3,7 +3,7 @@ use Rattle.tl_number.proofs.Common.{AllByRecursion, Among, BodyP, Bool, FieldsP,
 use Rattle.tl_number.proofs.Ties.Columns.{columns_alike, fields_cmp, lists_decide}
 use Rattle.tl_number.proofs.Ties.KeyKinds.{AreSeenAlike, polygon_kind, polygon_number, polygons_seen, seen_in}
 use Rattle.tl_number.proofs.Ties.ListsAlike.{among_filtered, filters_swap}
-use Rattle.tl_number.proofs.Ties.OrderedCounty.{OrderedCounty, arranges_in, choice, new_in, order_in, whole_in}
+use Rattle.tl_number.proofs.Ties.ComparedChoices.{ComparedChoices, arranges_in, choice, new_in, order_in, whole_in}
 use Rattle.tl_number.proofs.Ties.Ranks.{masked_by, wanted_decide}
 use Rattle.tl_number.proofs.Ties.SmallKeys.{AreWanted}
 use Rattle.tl_number.proofs.Ties.SmallRecords.{images_in_order}
@@ -15,7 +15,7 @@ abbrev no_body : BodyP
 no_body = record { file = []; point = None; water = [] }
 
 -- The records of type P of a choice.
-module _ (c : OrderedCounty) where
+module _ (c : ComparedChoices) where
   -- the content of a polygon's record, if it has one
   abbrev pub body_of : PolygonKey → Option BodyP
   body_of key = option_and_then (λ body. body) (polygon_under c.county key)
@@ -104,7 +104,7 @@ module _ (c : OrderedCounty) where
           (all_unmap (λ r. FitsRecord (P r)) (record_in i) (with_record i) (records_fit i)))
 
 -- A small county, in which polygons keep their content, and wanted ones their order.
-module _ {whole small : OrderedCounty} {is_in : ℕ → Bool} (polygons : AreWanted polygon_kind whole small is_in)
+module _ {whole small : ComparedChoices} {is_in : ℕ → Bool} (polygons : AreWanted polygon_kind whole small is_in)
     (seen : AreSeenAlike polygon_kind polygons.wanted whole small)
     (contents : (key : PolygonKey) → Known key_cmp (polygons_along small.county.chains) key
     → polygon_under small.county key ≡ polygon_under whole.county key) where

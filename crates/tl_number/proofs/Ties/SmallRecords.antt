@@ -2,14 +2,14 @@
 use Rattle.tl_number.proofs.Common.{AllByRecursion, Among, AreSame, Bool, Chain, County, Eight, Equal, FieldsOf, FitsRecord, Five, Four, Greater, I, IsCounty, IsWithinLimits, Less, List, None, One, Option, Ordering, P, Ranges, Record, RecordType, Renumbering, Seven, Six, Some, Two, Type1, Type6, [], all_everywhere, all_groups, all_left, all_map, all_right, all_themselves, all_unmap, ap, ap₂, arith, carried_many, decided, drop, exact_unsigned, false, grouped, grouped_lone, grouped_map, groups_cmp, groups_from, is_open, kept_entry, length, length-map, map, map-map, most_records, nat_cmp, nat_cmp_total, nat_list_cmp_total, none_past, numbered_from, option_map, ordering_then, packed-fits, packed_one, packed_sixes, record_of, refl, renumbered, slice_cmp, slice_get, spelling_of, subst, suc, sym, table_1, table_6, table_of, then-equal, then_same, those_decide, those_from, those_groups, tied_itself, true, type_1_by_chain, type_2_by_chain, type_4_by_chain, type_5_by_name, type_6_by_chain, type_7_by_landmark, type_8_together, type_i_by_chain, type_p_by_number, types_1_to_4, types_5_to_7, types_8_to_p, unwrap_or, zero, ℕ, ◌++◌, ◌+◌, ◌<◌, ◌∙◌, ◌∷◌, ◌≡◌, ◌≢◌}
 use Rattle.tl_number.proofs.Ties.Columns.{AreColumnsAlike, columns_alike, columns_decide, fields_cmp, lists_decide, rows_cmp, tied_fields}
 use Rattle.tl_number.proofs.Ties.KeptPieces.{IsKept, IsThere, Kept, all_are_there, all_kept, at_place, at_rank, kept_order, kept_pieces, lists_alike, place_groups, rank_groups}
-use Rattle.tl_number.proofs.Ties.OrderedCounty.{IsKeptPart, OrderedCounty, chains_at, chains_numbered, choice, length_at, new_in, one_map, places_in, same_at, whole_in}
+use Rattle.tl_number.proofs.Ties.ComparedChoices.{ComparedChoices, IsKeptPart, chains_at, chains_numbered, choice, length_at, new_in, one_map, places_in, same_at, whole_in}
 
 -- ---- records of one type
 
 -- records of a type of two choices are compared by columns
 pub choices_decide : (t : RecordType) (groups : County → List (List (FieldsOf t)))
     → ((county : County) → IsCounty county → IsWithinLimits most_records county → AllByRecursion (λ r. FitsRecord (record_of t r)) (grouped (groups county)))
-    → (c : OrderedCounty) (n k : ℕ) → groups_cmp (record_of t) (groups (choice c n)) (groups (choice c k))
+    → (c : ComparedChoices) (n k : ℕ) → groups_cmp (record_of t) (groups (choice c n)) (groups (choice c k))
     ≡ slice_cmp (fields_cmp t) (grouped (groups (choice c n))) (grouped (groups (choice c k)))
 choices_decide t groups fit c n k = lists_decide t (grouped (groups (choice c n))) (grouped (groups (choice c k))) (fits n) (fits k)
   where
@@ -73,7 +73,7 @@ module _ {t : RecordType} {Y : Type 0} (m : Making t Y) where
       (tied_same rs ss f.1 g.1 both.1)
 
   -- The records of a choice.
-  module _ (c : OrderedCounty) where
+  module _ (c : ComparedChoices) where
     abbrev pub made_in : ℕ → ℕ → Chain → List (FieldsOf t)
     made_in i number chain = map (λ (e : ℕ × Y). m.make (new_in c i) number e.0 e.1) (numbered_from 1 (m.pieces chain))
 
@@ -95,7 +95,7 @@ module _ {t : RecordType} {Y : Type 0} (m : Making t Y) where
         ∙ (λ j. grouped (map (λ (e : ℕ × Chain). m.packs (new_in c i) e.0 e.1 j) (numbered_from 1 (chains_at c i))))
 
     -- they are in groups by place
-    pub groups_are : (i : ℕ) → records_in i ≡ groups_from (made_at i) 0 (length c.shapes.by_shape)
+    pub groups_are : (i : ℕ) → records_in i ≡ groups_from (made_at i) 0 (length c.still.by_shape)
     groups_are i = records_are i
         ∙ numbered_groups (made_in i) (made_at i) (chains_at c i) 0 (λ j chain e q f.
         sym (ap (made_if i q) (ap (slice_get (chains_at c i)) (let s : q ≡ j = omega (arith, f) in s) ∙ e)))
@@ -111,7 +111,7 @@ module _ {t : RecordType} {Y : Type 0} (m : Making t Y) where
       where
         go : (o : Option Chain) → slice_get (chains_at c i) place ≡ o → AllByRecursion Fits (made_at i place)
         go None e = subst (λ o. AllByRecursion Fits (made_if i place o)) (sym e) tt
-        go (Some chain) e = all_there Fits (made_at i) 0 (length c.shapes.by_shape) (subst (AllByRecursion Fits) (groups_are i) (fit_in i))
+        go (Some chain) e = all_there Fits (made_at i) 0 (length c.still.by_shape) (subst (AllByRecursion Fits) (groups_are i) (fit_in i))
             place (subst (λ count. place < count) (length_at c i) (none_past (chains_at c i) place chain e))
             place (omega arith)
 
@@ -127,7 +127,7 @@ module _ {t : RecordType} {Y : Type 0} (m : Making t Y) where
             (λ e. m.has_tlid (new_in c i) (suc place) e.0 e.1) (numbered_from 1 (m.pieces chain)))
 
     -- a fixed place has as many in all choices
-    pub lengths : (n k place : ℕ) → is_open c.shapes.places place ≡ false → length (made_at n place) ≡ length (made_at k place)
+    pub lengths : (n k place : ℕ) → is_open c.still.places place ≡ false → length (made_at n place) ≡ length (made_at k place)
     lengths n k place fixed =
         go (slice_get (chains_at c n) place) ∙ ap (λ o. length (made_if k place o)) (same_at c n k place fixed)
       where
@@ -137,12 +137,12 @@ module _ {t : RecordType} {Y : Type 0} (m : Making t Y) where
             ∙ sym (length-map (numbered_from 1 (m.pieces chain)) (λ (e : ℕ × Y). m.make (new_in c k) (suc place) e.0 e.1))
 
     -- two choices have as many in all
-    pub as_many_in : (n k : ℕ) → length (groups_from (made_at n) 0 (length c.shapes.by_shape)) ≡ length (groups_from (made_at k) 0 (length c.shapes.by_shape))
+    pub as_many_in : (n k : ℕ) → length (groups_from (made_at n) 0 (length c.still.by_shape)) ≡ length (groups_from (made_at k) 0 (length c.still.by_shape))
     as_many_in n k = sym (ap length (groups_are n)) ∙ m.as_many (choice c n) (choice c k) (one_map c n k)
         ∙ ap length (groups_are k)
 
   -- Two choices of a county and of its small county.
-  module _ {whole small : OrderedCounty} {is_in : ℕ → Bool} (part : IsKeptPart whole small is_in) (n k : ℕ) where
+  module _ {whole small : ComparedChoices} {is_in : ℕ → Bool} (part : IsKeptPart whole small is_in) (n k : ℕ) where
     -- records at kept places before this one tie
     abbrev pub AreTiedBefore : ℕ → Type 0
     AreTiedBefore place = (q : ℕ) → q < place → is_in q ≡ true → slice_cmp by_tlid (made_at whole n q) (made_at whole k q) ≡ Equal
@@ -161,7 +161,7 @@ module _ {t : RecordType} {Y : Type 0} (m : Making t Y) where
     in_small i = at_rank m.pieces (chains_at whole i) (m.make (new_in small i))
 
     kept_there : (i : ℕ) → AllByRecursion (IsThere (chains_at whole i)) (places_in whole is_in)
-    kept_there i = all_are_there (chains_at whole i) is_in (length whole.shapes.by_shape)
+    kept_there i = all_are_there (chains_at whole i) is_in (length whole.still.by_shape)
         (sym (length_at whole i))
 
     pieces_are : (i : ℕ) → AllByRecursion (IsPiece i) (pieces_kept i)
@@ -169,8 +169,8 @@ module _ {t : RecordType} {Y : Type 0} (m : Making t Y) where
         (λ j. ap (slice_get (places_in whole is_in)) (let s : j ≡ 0 + j = omega arith in s)) (kept_there i)
 
     -- the county's records at kept places are made of pieces, and so are the small county's
-    whole_pieces : (i : ℕ) → those_from is_in (made_at whole i) 0 (length whole.shapes.by_shape) ≡ map (in_whole i) (pieces_kept i)
-    whole_pieces i = sym (those_groups is_in (made_at whole i) 0 (length whole.shapes.by_shape))
+    whole_pieces : (i : ℕ) → those_from is_in (made_at whole i) 0 (length whole.still.by_shape) ≡ map (in_whole i) (pieces_kept i)
+    whole_pieces i = sym (those_groups is_in (made_at whole i) 0 (length whole.still.by_shape))
         ∙ place_groups m.pieces (chains_at whole i) (m.make (new_in whole i)) (made_at whole i)
         (λ place chain e. ap (made_if whole i place) e) 0 (places_in whole is_in) (kept_there i)
 
@@ -200,17 +200,17 @@ module _ {t : RecordType} {Y : Type 0} (m : Making t Y) where
           ≡ slice_cmp by_tlid (map (in_whole n) (pieces_kept n)) (map (in_whole k) (pieces_kept k))
       pieces_decide =
           ap₂ (slice_cmp by_tlid) (groups_are whole n) (groups_are whole k)
-          ∙ those_decide by_tlid m.tlid (suc (length whole.shapes.by_shape)) (λ r s f g. tlids_decide r s) is_in (made_at whole n) (made_at whole k)
+          ∙ those_decide by_tlid m.tlid (suc (length whole.still.by_shape)) (λ r s f g. tlids_decide r s) is_in (made_at whole n) (made_at whole k)
           (keyed whole n) (keyed whole k)
           (λ place out before. subst (λ rs. slice_cmp by_tlid (made_at whole n place) rs ≡ Equal) (same_records place out before)
           (tied (made_at whole n place) (fit_at whole n place)))
-          (λ place out. lengths whole n k place (part.fixed place out)) (length whole.shapes.by_shape) (omega arith) (as_many_in whole n k)
+          (λ place out. lengths whole n k place (part.fixed place out)) (length whole.still.by_shape) (omega arith) (as_many_in whole n k)
           ∙ ap₂ (slice_cmp by_tlid) (whole_pieces n) (whole_pieces k)
 
       -- then two pieces compare alike,
       pair_alike : (v w : Kept Chain Y) → IsPiece n v → IsPiece k w → by_tlid (in_whole n v) (in_whole k w) ≡ by_tlid (in_small n v) (in_small k w)
       pair_alike v w p q =
-          let order = kept_order is_in (length whole.shapes.by_shape) v.rank w.rank v.place w.place p.ranked q.ranked in
+          let order = kept_order is_in (length whole.still.by_shape) v.rank w.rank v.place w.place p.ranked q.ranked in
           let tlid = m.has_tlid (new_in whole n) (suc v.place) v.number v.piece in
           let tlid_too = m.has_tlid (new_in whole k) (suc w.place) w.number w.piece in
           then_same (nat_cmp (m.tlid (in_whole n v)) (m.tlid (in_whole k w))) (fields_cmp t (in_whole n v) (in_whole k w))
@@ -222,7 +222,7 @@ module _ {t : RecordType} {Y : Type 0} (m : Making t Y) where
           ∙ sym (ap₂ nat_cmp (m.has_tlid (new_in small n) (suc v.rank) v.number v.piece) (m.has_tlid (new_in small k) (suc w.rank) w.number w.piece)))
 
       -- and so do all records, if the columns order records by TLID first.
-      pub records_small : ((c : OrderedCounty)
+      pub records_small : ((c : ComparedChoices)
           → slice_cmp (fields_cmp t) (records_in c n) (records_in c k) ≡ slice_cmp by_tlid (records_in c n) (records_in c k))
           → groups_cmp (record_of t) (map m.pack (choice whole n).chains) (map m.pack (choice whole k).chains)
           ≡ groups_cmp (record_of t) (map m.pack (choice small n).chains) (map m.pack (choice small k).chains)
@@ -240,7 +240,7 @@ first_twice Less p = refl
 first_twice Equal p = refl
 first_twice Greater p = refl
 
-pub tlid_first : {t : RecordType} {Y : Type 0} (m : Making t Y) → ((r s : FieldsOf t) → fields_cmp t r s ≡ by_tlid m r s) → (n k : ℕ) (c : OrderedCounty)
+pub tlid_first : {t : RecordType} {Y : Type 0} (m : Making t Y) → ((r s : FieldsOf t) → fields_cmp t r s ≡ by_tlid m r s) → (n k : ℕ) (c : ComparedChoices)
     → slice_cmp (fields_cmp t) (records_in m c n) (records_in m c k) ≡ slice_cmp (by_tlid m) (records_in m c n) (records_in m c k)
 tlid_first m same n k c = λ i. slice_cmp (λ r s. same r s i) (records_in m c n) (records_in m c k)
 
@@ -304,7 +304,7 @@ sixes = record {
       ∙ sym (ap length (grouped_map packed_sixes b.chains));
 }
 
-module _ {whole small : OrderedCounty} {is_in : ℕ → Bool} (part : IsKeptPart whole small is_in) (n k : ℕ) where
+module _ {whole small : ComparedChoices} {is_in : ℕ → Bool} (part : IsKeptPart whole small is_in) (n k : ℕ) where
   -- The records of type 1 of two choices compare alike in both counties,
   pub ones_small : groups_cmp One (type_1_by_chain (choice whole n)) (type_1_by_chain (choice whole k))
       ≡ groups_cmp One (type_1_by_chain (choice small n)) (type_1_by_chain (choice small k))

@@ -10,7 +10,7 @@ use Rattle.county_chart.specs.Choices.{ways_at}
 use Rattle.canonical_form.proofs.Lists.ListPlaces.{get_dropped}
 use Rattle.tl_number.specs.MovedKeys.{is_other, moves_keys}
 use Rattle.tl_number.proofs.Ties.KeyKinds.{KeyKind, seen_in}
-use Rattle.tl_number.proofs.Ties.OrderedCounty.{OrderedCounty}
+use Rattle.tl_number.proofs.Ties.ComparedChoices.{ComparedChoices}
 use Rattle.tl_number.proofs.Ties.Ranks.{in_range}
 
 not_false : (b : Bool) → not b ≡ false → b ≡ true
@@ -117,13 +117,13 @@ pub any_done : {X : Type 0} (test : X → Bool) (rest : List X) (so_far all : Bo
 any_done test rest so_far all none before = sym (or_none so_far) ∙ ap (λ xs. so_far || list_any test xs) (sym none) ∙ before
 
 -- So keys first appear in one order in all choices.
-pub seen_still : {K : Type 0} {cmp : K → K → Ordering} (kind : KeyKind cmp) (c : OrderedCounty)
-    → list_any (moves_keys cmp (keys_along kind.keys c.county c.shapes.by_shape)) c.shapes.places ≡ false
+pub seen_still : {K : Type 0} {cmp : K → K → Ordering} (kind : KeyKind cmp) (c : ComparedChoices)
+    → list_any (moves_keys cmp (keys_along kind.keys c.county c.still.by_shape)) c.still.places ≡ false
     → (n k : ℕ) → seen_in cmp kind.keys c n ≡ seen_in cmp kind.keys c k
 seen_still {K} {cmp} kind c none n k = as_by_shape n ∙ sym (as_by_shape k)
   where
     keys_of : DirectedChain → List K
     keys_of directed = flat_map kind.keys (option_to_list (directed_chain c.county directed))
 
-    as_by_shape : (i : ℕ) → seen_in cmp kind.keys c i ≡ first_seen cmp (grouped (keys_along kind.keys c.county c.shapes.by_shape))
-    as_by_shape i = ap (λ along. first_seen cmp (grouped along)) (moved_still kind.order other_way keys_of c.shapes.places c.shapes.by_shape i c.known.within none)
+    as_by_shape : (i : ℕ) → seen_in cmp kind.keys c i ≡ first_seen cmp (grouped (keys_along kind.keys c.county c.still.by_shape))
+    as_by_shape i = ap (λ along. first_seen cmp (grouped along)) (moved_still kind.order other_way keys_of c.still.places c.still.by_shape (c.digits i) c.inside none)

@@ -4,7 +4,7 @@ use Rattle.tl_number.proofs.Lists.OrderPlaces.{in_order-among}
 use Rattle.tl_number.proofs.Names.NamePlaces.{feat_cmp, feat_keys, feats_ordered, feats_permuted, name_stays}
 use Rattle.tl_number.proofs.Ties.KeyKinds.{AreNumberedAlike, AreSeenAlike, name_kind, numbered_alike, seen_in}
 use Rattle.tl_number.proofs.Ties.ListsAlike.{value_filtered}
-use Rattle.tl_number.proofs.Ties.OrderedCounty.{OrderedCounty, directed_in, whole_in}
+use Rattle.tl_number.proofs.Ties.ComparedChoices.{ComparedChoices, directed_in, whole_in}
 use Rattle.tl_number.proofs.Ties.Ranks.{AreReordered, before_alike, in_filtered, masked_by, masked_from_stay, next_cmp, places_alike, to_filtered}
 use Rattle.tl_number.specs.CountyParts.{part_of}
 
@@ -21,7 +21,7 @@ feats_grouped county arrangement =
     same (Some chain) = append-nil chain.feats
 
 -- The names of a county in a choice.
-module _ (c : OrderedCounty) where
+module _ (c : ComparedChoices) where
   -- the FEATs of all names in their order, and the FEATs of chains by first appearance
   abbrev names_of : ℕ → List ℕ
   names_of = name_kind.list c
@@ -56,18 +56,18 @@ module _ (c : OrderedCounty) where
   names_ordered n = feats_ordered c.county (directed_in c n) c.is (whole_in c n) (feats_seen n) (seen_is n)
 
 -- A county and its small county, whose names have their contents.
-module _ (whole small : OrderedCounty) (alike : AreSeenAlike name_kind (wanted_feats whole.county whole.shapes) whole small)
+module _ (whole small : ComparedChoices) (alike : AreSeenAlike name_kind (wanted_feats whole.county whole.still) whole small)
     (same_content : (k : ℕ) → Known nat_cmp (feats small.county) k → name_under small.county k ≡ name_under whole.county k) where
   -- the names that are wanted
   abbrev wanted : ℕ → Bool
-  wanted k = contains nat_cmp k (wanted_feats whole.county whole.shapes)
+  wanted k = contains nat_cmp k (wanted_feats whole.county whole.still)
 
   -- each of them is a name of a chain, in both counties
   wanted_seen : (n k : ℕ) → wanted k ≡ true → Known nat_cmp (feats_seen whole n) k
-  wanted_seen n k e = alike.opened_seen n k (ltb-true 0 (times nat_cmp k (wanted_feats whole.county whole.shapes)) e)
+  wanted_seen n k e = alike.opened_seen n k (ltb-true 0 (times nat_cmp k (wanted_feats whole.county whole.still)) e)
 
   wanted_in_small : (n k : ℕ) → wanted k ≡ true → Known nat_cmp (feats_seen small n) k
-  wanted_in_small n k e = alike.opened_small n k (ltb-true 0 (times nat_cmp k (wanted_feats whole.county whole.shapes)) e)
+  wanted_in_small n k e = alike.opened_small n k (ltb-true 0 (times nat_cmp k (wanted_feats whole.county whole.still)) e)
 
   -- and named there
   wanted_named : (n k : ℕ) → wanted k ≡ true → Known nat_cmp (feats small.county) k
@@ -107,8 +107,8 @@ module _ (whole small : OrderedCounty) (alike : AreSeenAlike name_kind (wanted_f
       (name_kind.listed whole n k (name_kind.in_all whole n k (wanted_seen n k e))) e)))
 
   -- The numbers of names compare alike.
-  pub names_alike : (n m : ℕ) → AreNumberedAlike name_kind (wanted_feats whole.county whole.shapes) whole small n m
-  names_alike = numbered_alike name_kind (wanted_feats whole.county whole.shapes) whole small
+  pub names_alike : (n m : ℕ) → AreNumberedAlike name_kind (wanted_feats whole.county whole.still) whole small n m
+  names_alike = numbered_alike name_kind (wanted_feats whole.county whole.still) whole small
       (λ n m. names_masked whole wanted n m (alike.reordered n m)) (λ n m. names_masked small wanted n m (alike.small_reordered n m)) same_names
 
 -- A name of a part of a county has its content of the county.

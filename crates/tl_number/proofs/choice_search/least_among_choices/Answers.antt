@@ -1,6 +1,6 @@
-use Rattle.tl_number.proofs.Common.{IfOk-weaker, IsLeastBelow, LeavesChoices, choices, subst, sym}
+use Rattle.tl_number.proofs.Common.{IfOk-weaker, LeavesChoices, subst, sym}
 use Rattle.tl_number.specs.AlikeRanges.{AreAlike}
-use Rattle.tl_number.specs.LeastOnes.{HaveSameOnes, IsLeastAmong}
+use Rattle.tl_number.specs.LeastOnes.{HaveSameOnes, IsLeastOf}
 use Rattle.arranged_county.specs.Views.{classed_county}
 use Rattle.tl_number.proofs.choice_search.least_among_choices.Goals as goal
 
@@ -20,7 +20,5 @@ search_least-least-requires-clause-ones g c =
 pub returns : goal.returns
 returns g c =
     let county = g.C.Chart.county c.args.chart.now in
-    IfOk-weaker c.search_least-least.result (IsLeastAmong (classed_county c.in_ok-classes.classes) c.args.numbers.now)
-    (IsLeastBelow county (choices county))
-    (λ n least. c.requires.least n (subst (λ known. IsLeastAmong known c.args.numbers.now n) c.in_ok-classes.ensures least))
-    c.search_least-least.ensures
+    IfOk-weaker c.search_least-least.result (IsLeastOf (classed_county c.in_ok-classes.classes) c.args.numbers.now) (IsLeastOf county c.args.numbers.now)
+    (λ n least. subst (λ known. IsLeastOf known c.args.numbers.now n) c.in_ok-classes.ensures least) c.search_least-least.ensures

@@ -19,7 +19,7 @@ any_moves_keys-requires g c =
 pub returns-then-not-moves : goal.returns-then-not-moves
 returns-then-not-moves g c =
     let county = g.C.Chart.county c.args.chart.now in
-    let shapes = c.args.shape_order.now in
+    let shapes = c.args.still_open.now in
     let still : c.in_ok-moves.moves ≡ false = search rules in
     let same : c.in_ok-moves.moves ≡ moves_polygons county shapes =
     c.in_ok-moves.ensures ∙ (λ i. list_any (moves_keys key_cmp (keys_along chain_polygons county (c.by_shape.ensures i))) (c.open_places.ensures i)) in
@@ -29,6 +29,6 @@ pub returns : goal.returns
 returns g c =
     let county = g.C.Chart.county c.args.chart.now in
     let moving : c.in_ok-moves.moves ≡ true = search rules in
-    let same : c.in_ok-moves.moves ≡ moves_polygons county c.args.shape_order.now =
+    let same : c.in_ok-moves.moves ≡ moves_polygons county c.args.still_open.now =
     c.in_ok-moves.ensures ∙ (λ i. list_any (moves_keys key_cmp (keys_along chain_polygons county (c.by_shape.ensures i))) (c.open_places.ensures i)) in
-    IfOk-weaker c.places_opened.result _ _ (λ places e. e ∙ named_kept county c.args.shape_order.now (sym same ∙ moving)) c.places_opened.ensures
+    IfOk-weaker c.places_opened.result _ _ (λ places e. e ∙ named_kept county c.args.still_open.now (sym same ∙ moving)) c.places_opened.ensures

@@ -9,7 +9,7 @@ places_named-requires-clause-in_order g c =
 pub returns : goal.returns
 returns g c =
     let county = g.C.Chart.county c.args.chart.now in
-    let opened = opened_polygons county c.args.shape_order.now in
+    let opened = opened_polygons county c.args.still_open.now in
     let seen = c.in_ok-polygons.ensures ∙ ap (first_seen key_cmp) (c.deref.ensures.value ∙ c.in_ok-keys.ensures) in
     let put = c.deref-2.ensures.value ∙ c.sort_distinct.ensures ∙ ap (distinct landmark_name_cmp) c.in_ok-names.ensures in
     IfOk-weaker c.places_named.result _ _

@@ -3,7 +3,7 @@ use Rattle.tl_number.proofs.kept_places.find_kept.Goals as goal
 
 pub kept_landmarks-requires-clause-few : goal.kept_landmarks-requires-clause-few
 kept_landmarks-requires-clause-few g c =
-    (places_fit (g.C.Chart.county c.args.chart.now) (g.met.C.Chart.is_county c.args.chart.now) (g.met.C.Chart.within_limits c.args.chart.now) c.requires.sides).landmarks
+    (places_fit (g.C.Chart.county c.args.chart.now) (g.met.C.Chart.is_county c.args.chart.now) (g.met.C.Chart.within_limits c.args.chart.now) c.requires.known.sides).landmarks
 
 pub kept_chains-requires-clause-landmarks : goal.kept_chains-requires-clause-landmarks
 kept_chains-requires-clause-landmarks g c = c.deref.ensures.value ∙ c.in_ok-landmarks.ensures

@@ -17,7 +17,7 @@ search_place-requires-3-clause-earlier g c = search_earlier nat_keys c.requires.
 pub returns-clause-kept : goal.returns-clause-kept
 returns-clause-kept g c =
     let county = g.C.Chart.county c.args.chart.now in
-    let opened = c.is_open_at.ensures ∙ ap (λ places. is_open places c.args.place) c.open_places-places.ensures in
+    let opened = c.is_open_at-at_open.ensures ∙ ap (λ places. is_open places c.args.place) c.open_places.ensures in
     let node = search_finds nat_keys c.requires.searches.nodes c.open_places-places.ensures
     (ap (keys_along chain_nodes county) c.by_shape-chains.ensures) c.in_ok-node.ensures.new in
     let polygon = search_finds key_keys c.requires.searches.polygons c.open_places-places.ensures

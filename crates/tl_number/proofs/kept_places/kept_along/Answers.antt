@@ -2,6 +2,9 @@ use Rattle.tl_number.proofs.Common.{DirectedChain, IfSome, Some, [], all_at, ap,
 use Rattle.tl_number.proofs.Ties.SearchSteps.{next_passed, next_taken}
 use Rattle.tl_number.proofs.kept_places.kept_along.Goals as goal
 
+pub keeps_place-requires-clause-within : goal.keeps_place-requires-clause-within
+keeps_place-requires-clause-within g c = omega (arith, c.loop-place-test.true, ap length c.by_shape-by_shape.ensures, c.requires.count)
+
 pub tlid_there-requires : goal.tlid_there-requires
 tlid_there-requires g c =
     let first : DirectedChain = record { place = 0; turned = false } in
@@ -15,10 +18,10 @@ tlid_there-requires g c =
 pub loop-place-preserved-then-not-kept : goal.loop-place-preserved-then-not-kept
 loop-place-preserved-then-not-kept g c =
     let county = g.C.Chart.county c.args.chart.now in
-    let fails : is_kept county c.args.shape_order.now c.loop-place.place ≡ false = search rules in
+    let fails : is_kept county c.args.shape_order.now c.args.still_open.now c.loop-place.place ≡ false = search rules in
     record {
       tlids = c.loop-place.invariant.tlids
-          ∙ ap (map (λ directed. tlid_at county directed.place)) (sym (next_passed c.args.shape_order.now.by_shape (is_kept county c.args.shape_order.now) c.loop-place.place fails));
+          ∙ ap (map (λ directed. tlid_at county directed.place)) (sym (next_passed c.args.shape_order.now.by_shape (is_kept county c.args.shape_order.now c.args.still_open.now) c.loop-place.place fails));
       searches = c.in_ok-kept.ensures.searches;
     }
 
@@ -28,7 +31,7 @@ loop-place-preserved g c =
     let by_shape = c.args.shape_order.now.by_shape in
     let first : DirectedChain = record { place = 0; turned = false } in
     let chain = get_or c.by_shape-by_shape.result.now c.loop-place.place first in
-    let passes : is_kept county c.args.shape_order.now c.loop-place.place ≡ true = search rules in
+    let passes : is_kept county c.args.shape_order.now c.args.still_open.now c.loop-place.place ≡ true = search rules in
     let there : slice_get by_shape c.loop-place.place ≡ Some chain =
     sym (ap (λ chains. slice_get chains c.loop-place.place) c.by_shape-by_shape.ensures)
     ∙ slice_get-get_or c.by_shape-by_shape.result.now c.loop-place.place first c.loop-place-test.true in
@@ -36,9 +39,9 @@ loop-place-preserved g c =
     record {
       tlids = c.in_ok-push.ensures.items ∙ (λ i. c.loop-place.invariant.tlids i ++ (own i ∷ []))
           ∙ sym (map-append (λ (directed : DirectedChain). tlid_at county directed.place)
-          (at_places by_shape (filter (is_kept county c.args.shape_order.now) (range_with_len 0 c.loop-place.place))) (chain ∷ []))
+          (at_places by_shape (filter (is_kept county c.args.shape_order.now c.args.still_open.now) (range_with_len 0 c.loop-place.place))) (chain ∷ []))
           ∙ ap (map (λ (directed : DirectedChain). tlid_at county directed.place))
-          (sym (next_taken by_shape (is_kept county c.args.shape_order.now) c.loop-place.place chain passes there));
+          (sym (next_taken by_shape (is_kept county c.args.shape_order.now c.args.still_open.now) c.loop-place.place chain passes there));
       searches = c.in_ok-kept.ensures.searches;
     }
 
@@ -51,4 +54,4 @@ returns-clause-tlids g c =
     let count : c.loop-place.place ≡ length c.by_shape-by_shape.result.now = omega (arith, c.loop-place-test.false, c.loop-place.auto.place-end) in
     c.loop-place.invariant.tlids
     ∙ ap (λ count. map (λ directed. tlid_at county directed.place)
-    (at_places c.args.shape_order.now.by_shape (filter (is_kept county c.args.shape_order.now) (range_with_len 0 count)))) (count ∙ ap length c.by_shape-by_shape.ensures)
+    (at_places c.args.shape_order.now.by_shape (filter (is_kept county c.args.shape_order.now c.args.still_open.now) (range_with_len 0 count)))) (count ∙ ap length c.by_shape-by_shape.ensures)

@@ -1,5 +1,6 @@
 use Rattle.tl_number.proofs.Common.{IsLeastBelow, IsNotAfter, arith, choice_list, choices, not_after_itself, subst, sym}
 use Rattle.tl_number.specs.LeastOnes.{HaveLeastOnes}
+use Rattle.tl_number.specs.StillOpen.{LeavesOpen}
 use Rattle.tl_number.proofs.Choices.LeastBelow.{lone_all}
 use Rattle.tl_number.proofs.Choices.LeastOnes.{least_of_these}
 use Rattle.tl_number.proofs.least_choice.least_choice.Goals as goal
@@ -8,7 +9,7 @@ pub returns-then-len-eq1-clause-number : goal.returns-then-len-eq1-clause-number
 returns-then-len-eq1-clause-number g c =
     let chart = c.args.chart.now in
     let county = g.C.Chart.county chart in
-    let least = c.in_ok-least.ensures in
+    let least = c.in_ok-least.ensures.least in
     let numbers = c.in_ok-least.least.numbers.items in
     let number = c.in_ok-least.least.first.number in
     least_of_these record {
@@ -24,7 +25,12 @@ returns-then-len-eq1-clause-number g c =
 pub least_number-requires-clause-ones : goal.least_number-requires-clause-ones
 least_number-requires-clause-ones g c =
     let county = g.C.Chart.county c.args.chart.now in
-    subst (HaveLeastOnes county (choices county)) (sym c.deref.ensures.value) c.in_ok-least.ensures.ones
+    subst (HaveLeastOnes county (choices county)) (sym c.deref.ensures.value) c.in_ok-least.ensures.least.ones
+
+pub least_number-requires-clause-left : goal.least_number-requires-clause-left
+least_number-requires-clause-left g c =
+    let order = c.args.shape_order.now in
+    subst (λ numbers. LeavesOpen order.by_shape order.places numbers c.in_ok-least.least.still_open) (sym c.deref.ensures.value) c.in_ok-least.ensures.left
 
 pub returns-clause-number : goal.returns-clause-number
 returns-clause-number g c =

@@ -4,7 +4,8 @@ use Rattle.std.specs.Ordering.{nat_cmp}
 use Rattle.county_chart.specs.Choices.{most_choices}
 use Rattle.ordered_lists.specs.Orders.{contains}
 use Rattle.record_groups.proofs.Texts.GroupOrders.{records_total}
-use Rattle.tl_number.specs.LeastOnes.{HaveLeastOnes, combined, ones_in}
+use Rattle.tl_number.specs.LeastOnes.{HaveLeastOnes, ones_in}
+use Rattle.tl_number.specs.ShapeDigits.{combined}
 use Rattle.tl_number.proofs.Choices.LeastBelow.{contained_all, few_combined, first_combined, first_contained, least_combined}
 use Rattle.tl_number.proofs.type_1_choices.add_digit.Given.{Over}
 use Rattle.tl_number.proofs.type_1_choices.add_digit.Goals.{Start}
@@ -29,8 +30,14 @@ combine-requires-clause-few g c =
     (few_combined c.args.ways c.args.count most_choices c.requires.few c.in_ok-digits.digits.items c.args.least.now.numbers.items
     c.in_ok-digits.ensures.digits.within c.requires.least.ones.within)
 
-pub returns : goal.returns
-returns g c =
+pub returns-clause-numbers : goal.returns-clause-numbers
+returns-clause-numbers g c = c.in_ok-least.ensures ∙ (λ i. combined c.args.ways (c.deref.ensures.value i) (c.deref-2.ensures.value i))
+
+pub returns-clause-digits : goal.returns-clause-digits
+returns-clause-digits g c = c.in_ok-digits.ensures.digits.within
+
+pub returns-clause-least : goal.returns-clause-least
+returns-clause-least g c =
     let county = g.C.Chart.county c.args.chart.now in
     let ways = c.args.ways in
     let numbers = c.args.least.now.numbers.items in
@@ -41,7 +48,7 @@ returns g c =
     record {
       ones = subst (HaveLeastOnes county (c.args.count * ways)) (sym all)
           (least_combined records_total (ones_in county) ways c.args.count c.requires.apart numbers c.requires.least.ones number
-          (first_there g (goal.at.returns g c).Start) digits c.in_ok-digits.ensures.digits);
+          (first_there g (goal.at.returns-clause-least g c).Start) digits c.in_ok-digits.ensures.digits);
       first = c.in_ok-digits.ensures.first ∙ ap (λ n. get_or digits 0 0 * ways + n) c.requires.least.first
           ∙ sym (ap (λ ns. get_or ns 0 0) all ∙ first_combined ways digits numbers c.in_ok-digits.ensures.digits.some some);
       chosen = c.in_ok-digits.ensures.chosen;

@@ -1,6 +1,6 @@
 -- the digits so far are combined
 use Rattle.std.proofs.Common.{drop, ◌++◌, ◌≡◌}
-use Rattle.tl_number.specs.LeastOnes.{combined}
+use Rattle.tl_number.specs.ShapeDigits.{combined}
 use Rattle.tl_number.proofs.type_1_choices.combine.Given as goal
 
 abbrev pub invariant-loop-digit : goal.invariant-loop-digit

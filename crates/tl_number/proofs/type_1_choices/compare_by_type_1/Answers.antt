@@ -1,5 +1,5 @@
 use Rattle.tl_number.proofs.Common.{AgreeButOpen, DirectedChain, List, One, OpenPlace, ap₂, arranged, arrangement_of_number, groups_cmp, subst, sym, type_1_by_chain, ◌∙◌}
-use Rattle.tl_number.proofs.Ties.OrderedCounty.{agree_in}
+use Rattle.tl_number.proofs.Ties.ComparedChoices.{agree_in}
 use Rattle.tl_number.proofs.type_1_choices.compare_by_type_1.Goals as goal
 
 pub compare_ones-requires : goal.compare_ones-requires

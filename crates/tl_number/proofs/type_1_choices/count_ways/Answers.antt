@@ -1,5 +1,5 @@
 use Rattle.std.proofs.Common.{ap, arith, sym, ◌*◌, ◌∙◌, ◌≡◌}
-use Rattle.tl_number.specs.LeastOnes.{ways_of}
+use Rattle.tl_number.specs.ShapeDigits.{ways_of}
 use Rattle.county_chart.specs.Choices.{ways_at}
 use Rattle.tl_number.proofs.type_1_choices.count_ways.Goals as goal
 

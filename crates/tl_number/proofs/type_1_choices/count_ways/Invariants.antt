@@ -1,6 +1,6 @@
 -- the ways so far and the ways of the remaining places
 use Rattle.std.proofs.Common.{length, ◌*◌, ◌≡◌}
-use Rattle.tl_number.specs.LeastOnes.{ways_of}
+use Rattle.tl_number.specs.ShapeDigits.{ways_of}
 use Rattle.tl_number.proofs.type_1_choices.count_ways.Given as goal
 
 abbrev pub invariant-loop-at : goal.invariant-loop-at

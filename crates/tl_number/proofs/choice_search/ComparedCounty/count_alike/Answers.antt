@@ -1,6 +1,6 @@
 use Rattle.tl_number.proofs.Common.{DirectedChain, ap, arith, false, get_or, length, rules, slice_get, slice_get-get_or, sym, true, ◌<◌, ◌∙◌, ◌≡◌}
 use Rattle.tl_number.proofs.Choices.AlikeRanges.{sixes_next}
-use Rattle.tl_number.proofs.Ties.OrderedCounty.{OrderedCounty, count_in, directed_in}
+use Rattle.tl_number.proofs.Ties.ComparedChoices.{OrderedCounty, all_choices, count_in, directed_in}
 use Rattle.tl_number.proofs.choice_search.ComparedCounty.count_alike.Given.{Over}
 use Rattle.tl_number.proofs.choice_search.ComparedCounty.count_alike.Goals.{Start}
 use Rattle.tl_number.proofs.choice_search.ComparedCounty.count_alike.Goals as goal
@@ -23,8 +23,8 @@ bounds-others-place g c =
       c.loop-place-test.true,
       ap length (c.directed_chains-chains.ensures ∙ c.requires.one.chains),
       ap length (c.directed_chains-others.ensures ∙ c.requires.other.chains),
-      count_in o c.args.one.now.number,
-      count_in o c.args.other.now.number,
+      count_in (all_choices o) c.args.one.now.number,
+      count_in (all_choices o) c.args.other.now.number,
     )
 
 pub loop-place-preserved : goal.loop-place-preserved
@@ -36,10 +36,10 @@ loop-place-preserved g c =
     let none : DirectedChain = record { place = 0; turned = false } in
     let chains = c.directed_chains-chains.result.now in
     let others = c.directed_chains-others.result.now in
-    let one_is : chains ≡ directed_in o n = c.directed_chains-chains.ensures ∙ c.requires.one.chains in
-    let other_is : others ≡ directed_in o k = c.directed_chains-others.ensures ∙ c.requires.other.chains in
+    let one_is : chains ≡ directed_in (all_choices o) n = c.directed_chains-chains.ensures ∙ c.requires.one.chains in
+    let other_is : others ≡ directed_in (all_choices o) k = c.directed_chains-others.ensures ∙ c.requires.other.chains in
     let there : place < length chains = omega (arith, c.loop-place-test.true) in
-    let there_too : place < length others = omega (arith, there, ap length one_is, ap length other_is, count_in o n, count_in o k) in
+    let there_too : place < length others = omega (arith, there, ap length one_is, ap length other_is, count_in (all_choices o) n, count_in (all_choices o) k) in
     let holds : c.are_alike-same.result ≡ true = search rules in
     sixes_next o n k place (get_or chains place none) (get_or others place none)
     (sym (ap (λ them. slice_get them place) one_is) ∙ slice_get-get_or chains place none there)

@@ -1,7 +1,8 @@
-use Rattle.tl_number.proofs.Common.{AllByRecursion, Equal, List, Some, arith, choices_cmp, get_or, is_gt, ones_cmp, slice_get, slice_get-get_or, subst, sym, take, ℕ, ◌+◌, ◌≡◌}
+use Rattle.tl_number.proofs.Common.{AllByRecursion, Equal, List, Some, among-get, among_known, arith, choices_cmp, contains, get_or, is_gt, lt-ltb, nat_cmp, nat_keys, ones_cmp, slice_get, slice_get-get_or, subst, sym, take, times, true, ℕ, ◌+◌, ◌≡◌}
 use Rattle.ordered_lists.proofs.Lists.ByPlace.{all-get}
 use Rattle.tl_number.specs.LeastOnes.{IsLeastAmong}
 use Rattle.tl_number.proofs.Choices.ChoiceSteps.{lesser_least, of_each}
+use Rattle.tl_number.proofs.Choices.LeastBelow.{first_contained}
 use Rattle.tl_number.proofs.Choices.LeastNumbers.{first_among}
 use Rattle.tl_number.proofs.choice_search.ComparedCounty.search_least.Goals as goal
 
@@ -12,6 +13,7 @@ loop-place-init g c =
     record {
       arranged = c.in_ok-least.ensures.arranged;
       least = subst (IsLeastAmong county (take 1 numbers)) (sym c.in_ok-least.ensures.number) (first_among county numbers c.requires.some);
+      there = subst (λ n. contains nat_cmp n numbers ≡ true) (sym c.in_ok-least.ensures.number) (first_contained numbers c.requires.some);
       tied = subst (λ n. AllByRecursion (λ m. ones_cmp county n m ≡ Equal) numbers) (sym c.in_ok-least.ensures.number)
           (all-get (λ n. AllByRecursion (λ m. ones_cmp county n m ≡ Equal) numbers) numbers 0 (get_or numbers 0 0) c.requires.ones
           (slice_get-get_or numbers 0 0 c.requires.some));
@@ -37,6 +39,10 @@ loop-place-preserved g c =
       arranged = c.in_ok-least-2.ensures.arranged;
       least = subst (IsLeastAmong county (take (place + 1) numbers)) (sym c.in_ok-least-2.ensures.number)
           (lesser_least county numbers place old next there c.loop-place.invariant.least);
+      there = subst (λ n. contains nat_cmp n numbers ≡ true) (sym c.in_ok-least-2.ensures.number)
+          (of_each (λ n (_ : ℕ). contains nat_cmp n numbers ≡ true) (is_gt (choices_cmp county old next)) next old 0 0
+          (lt-ltb 0 (times nat_cmp next numbers) (among_known nat_keys next numbers (among-get numbers place next there)))
+          c.loop-place.invariant.there);
       tied = subst (λ n. AllByRecursion (λ m. ones_cmp county n m ≡ Equal) numbers) (sym c.in_ok-least-2.ensures.number)
           (of_each (λ n (_ : ℕ). AllByRecursion (λ m. ones_cmp county n m ≡ Equal) numbers) (is_gt (choices_cmp county old next)) next old 0 0
           (all-get (λ n. AllByRecursion (λ m. ones_cmp county n m ≡ Equal) numbers) numbers place next c.requires.ones there)
