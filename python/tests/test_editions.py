@@ -83,6 +83,25 @@ def test_renamed_counties() -> None:
     assert histories({"A": 1}, {"B": 1}, {"A": 1}) == {"A": ["renamed", "renamed"]}
 
 
+def test_folders_that_could_not_be_listed() -> None:
+    """A county that an edition doesn't list may be in such a folder: it is unchecked there, and neither removed, added nor renamed."""
+    folder: dict[str, object] = {"x/": "failed: can't be listed: Permission denied"}
+    assert histories({"A": 1, "X": 2}, folder) == {"A": ["unchecked"], "X": ["unchecked"]}
+    assert histories(folder, {"A": 1, "X": REFUSED}) == {"A": ["accepted"], "X": ["refused"]}
+    assert histories({"A": 1}, {"B": 1, **folder}) == {"A": ["unchecked"], "B": ["added"]}
+    assert histories({"A": 1, **folder}, {"B": 1}) == {"A": ["removed"], "B": ["accepted"]}
+    assert histories({"A": 1, "B": 2}, {"B": 2, **folder}, {"C": 1, "B": 2}) == {
+        "A": ["unchecked", "removed"],
+        "B": ["same", "same"],
+        "C": ["unchecked", "accepted"],
+    }
+    assert histories(folder, {"B": 1}, {"A": 1, "B": 1}) == {"A": ["", "added"], "B": ["accepted", "same"]}
+    assert {each.county: each.verdict for each in tigercanon.changes("1", "2", "3")}["A"] == "added in 3"
+    assert histories({"A": 1}, {"B": 1}, {"B": 1, **folder}, {"B": 1}) == {"B": ["renamed", "same", "same"]}
+    assert histories({"A": 1, "B": 1}, {"B": 1}, {"B": 1, **folder}, {"B": 1})["A"] == ["removed", "unchecked", ""]
+    assert histories({"X": 1, **folder}, {"X": 1}) == {"X": ["same"]}
+
+
 def test_a_name_twice() -> None:
     """Of two counties of one name the one with a fingerprint counts; two with one can't be matched."""
     edition("1", ("in/A", 1))

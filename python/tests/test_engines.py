@@ -3,10 +3,11 @@ what it is given."""
 
 import time
 from concurrent.futures import CancelledError, Future
+from pathlib import Path
 from typing import Any, Callable
 
 import pytest
-from support import Four, complete, manifest, put, zip_up
+from support import HEAD, Four, complete, manifest, put, zip_up
 
 import tigercanon
 from tigercanon import commands, engines
@@ -164,8 +165,10 @@ def test_a_call_whose_scheduler_is_gone(four: Four, monkeypatch: pytest.MonkeyPa
 
 @pytest.mark.parametrize("count", range(5))
 def test_a_scheduler_that_is_gone(four: Four, run: Any, count: int) -> None:
-    """What was answered is printed, and the status isn't 0, since not all was done, even if all that was answered is right."""
+    """What was answered is printed, and the status isn't 0, since not all was done, even if all that was answered is right. A folder that
+    couldn't be listed before keeps its line until all is done."""
     put("m", manifest(four).encode())
+    put("new", f"{HEAD}# ? -  failed: can't be listed: Permission denied  in/\n".encode())
     left = f"the scheduler at there:1 is gone: {4 - count} counties are left; run the same command again to do them"
     status, out, reports = run("verify --scheduler there:1 m", count)
     assert (status, out) == (int(count < 4), "".join(f"{stem}: OK\n" for stem in [*four][:count]))
@@ -174,4 +177,4 @@ def test_a_scheduler_that_is_gone(four: Four, run: Any, count: int) -> None:
     assert (status, out, left in reports) == (int(count < 4), manifest(dict([*four.items()][:count])), count < 4)
     status, _, reports = run("fingerprint --scheduler there:1 -o new in", count)
     assert (status, left in reports) == (int(count < 4), count < 4)
-    assert not count or run("changes m new")[1].count("unchecked") == 4 - count
+    assert ("  in/\n" in Path("new").read_text(), run("changes m new")[1].count("unchecked")) == (count < 4, 4 - count)

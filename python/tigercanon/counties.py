@@ -4,6 +4,7 @@ from __future__ import annotations
 
 import os
 import re
+from dataclasses import replace
 from fnmatch import fnmatchcase
 from functools import lru_cache
 from typing import Callable, Collection, Iterable, Iterator, Sequence
@@ -94,7 +95,7 @@ class Finder:
         try:
             listed = self.entries_in(folder)
         except Exception as error:
-            yield County(folder, trouble=f"can't be listed: {reason(error)}")
+            yield unlisted(folder, error)
             return
         walked.add(folder)
         for names in names_among(listed).values():
@@ -194,7 +195,7 @@ class Finder:
             return county_of(folder, names[folded(stem_of(name))])
         if kind_of(name) and exact:
             return County(path, trouble="isn't one of a county's nine files")
-        if exact and not exact[0].is_folder:
+        if exact and (exact[0].trouble or not exact[0].is_folder):
             return whole_county(folder, exact[0])
         county = None if kind_of(name) else rewritten(path, names, by_key.get(key_of(name), []))
         if county:
@@ -203,6 +204,14 @@ class Finder:
             return County(path, trouble="isn't a regular file")
         absent = "no such file" if kind_of(path) and not is_url(path) else "no such file, folder or county"
         return County(path, trouble=absent, is_absent=True)
+
+    def of_folder(self, path: str) -> County:
+        """Returns a folder that couldn't be listed once, with the trouble that it has now, if any."""
+        try:
+            self.entries(path)
+        except Exception as error:
+            return replace(unlisted(path, error), is_absent=is_absent(error))
+        return County(path, is_folder=True)
 
     def listed_for(self, path: str, folder: str) -> list[Entry]:
         """Returns the entries among which a county of this name is: those of its folder, or, of a plain server of files, which can't list a
@@ -214,6 +223,11 @@ class Finder:
                 raise
             listed = []
         return listed if listed or not is_url(path) else probed(path)
+
+
+def unlisted(folder: str, error: Exception) -> County:
+    """Returns a folder that can't be listed, in place of the counties in it."""
+    return County(joined(folder or ".", ""), trouble=f"can't be listed: {reason(error)}", is_folder=True)
 
 
 def keyed(listed: Iterable[Entry]) -> dict[str, list[Entry]]:

@@ -14,14 +14,21 @@ Lines = dict[str, Line]
 
 
 class Edition(NamedTuple):
-    """An edition: its name, and its counties by their names without folder, case and ending."""
+    """An edition: its name, its counties by their names without folder, case and ending, and the folders that couldn't be listed."""
 
     name: str
     counties: Lines
+    folders: tuple[Line, ...] = ()
+
+    @property
+    def absent(self) -> Line | None:
+        """What it has in place of a county that it doesn't list: the first folder that the county may be in, or None."""
+        return self.folders[0] if self.folders else None
 
 
 class History(NamedTuple):
-    """A county through the editions: its line in each, or None if an edition doesn't have it. It may have another name in each."""
+    """A county through the editions: its line in each, or None if an edition doesn't have it. It may have another name in each. If it
+    may be in a folder that couldn't be listed, an edition has that folder's line."""
 
     editions: tuple[str, ...]
     lines: tuple[Optional[Line], ...]
@@ -29,7 +36,7 @@ class History(NamedTuple):
     @property
     def last(self) -> Line:
         """Its line in the last edition that has it."""
-        return next(line for line in reversed(self.lines) if line)
+        return last_of(self.lines)
 
     @property
     def county(self) -> str:
@@ -46,12 +53,18 @@ class History(NamedTuple):
     def step(self, place: int) -> str:
         """Returns how it changed between an edition and the one before: one of KINDS, or nothing if neither edition has it."""
         old, new = self.lines[place - 1 : place + 1]
-        if old is None or new is None:
-            return "added" if new else "removed" if old else ""
-        if new.refusal or old.refusal:
+        if new is None:
+            return "removed" if self.was_there(place) else ""
+        if new.is_folder or old and (new.refusal or old.refusal):
             return new.state
+        if old is None:
+            return "added"
         is_renamed = key_of(old.stem) != key_of(new.stem)
         return "changed" if old.fingerprint != new.fingerprint else "renamed" if is_renamed else "same"
+
+    def was_there(self, place: int) -> bool:
+        """Returns whether the last edition before this one has it, apart from editions for which that isn't known."""
+        return next((line is not None for line in reversed(self.lines[:place]) if not (line and line.is_folder)), False)
 
     @property
     def steps(self) -> list[str]:
@@ -78,7 +91,7 @@ class History(NamedTuple):
             return f"renamed in {edition} from {key_of(old.stem)}"
         if step in ("same", ""):
             return ""
-        if step == "added" and any(self.lines[:place]):
+        if step == "added" and any(line and not line.is_folder for line in self.lines[:place]):
             return f"added again in {edition}"
         return f"{'still ' if old and old.state == step else ''}{step} in {edition}"
 
@@ -115,7 +128,7 @@ def editions_of(names: Sequence[str], folders: Sequence[str] = ()) -> tuple[list
         return parted(names[0], manifests[0][2], folders), left_out
     bases = [os.path.basename(name) for name in names]
     shown = bases if len({*bases}) == len(bases) else names
-    return [Edition(label, by_key(name, lines)) for label, (name, _, lines) in zip(shown, manifests)], left_out
+    return [edition_of(label, name, lines) for label, (name, _, lines) in zip(shown, manifests)], left_out
 
 
 def parted(name: str, lines: list[Line], folders: Sequence[str]) -> list[Edition]:
@@ -130,12 +143,28 @@ def parted(name: str, lines: list[Line], folders: Sequence[str]) -> list[Edition
             roots = []
     if len(roots) < 2:
         raise Failure(f"{name}: has one edition: name another manifest, or the folder of each edition by --edition")
-    editions = [Edition(root, by_key(name, [line for line in lines if line.stem.startswith(f"{root}/")])) for root in roots]
+    editions = [edition_of(root, name, [line for line in lines if is_below(line, f"{root}/")]) for root in roots]
     for edition in editions:
-        if not edition.counties:
+        if not edition.counties and not edition.folders:
             raise Failure(f"{name}: has no county below {edition.name}")
     bases = [os.path.basename(root) for root in roots]
     return [edition._replace(name=base) for edition, base in zip(editions, bases)] if len({*bases}) == len(bases) else editions
+
+
+def is_below(line: Line, root: str) -> bool:
+    """Returns whether a line is of an edition below this folder. A folder that couldn't be listed may also be around it."""
+    return line.stem.startswith(root) or line.is_folder and root.startswith(line.stem)
+
+
+def edition_of(label: str, name: str, lines: Iterable[Line]) -> Edition:
+    """Returns the edition with these lines of a manifest."""
+    folders = tuple(line for line in lines if line.is_folder)
+    return Edition(label, by_key(name, [line for line in lines if not line.is_folder]), folders)
+
+
+def last_of(lines: Sequence[Line | None]) -> Line:
+    """Returns a county's line in the last edition that has it."""
+    return next(line for line in reversed(lines) if line and not line.is_folder)
 
 
 def by_key(name: str, lines: Iterable[Line]) -> Lines:
@@ -151,21 +180,23 @@ def by_key(name: str, lines: Iterable[Line]) -> Lines:
 
 def histories(editions: Sequence[Edition]) -> list[History]:
     """Returns the counties of all editions through these, in the order of their last names. A county that is gone and one that
-    is new in the same edition are one, renamed, if they have the same map."""
+    is new in the same edition are one, renamed, if they have the same map. In a folder that couldn't be listed none is gone or new.
+    """
     tracks: list[list[Line | None]] = []
     for place, edition in enumerate(editions):
         here = dict(edition.counties)
         gone: dict[str, list[list[Line | None]]] = {}
         for track in tracks:
-            last = next(line for line in reversed(track) if line)
-            track.append(here.pop(key_of(last.stem), None))  # under the name that it had last
-            if track[place] is None and track[place - 1] is last and last.fingerprint:
+            last = last_of(track)
+            track.append(here.pop(key_of(last.stem), edition.absent))  # under the name that it had last
+            is_gone = track[place] is None and track[place - 1] is last and not editions[place - 1].folders
+            if is_gone and last.fingerprint:
                 gone.setdefault(last.fingerprint, []).append(track)
         for line in here.values():
             if gone.get(line.fingerprint):
                 gone[line.fingerprint].pop(0)[place] = line
             else:
-                tracks.append([*([None] * place), line])
+                tracks.append([*(before.absent for before in editions[:place]), line])
     names = tuple(edition.name for edition in editions)
     return sorted((History(names, tuple(track)) for track in tracks), key=lambda each: os.fsencode(each.county))
 

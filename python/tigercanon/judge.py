@@ -40,7 +40,8 @@ class File:
 class County:
     """A county in an archive: single files by their types, one file with all records, or a zip. stem is its name in a manifest. trouble
     says why it can't be judged; its files are those that are there all the same. notes are reported with its result. readable_stem is one
-    that the program can read without copies of the files, if their names are in capitals."""
+    that the program can read without copies of the files, if their names are in capitals. is_folder: it is no county but a folder that
+    can't be listed, or couldn't be when the manifest was written, and its stem ends with a slash."""
 
     stem: str
     files: dict[str, File] = field(default_factory=dict)
@@ -50,6 +51,7 @@ class County:
     is_absent: bool = False
     notes: tuple[str, ...] = ()
     readable_stem: str | None = None
+    is_folder: bool = False
 
     @property
     def places(self) -> list[File]:

@@ -19,7 +19,6 @@ from .manifests import TELLING, UNPROVED, Line, agreed, loaded, without_mark
 from .program import find_program, is_unproved
 from .progress import Tally
 from .resources import Resources, remove_stale_folders
-from .storage import joined, tidy
 
 T = TypeVar("T")
 Numbered = Generator[tuple[int, T], None, None]  # values with the numbers of their counties
@@ -30,7 +29,8 @@ VERDICTS = ("OK", "FAILED", "MISSING", "NEW", "REFUSED", "ACCEPTED")
 @dataclass(frozen=True)
 class Verified:
     """A county of a manifest, or one that isn't in it. verdict is `OK`, `FAILED`, `MISSING` or `NEW`; or, if the manifest has no fingerprint
-    of it, `REFUSED` if it is still refused, and `ACCEPTED` if it has one now."""
+    of it, `REFUSED` if it is still refused, and `ACCEPTED` if it has one now. A folder that the manifest lists as one that couldn't be
+    listed is `ACCEPTED` if it can be now."""
 
     county: str
     verdict: str
@@ -103,7 +103,7 @@ class Judging:
     def answers(self, counties: Sequence[County], flags: tuple[str, ...] = (), is_strict: bool = False) -> Numbered[Answer]:
         """Returns the number of each county and the answer for it, first for those that can't be judged. Raises Failure at once
         if there is no program."""
-        is_any = any(not county.trouble for county in counties)
+        is_any = any(county.places and not county.trouble for county in counties)
         return self.each_answer(counties, self.means.order(flags, is_strict, self.job) if is_any else None)
 
     def each_answer(self, counties: Sequence[County], order: Order | None) -> Numbered[Answer]:
@@ -124,10 +124,10 @@ class Judging:
             tally.close()
 
     def as_they_come(self, counties: Sequence[County], order: Order | None) -> Numbered[Answer]:
-        there = [number for number, county in enumerate(counties) if not county.trouble]
+        there = [number for number, county in enumerate(counties) if county.places and not county.trouble]
         for number, county in enumerate(counties):
-            if county.trouble:
-                yield number, Answer(Kind.FAILED, county.trouble)
+            if county.trouble or county.is_folder:
+                yield number, Answer(Kind.FAILED if county.trouble else Kind.ACCEPTED, county.trouble)
         if order:
             remove_stale_folders()
             with self.resources.part() as part, closing(self.means.engine(part)) as engine:
@@ -156,9 +156,11 @@ class Verification:
         self.flags = without_mark(own_flags)
         if flags:
             agreed(manifest, self.flags, flags)
-        names = [tidy(joined(root, line.stem) if root else line.stem) for line in self.lines]
+        names = [line.name(root or "") for line in self.lines]
         finder = Finder()
-        self.counties = [finder.of_name(name) for name in names]
+        self.counties = [
+            finder.of_folder(name) if line.is_folder else finder.of_name(name) for line, name in zip(self.lines, names)
+        ]
         self.finder = Finder([manifest], excluded, {*map(folded, names)})
         places = {file.place for county in self.counties for file in county.places}
         new, _ = self.finder.counties(sources, lambda county: folded(county.stem) in self.finder.listed)

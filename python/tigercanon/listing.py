@@ -20,12 +20,14 @@ SHOWN_KINDS = words.KINDS[:3]  # of what differs
 def list_duplicates(options: argparse.Namespace, console: Console, resources: Resources) -> int:
     resources.inputs([options.manifest])
     _, lines = loaded(options.manifest)
-    groups, left = groups_of(lines), sum(line.state == "unchecked" for line in lines)
+    groups, folders = groups_of(lines), sum(line.is_folder for line in lines)
+    left = sum(line.state == "unchecked" for line in lines) - folders
     different = [group for group in groups if group.is_different]
     of_different = f"{len(different):,} of counties with different names" if different else "none of counties with different names"
     counties = counted(sum(len(group.counties) for group in groups), "county")
     unchecked = f"; {counted(left, 'county')} {'is' if left == 1 else 'are'}n't checked yet" if left else ""
-    console.report(f"{counted(len(groups), 'group')} of one map with {counties}, {of_different}{unchecked}")
+    unlisted = f"; {counted(folders, 'folder')} couldn't be listed" if folders else ""
+    console.report(f"{counted(len(groups), 'group')} of one map with {counties}, {of_different}{unchecked}{unlisted}")
     shown = different if options.different else groups
     if options.json:
         print_lines(as_json({"fingerprint": group.fingerprint, "counties": list(group.counties)}) for group in shown)
@@ -50,9 +52,12 @@ def list_changes(options: argparse.Namespace, console: Console, resources: Resou
     else:
         print_lines(of_two(shown) if len(editions) == 2 else table(shown))
     report_counts(every, console)
+    unlisted = [f"{edition.name}: {line.stem} couldn't be listed" for edition in editions for line in edition.folders]
+    for text in dict.fromkeys(unlisted):
+        console.report(f"{text}, so it isn't known which counties are in it")
     if options.pages:
         list_pages(every, flags, options, console, resources)
-    return int(any(not each.is_same for each in every))
+    return int(bool(unlisted) or any(not each.is_same for each in every))
 
 
 def list_pages(

@@ -24,7 +24,7 @@ from .counties import county_in
 from .inputs import Inputs
 from .layout import folded, kind_of
 from .resources import Resources, new_files
-from .storage import Entry, parted, tidy
+from .storage import Entry, joined, parted, tidy
 
 Flags = tuple[str, ...]
 FORM = "# tigercanon form 1"
@@ -64,7 +64,8 @@ HEADINGS.update({f"# {' '.join(flags)}".encode(): flags for flags in FLAG_SETS i
 
 class Line(NamedTuple):
     """A county of a manifest. One that was refused or has failed has the refusal, or the reason after `failed: `, and no fingerprint. The
-    sources are the size and the time of each of its files, if the manifest has them."""
+    sources are the size and the time of each of its files, if the manifest has them. A folder that couldn't be listed has a line like a
+    failed county, and a stem that ends with a slash."""
 
     fingerprint: str
     stem: str
@@ -76,10 +77,19 @@ class Line(NamedTuple):
 
     @property
     def state(self) -> str:
-        """Whether the county was `accepted`, `refused`, has `failed` or is `unchecked`."""
-        if self.refusal == UNCHECKED:
+        """Whether the county was `accepted`, `refused`, has `failed` or is `unchecked`, as all counties in a folder are."""
+        if self.refusal == UNCHECKED or self.is_folder:
             return "unchecked"
         return "accepted" if not self.refusal else "refused" if self.refusal.startswith("refused ") else "failed"
+
+    @property
+    def is_folder(self) -> bool:
+        return bool(self.refusal) and self.stem.endswith("/")
+
+    def name(self, root: str = "") -> str:
+        """Returns its name below a folder, in its only form: that of a folder ends with a slash."""
+        name = tidy(joined(root, self.stem))
+        return joined(name or ".", "") if self.is_folder else name
 
     @property
     def is_lasting(self) -> bool:
@@ -164,7 +174,7 @@ def parsed_line(text: bytes) -> Line | None:
 def names_in(name: str) -> set[str]:
     """Returns the names of the counties that a manifest lists, folded; none if it can't be read as one."""
     with suppress(Failure):
-        return {folded(tidy(line.stem)) for line in parsed(name, is_written=True)[1]} if os.path.isfile(name) else set()
+        return {folded(line.name()) for line in parsed(name, is_written=True)[1]} if os.path.isfile(name) else set()
     return set()
 
 

@@ -152,11 +152,13 @@ def length_of_line(file: BinaryIO) -> int:
 
 
 def local_entry(item: os.DirEntry[str]) -> Entry:
+    is_folder = False
     try:
-        trouble = "" if item.is_dir() or item.is_file() else "isn't a regular file"
-        return Entry(item.name, item.is_dir(), item.stat().st_size, trouble)
-    except OSError as error:
-        return Entry(item.name, False, None, f"can't be read: {reason(error)}")
+        is_folder = item.is_dir()
+        trouble = "" if is_folder or item.is_file() else "isn't a regular file"
+        return Entry(item.name, is_folder, item.stat().st_size, trouble)
+    except OSError as error:  # a folder that may be listed, and not entered, still tells which names in it are folders
+        return Entry(item.name, is_folder, None, f"can't be read: {reason(error)}")
 
 
 def system_of(url: str) -> Any:

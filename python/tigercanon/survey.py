@@ -14,7 +14,7 @@ from .judge import Answer, County, Kind
 from .judging import Judging, Numbered, see_names
 from .layout import folded, key_of, stem_of
 from .manifests import TELLING, UNCHECKED, Line, Manifest, lock_of, names_in, respect_lock, written
-from .storage import tidy
+from .storage import joined, tidy
 
 
 @dataclass(frozen=True)
@@ -80,7 +80,7 @@ class Survey:
         inputs = self.judging.inputs(every)
         self.marked = (*self.judging.means.mark, *self.flags)
         with written(outputs[0], self.marked, inputs, self.judging.resources) if outputs else nullcontext() as self.manifest:
-            self.listed = {folded(tidy(line.stem)): line for line in self.manifest.lines} if self.manifest else {}
+            self.listed = {folded(line.name()): line for line in self.manifest.lines} if self.manifest else {}
             unseen = self.lines_unseen(every)
             self.gone = [line for line in unseen if self.is_gone(line)] if self.choice.update else []
             every += [self.finder.of_name(tidy(line.stem)) for line in unseen if not self.is_gone(line)]
@@ -168,7 +168,8 @@ class Survey:
             line = Line(answer.text, county.stem, sources if TELLING.fullmatch(sources) else "")
         else:
             line = Line("", county.stem, sources, refusal_in(answer.text))
-        has_place = bool(county.places) or before is not None and not county.is_absent
+        is_folder = county.is_folder and "\n" not in county.stem
+        has_place = bool(county.places) or is_folder or before is not None and not county.is_absent
         if has_place and (is_accepted or before is None or self.choice.update or not before.fingerprint):
             self.listed[folded(county.stem)] = line
             if self.manifest:
@@ -192,7 +193,7 @@ class Survey:
         name. Below a folder that can't be read, and in a source without a county, there is none."""
         there = {folded(county.stem) for county in every if not county.is_absent}
         named = {folded(stem_of(county.stem)) for county in every if county.is_absent}
-        lines = [line for key, line in self.listed.items() if key not in there]
+        lines = [line for key, line in self.listed.items() if key not in there and not line.is_folder]
         return [line for line in lines if folded(tidy(line.stem)) in named or self.finder.has_walked(tidy(line.stem))]
 
     def is_gone(self, line: Line) -> bool:
@@ -200,8 +201,8 @@ class Survey:
         return county.is_absent or not county.trouble and folded(county.stem) != folded(tidy(line.stem))
 
     def take_out(self) -> None:
-        """Takes the lines of moved counties out of the manifest, and with prune those of all that are gone. A county has moved if a new one
-        has its map, and its name in another folder or with another ending."""
+        """Takes the lines of moved counties out of the manifest, with prune those of all that are gone, and those of folders that were listed
+        now or are gone. A county has moved if a new one has its map, and its name in another folder or with another ending."""
         new = [self.listed.get(folded(county.stem)) for county in self.counties if folded(county.stem) not in self.before]
         places = {(key_of(line.stem), line.fingerprint): line.stem for line in new if line and line.fingerprint}
         for line in self.gone:
@@ -211,6 +212,10 @@ class Survey:
             if self.manifest and (place or self.choice.prune):
                 self.manifest.drop(line.stem)
         self.gone = [line for line in self.gone if line.stem not in self.moved]
+        for line in self.listed.values():
+            is_listed = line.is_folder and self.finder.has_walked(joined(tidy(line.stem), ""))
+            if self.manifest and is_listed and not self.judging.left:
+                self.manifest.drop(line.stem)
 
 
 def refusal_in(text: str) -> str:
