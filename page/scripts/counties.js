@@ -5,7 +5,7 @@
 // judged, and isNamed that it is a county by the names of its files all the same. notes are reported with its result.
 import { beginningOf, beginsWithRecord } from "./first_line.js";
 import { groupedBy } from "./grouping.js";
-import { baseOf, byBytes, endingOf, folderOf, foldedName, isLeftOut, keyOf, kindOf, stemOf } from "./names.js";
+import { baseOf, byBytes, endingOf, folderOf, foldedName, isFolder, isLeftOut, keyOf, kindOf, stemOf } from "./names.js";
 import { counted } from "./numbers.js";
 import { FORM, TYPES } from "./tables.js";
 import { Unreadable } from "./unreadable.js";
@@ -13,6 +13,7 @@ import { Unreadable } from "./unreadable.js";
 const FILE_KINDS = [...TYPES, "ZIP"];
 const AT_ONCE = 32; // files of which the beginning is read
 const UNREADABLE = "it can't be read: it was moved, changed or is locked";
+const UNLISTED = "can't be listed: it was moved or is locked"; // a folder
 const PACKED = "it is one file of several, packed by gzip: unpack it first";
 const COUNTY_NAME = /^TGR[0-9]{5}$/;
 const OTHER_ENDINGS = /\.(?:met|csv|geojson|html)$/i; // of files that are distributed with a county's records, or made of them
@@ -40,9 +41,10 @@ async function eachOf(things, make) {
   return made;
 }
 
-// What a file is that isn't one of a county's nine, nor a zip.
+// What a file is that isn't one of a county's nine, nor a zip. A folder that can't be listed is in the place of the counties in it.
 async function decided(given) {
   const { path, file } = given;
+  if (isFolder(path)) return ["counties", failing(path, UNLISTED, true)];
   const isNamed = !path.includes("/") && kindOf(path) === "";
   try {
     const head = await beginningOf(file);

@@ -45,7 +45,7 @@ export class CountyPanel {
   }
 
   title(state) {
-    const name = h("h2", {}, this.ordinal && h("span", { class: `ordinal ${this.ordinal}` }, this.ordinal), h("bdi", {}, baseOf(this.name)));
+    const name = h("h2", {}, this.ordinal && h("span", { class: `ordinal ${this.ordinal}` }, this.ordinal), h("bdi", {}, baseOf(this.name) || this.name));
     return h("div", { class: "title" }, name, state);
   }
 

@@ -9,7 +9,8 @@ const MOST_FILES = 100_000;
 
 export class TooManyFiles extends Error {}
 
-// The files of what was dropped, with all that is in folders. What was dropped must be asked for at once, before the event is over.
+// The files of what was dropped, with all that is in folders, and the folders that can't be listed: these have no file, and a slash after
+// their paths. What was dropped must be asked for at once, before the event is over.
 export async function droppedFiles(transfer, most = MOST_FILES) {
   const items = [...transfer.items].filter((item) => item.kind === "file");
   const dropped = items.map((item) => item.getAsFileSystemHandle?.() ?? item.webkitGetAsEntry?.()).filter(Boolean);
@@ -21,13 +22,17 @@ export async function droppedFiles(transfer, most = MOST_FILES) {
       found.push(each);
     }
   }
-  return Promise.all(found.map(async ({ item, path }) => ({ path, file: await fileOf(item) })));
+  return Promise.all(found.map(async ({ item, path }) => (item ? { path, file: await fileOf(item) } : { path })));
 }
 
 // The files in a handle or an entry, each with its path. Handles have a kind, and entries say whether they are files.
 async function* filesIn(item, path) {
-  if (item.kind === "file" || item.isFile) yield { item, path };
-  else for await (const child of childrenOf(item)) yield* filesIn(child, `${path}/${child.name}`);
+  if (item.kind === "file" || item.isFile) return yield { item, path };
+  try {
+    for await (const child of childrenOf(item)) yield* filesIn(child, `${path}/${child.name}`);
+  } catch {
+    yield { path: `${path}/` };
+  }
 }
 
 const fileOf = (item) => (item.kind ? item.getFile() : new Promise((resolve, reject) => item.file(resolve, reject)));

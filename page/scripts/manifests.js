@@ -2,7 +2,7 @@
 // names, behind a first line with the form of the texts and the flags that leave fields out. The tools also write comments: the sizes
 // and times of files, and counties that were refused. They are read over here.
 import { groupedBy } from "./grouping.js";
-import { byBytes, folderOf, keyOf, kindOf } from "./names.js";
+import { byBytes, folderOf, isFolder, keyOf, kindOf } from "./names.js";
 import { FLAGS, FORM, IS_PROVED, UNPROVED } from "./tables.js";
 import { Unreadable } from "./unreadable.js";
 
@@ -63,10 +63,12 @@ function masksOf(line) {
 
 // How counties compare with a manifest: OK, FAILED, MISSING or NEW for each name, and whether one that failed has another map; of those
 // that it lists as refused REFUSED, or ACCEPTED if one is accepted now. A county without a fingerprint has failed. `double` is the county
-// whose map a file beside it has.
+// whose map a file beside it has. A folder that couldn't be listed is ACCEPTED if there are counties of it now.
 export function verified(manifest, counties) {
   const { isByName, found } = matched(manifest.counties, counties);
-  const lines = manifest.counties.map((line) => lineOfCounty(line, found.get(line)));
+  const isListed = (folder) => isFolder(folder) && counties.some(({ stem }) => stem.startsWith(folder));
+  const lineOf = (line) => (!found.has(line) && isListed(line.stem) ? { stem: line.stem, state: "ACCEPTED" } : lineOfCounty(line, found.get(line)));
+  const lines = manifest.counties.map(lineOf);
   const wanted = new Map([...found].map(([{ fingerprint }, county]) => [county, fingerprint]));
   const stateOf = ({ double, fingerprint, isUnread }) => (isUnread ? "FAILED" : double && wanted.get(double) === fingerprint ? "OK" : "NEW");
   const others = counties.filter((county) => !wanted.has(county)).map((county) => ({ stem: county.stem, state: stateOf(county) }));
@@ -86,8 +88,8 @@ function matched(lines, counties) {
   const found = new Map();
   const matchBy = (key, isExact = false) => {
     const taken = new Set(found.values());
-    const named = groupedBy(lines.filter((line) => !found.has(line)), ({ stem }) => key(stem));
-    const left = counties.filter((county) => !taken.has(county) && (isExact || !county.double));
+    const named = groupedBy(lines.filter((line) => !found.has(line) && (isExact || !isFolder(line.stem))), ({ stem }) => key(stem));
+    const left = counties.filter((county) => !taken.has(county) && (isExact || !(county.double || isFolder(county.stem))));
     for (const [name, there] of groupedBy(left, ({ stem }) => key(stem))) {
       if (there.length === 1 && named.get(name)?.length === 1) found.set(named.get(name)[0], there[0]);
     }

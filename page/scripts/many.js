@@ -150,7 +150,7 @@ export class ManyCounties {
     const counts = new Map();
     for (const { stem, state, isOtherMap, wanted } of lines) {
       counts.set(state, (counts.get(state) ?? 0) + 1);
-      if (!this.table.rows.has(stem)) this.table.add(stem, "busy", "").cells[2].append("not among these files");
+      if (!this.table.rows.has(stem)) this.table.add(stem, "busy", "").cells[2].append(state === "MISSING" ? "not among these files" : "can be listed now");
       this.table.setResult(stem, KINDS_OF_STATES[state], state);
       const cells = this.table.cells(stem);
       if (isOtherMap) cells[3].prepend(h("strong", {}, "another map "));

@@ -15,6 +15,9 @@ export function kindOf(path) {
 // A name without the marks that turn its line round.
 export const shownName = (path) => path.replace(/[\u061c\u200e\u200f\u202a-\u202e\u2066-\u2069]/g, "");
 
+// Whether a path is that of a folder, which stands for a folder that can't be listed.
+export const isFolder = (path) => path.endsWith("/");
+
 export const baseOf = (path) => path.slice(path.lastIndexOf("/") + 1);
 
 export const folderOf = (path) => path.slice(0, path.length - baseOf(path).length);

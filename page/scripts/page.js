@@ -5,7 +5,7 @@ import { announce, h, replace } from "./dom.js";
 import { chosenFiles, droppedFiles } from "./dropping.js";
 import { engineModule, unpackedBase64 } from "./jobs.js";
 import { ManyCounties } from "./many.js";
-import { baseOf, shownName } from "./names.js";
+import { baseOf, isFolder, shownName } from "./names.js";
 import { OneCounty } from "./one.js";
 import { EXAMPLES, IS_PROVED } from "./tables.js";
 import { TwoCounties } from "./two.js";
@@ -50,7 +50,7 @@ function viewOf(counties, manifests) {
   if (counties.length === 1 && !manifests.length) {
     return new OneCounty(counties[0], masksNow(), { addSecond: () => choose(true), addFirst: () => choose(false) });
   }
-  if (counties.length === 2 && !manifests.length) return new TwoCounties(counties, masksNow());
+  if (counties.length === 2 && !manifests.length && !counties.some(({ stem }) => isFolder(stem))) return new TwoCounties(counties, masksNow());
   return new ManyCounties(state, masksNow(), { open: (county) => open(county), addMore: () => choose(true), fixMasks });
 }
 

@@ -195,6 +195,13 @@ function entryOf(name, children) {
   return { isFile: false, name, createReader: () => ({ readEntries: (resolve) => resolve(pieces.shift()) }) };
 }
 
+// The same folder, as one whose files a browser can't list.
+const unlisted = (folder) => ({
+  ...folder,
+  async *values() { throw new Error("no permission"); },
+  createReader: () => ({ readEntries: (_, reject) => reject(new Error("no permission")) }),
+});
+
 for (const [what, make, itemOf] of [
   ["handles", handleOf, (dropped) => ({ kind: "file", getAsFileSystemHandle: async () => dropped, webkitGetAsEntry: () => assert.fail("an entry") })],
   ["entries", entryOf, (dropped) => ({ kind: "file", webkitGetAsEntry: () => dropped })],
@@ -204,6 +211,11 @@ for (const [what, make, itemOf] of [
     const files = await droppedFiles({ items: [{ kind: "string" }, ...dropped.map(itemOf)], files: [] });
     assert.deepEqual(files.map(({ path, file }) => [path, file.name]), [["a/b", "b"], ["a/c/d", "d"], ["e", "e"]]);
   });
+  test(`a dropped folder that can't be listed, by ${what}`, async () => {
+    const dropped = make("a", [make("b"), unlisted(make("c", [])), make("d", [unlisted(make("e", []))])]);
+    const files = await droppedFiles({ items: [itemOf(dropped)], files: [] });
+    assert.deepEqual(files.map(({ path, file }) => [path, file?.name]), [["a/b", "b"], ["a/c/", undefined], ["a/d/e/", undefined]]);
+  });
   test(`too many dropped files, by ${what}`, async () => {
     const file = make("b");
     const drop = (count) => droppedFiles({ items: [itemOf(make("a", new Array(count).fill(file)))], files: [] }, 3);
@@ -211,6 +223,13 @@ for (const [what, make, itemOf] of [
     assert.equal((await drop(3)).length, 3);
   });
 }
+
+test("a folder that can't be listed is in the place of its counties", async () => {
+  const { counties, skipped } = await found({ path: "in/TGR01001/" }, { path: "in/.git/" }, "in/TGR01001.RT1", "in/TGR01001.x/a.zip", { path: "in/a\nb/" });
+  assert.deepEqual([counties, skipped], [{
+    "in/TGR01001": "1", "in/TGR01001.x/a": "zip", "in/TGR01001/": "can't be listed: it was moved or is locked", "in/a\nb/": "its name has a line break in it",
+  }, []]);
+});
 
 test("files that a browser gives without items, and chosen folders", async () => {
   const file = new File([""], "a");

@@ -116,6 +116,16 @@ test("a county that can't be read has failed, although the manifest doesn't have
   assert.deepEqual(compared([["A", "1"]], [["A", "1"], ["B", "", { isUnread: true }], ["C", ""]]), [true, "A OK", "B FAILED", "C NEW"]);
 });
 
+test("a folder that couldn't be listed is accepted if there are counties of it, has failed if it still can't be listed, or is missing", () => {
+  const lines = [["in/A", "1"], ["in/a.b/", ""], ["in/c/", ""], ["in/d/", ""]];
+  const counties = [["in/A", "1"], ["in/a.b/A", "2"], ["in/c/", "", { isUnread: true }], ["in/e/", "", { isUnread: true }]];
+  assert.deepEqual(compared(lines, counties), [true, "in/A OK", "in/a.b/ ACCEPTED", "in/c/ FAILED", "in/d/ MISSING", "in/a.b/A NEW", "in/e/ FAILED"]);
+  assert.deepEqual(compared([["a/x.y/", ""], ["a/B", "1"]], [["X", "1"], ["b", "1"], ["x.y/", ""]]), [false, "a/x.y/ MISSING", "b OK", "X NEW", "x.y/ NEW"]);
+  const text = manifestOf([{ stem: "in/A", fingerprint: print("1") }, { stem: "in/c/", reason: "failed: can't be listed: it was moved or is locked" }], NO_FLAGS);
+  assert.ok(text.endsWith(`${line("1", "in/A")}# ? -  failed: can't be listed: it was moved or is locked  in/c/\n`));
+  assert.deepEqual(readManifest(text).counties.map(({ stem }) => stem), ["in/A", "in/c/"]);
+});
+
 test("if a manifest names none of the counties they are matched without folder, case and ending", () => {
   const manifest = { counties: [{ stem: "tiger/TGR01001", fingerprint: print("1") }, { stem: "tiger/TGR01003.txt", fingerprint: print("3") }] };
   const { isByName, lines } = verified(manifest, [{ stem: "tgr01001", fingerprint: print("1") }, { stem: "x/y", fingerprint: print("2") }]);

@@ -268,4 +268,44 @@ def try_one_after_another(page: Page) -> None:
     page.browser.click("#no-sources")
 
 
-CASES = (try_sorting, try_masked_table, try_later_file, try_wanted, try_manifests, try_many, try_very_many, try_one_after_another)
+UNLISTED = """
+const { prototype } = FileSystemDirectoryHandle, { values } = prototype;
+prototype.values = function () {
+  if (this.name === "south") throw new Error("no permission");
+  return values.call(this);
+};
+globalThis.listAll = () => Object.assign(prototype, { values });
+"""
+
+
+def try_unlisted_folder(page: Page) -> None:
+    """A folder that can't be listed has a row, and a line in the manifest."""
+    folder, before = page.room / "archive", page.room / "before"
+    (folder / "south").mkdir(parents=True)
+    for path in (folder / "TGR01001.txt", folder / "south/TGR01003.txt"):
+        path.write_bytes((EXAMPLES / "autauga/all.txt").read_bytes())
+    page.browser.start_again()
+    page.browser.execute(UNLISTED)
+    page.browser.drop([folder])
+    page.holds("a folder that can't be listed", page.browser.wait_for(TABLE), page.browser.text("main"))
+    page.equal("its row", {"archive/south/": "Failed", "archive/TGR01001.txt": "Accepted"}, states(page))
+    page.browser.click(".many .actions .main")
+    before.write_bytes(page.browser.downloaded("counties.manifest"))
+    page.equal("its line", b"# failed  archive/south/", comparable(before.read_bytes())[-1])
+    page.browser.execute("listAll()")
+    page.browser.start_again()
+    page.browser.drop([folder, before])
+    compared(page, before, folder, "a folder that can be listed again")
+
+
+CASES = (
+    try_sorting,
+    try_masked_table,
+    try_later_file,
+    try_wanted,
+    try_manifests,
+    try_many,
+    try_very_many,
+    try_one_after_another,
+    try_unlisted_folder,
+)
