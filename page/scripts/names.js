@@ -1,7 +1,7 @@
 // The names of a county's files.
 
 const COUNTY_FILE = /^(.+)\.(?:RT([0-9A-Z])|ZIP)$/is;
-const MAC_FOLDER = "__MACOSX";
+const FOLDERS_LEFT_OUT = ["__MACOSX", "lost+found"];
 
 // The stem of a path: the name of a county's file or zip without its ending.
 export const stemOf = (path) => COUNTY_FILE.exec(path)?.[1] ?? path;
@@ -25,10 +25,12 @@ export const folderOf = (path) => path.slice(0, path.length - baseOf(path).lengt
 // A path that is the same for names that differ only in case.
 export const foldedName = (path) => folderOf(path) + baseOf(path).toUpperCase();
 
-// Whether a file is none of a county's, whatever its name: what a Mac leaves beside others, or what is in a hidden folder.
+// Whether a file is none of a county's, whatever its name: what a Mac leaves beside others, what a repair of the disk finds, or what is in
+// a hidden folder.
 export function isLeftOut(path) {
   const folders = path.split("/").slice(0, -1);
-  return /^\._|^\.DS_Store$/.test(baseOf(path)) || folders.includes(MAC_FOLDER) || folders.slice(1).some((name) => name.startsWith("."));
+  const isInHidden = folders.slice(1).some((name) => name.startsWith("."));
+  return isInHidden || /^\._|^\.DS_Store$/.test(baseOf(path)) || folders.some((name) => FOLDERS_LEFT_OUT.includes(name));
 }
 
 // The name by which counties of two manifests are matched: without folder, case and ending.

@@ -95,8 +95,8 @@ test("files with all records beside a zip or single files of the same name", asy
   assert.deepEqual([...doublesAmong(counties)].map((pair) => pair.map((county) => county?.stem)), [["b.txt", "B"], ["in/a.txt", "in/A"], ["other/A.txt", undefined]]);
 });
 
-test("what a Mac leaves and hidden folders are left out", async () => {
-  const files = ["in/._TGR01001.RT1", "in/__MACOSX/TGR01001.RT1", "__MACOSX/A.ZIP", ".DS_Store", "in/.DS_Store", "in/.git/A.RT1", "._A.ZIP"];
+test("what a Mac leaves, hidden folders and lost+found are left out", async () => {
+  const files = ["in/._TGR01001.RT1", "in/__MACOSX/TGR01001.RT1", "__MACOSX/A.ZIP", ".DS_Store", "in/.DS_Store", "in/.git/A.RT1", "._A.ZIP", "in/lost+found/A.ZIP"];
   assert.deepEqual(await found(...files), { counties: {}, manifests: [], skipped: [] });
   assert.deepEqual((await found(".in/A.RT1")).counties, { ".in/A": "1" });
 });

@@ -131,9 +131,9 @@ def test_skipped_files() -> None:
     assert [*finder.skipped.values()] == ["in/a.tar", "in/b.RTA", "in/c.RT1.gz", "in/d.RT2.gz", "in/read.me", "in/deep/README"]
 
 
-def test_what_a_mac_leaves() -> None:
-    """Its files, hidden folders and files that globs exclude are left out. A hidden file may be a county."""
-    for name in ("in/._a.ZIP", "in/.DS_Store", "in/__MACOSX/a.ZIP", "in/.git/x.ZIP", "in/deep/.x/y/z.ZIP"):
+def test_what_is_left_out() -> None:
+    """What a Mac leaves, hidden folders, lost+found and files that globs exclude. A hidden file may be a county."""
+    for name in ("in/._a.ZIP", "in/.DS_Store", "in/__MACOSX/a.ZIP", "in/.git/x.ZIP", "in/deep/.x/y/z.ZIP", "in/lost+found/a.ZIP"):
         put(name)
     finder = Finder(excluded=["*.RT7", "in/deep/er", "read.*"])
     assert sorted(county.stem for county in finder.all(["in"])) == [stem for stem in ALL if not stem.startswith("in/deep")]

@@ -248,9 +248,10 @@ def names_among(listed: Iterable[Entry]) -> dict[str, Names]:
 
 
 def is_left_out(entry: Entry) -> bool:
-    """Returns whether an entry of a folder is a leftover of a Mac, or a hidden folder."""
-    hidden = (".", "__MACOSX") if entry.is_folder else ("._", ".DS_Store")
-    return entry.name.startswith(hidden)
+    """Returns whether an entry of a folder is a leftover of a Mac, a hidden folder, or one for what a repair of the disk finds."""
+    if entry.is_folder:
+        return entry.name.startswith(".") or entry.name in ("__MACOSX", "lost+found")
+    return entry.name.startswith(("._", ".DS_Store"))
 
 
 def ending_of(name: str) -> str:
