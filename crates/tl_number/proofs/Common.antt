@@ -157,7 +157,7 @@ pub use Rattle.tl_number.specs.ChoiceSearch.{IsArrangedChoice, LeavesChoices, ch
 pub use Rattle.tl_number.specs.CountyParts.{ArePartKeys, HoldsPart, feats_along, part_of, part_with, places_among}
 pub use Rattle.tl_number.specs.KeptLandmarks.{LandmarkName, first_name, has_name, keeps_landmark, kept_landmarks, kept_lands, landmark_name_cmp, link_keys_at, moves_polygons, name_if_linked, names_linked, opened_polygons}
 pub use Rattle.tl_number.specs.KeptPlaces.{AreSearched, IsSearchAt}
-pub use Rattle.tl_number.specs.KeysAlong.{first_open, is_open, keys_along, newly_seen, open_among, open_keys, place_in}
+pub use Rattle.tl_number.specs.KeysAlong.{covers, first_open, is_open, keys_along, newly_seen, open_among, open_keys, place_in}
 pub use Rattle.tl_number.specs.NamesAlong.{chain_feats, feats_in_order}
 pub use Rattle.tl_number.specs.NewKeys.{earlier_keys, fixed_keys, has_new, has_new_at}
 pub use Rattle.tl_number.specs.SmallCounty.{is_kept, kept_tlids, keys_at_open, wanted_feats, wanted_nodes, wanted_polygons}

@@ -1,4 +1,4 @@
--- Landmarks whose LANDs and links can differ between the choices that are left: if places that are still open can move polygons, those
+-- Landmarks whose LANDs and links can differ between the remaining choices: if places still open can move polygons, those
 -- with the CFCC and the LANAME of one with a polygon that first appears at such a place.
 use Rattle.std.specs.Prelude.{Bool, List, Option, [], cond, filter, flat_map, length, map, option_map, option_to_list, slice_get, ℕ, ◌&&◌}
 use Rattle.std.specs.List.{list_any, range_with_len}
@@ -16,11 +16,11 @@ use Rattle.county_chart.specs.ShapeOrder.{OrderOfShapes}
 use Rattle.tl_number.specs.KeysAlong.{first_open, keys_along}
 use Rattle.tl_number.specs.MovedKeys.{moves_keys}
 
--- whether places that are still open can move polygons
+-- whether places still open can move polygons
 abbrev pub moves_polygons : County → OrderOfShapes → Bool
 moves_polygons county shapes = list_any (moves_keys key_cmp (keys_along chain_polygons county shapes.by_shape)) shapes.places
 
--- the polygons that first appear at a place that is still open
+-- the polygons that first appear at a place still open
 abbrev pub opened_polygons : County → OrderOfShapes → List PolygonKey
 opened_polygons county shapes = first_open key_cmp shapes.places (keys_along chain_polygons county shapes.by_shape)
 

@@ -24,7 +24,7 @@ pub record IsSearchAt {K : Type 0} (cmp : K → K → Ordering) (places : List O
   pub same : AreSameKeys cmp keys wanted
   pub before : earlier ≡ earlier_keys cmp places wanted along place
 
--- the searches for nodes, polygons and names whose numbers can differ between the choices that are left
+-- the searches for nodes, polygons and names whose numbers can differ between the remaining choices
 pub record AreSearched (county : County) (shapes : OrderOfShapes) (place : ℕ) (searches : Searches) : Type 0 where
   pub nodes : IsSearchAt nat_cmp shapes.places (wanted_nodes county shapes) (keys_along chain_nodes county shapes.by_shape) place
       searches.nodes.wanted searches.nodes.earlier

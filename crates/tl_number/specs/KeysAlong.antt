@@ -11,8 +11,12 @@ use Rattle.county_chart.specs.declared.open_place.OpenPlace.{OpenPlace}
 use Rattle.canonical_form.specs.DirectedChains.{parts_along}
 
 -- whether an open place moves a chain to or from the place
+abbrev pub covers : OpenPlace → ℕ → Bool
+covers at place = nat_le at.place place && nat_lt place (at.place + at.alike)
+
+-- whether one of them does
 abbrev pub is_open : List OpenPlace → ℕ → Bool
-is_open places place = list_any (λ at. nat_le at.place place && nat_lt place (at.place + at.alike)) places
+is_open places place = list_any (λ at. covers at place) places
 
 -- the open ones of the first places
 abbrev pub open_among : List OpenPlace → ℕ → List ℕ

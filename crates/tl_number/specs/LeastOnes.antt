@@ -6,11 +6,10 @@ use Rattle.std.specs.declared.cmp.Ordering.{Ordering}
 use Rattle.std.specs.declared.cmp.Ordering.TheVariants.{Equal}
 use Rattle.tl_layout.specs.declared.record_type.Record.{Record}
 use Rattle.ordered_lists.specs.Orders.{contains}
-use Rattle.county_chart.specs.Choices.{choices}
 use Rattle.county_chart.specs.County.{County}
 use Rattle.county_chart.specs.ShapeOrder.{OrderOfShapes}
 use Rattle.canonical_form.specs.Canonical.{IsNotAfter}
-use Rattle.canonical_form.specs.LeastNumber.{IsLeastBelow, choice_list}
+use Rattle.canonical_form.specs.LeastNumber.{choice_list}
 use Rattle.record_groups.specs.RecordOrder.{records_cmp}
 use Rattle.record_groups.specs.TypeOneOrder.{ones_cmp, ones_of}
 use Rattle.tl_number.specs.ChoiceSearch.{IsChosen, chosen_county}
@@ -58,7 +57,3 @@ IsLeastAmong county numbers n = AllByRecursion (λ m. IsNotAfter (choice_list co
 pub record IsLeastOf (county : County) (numbers : List ℕ) (n : ℕ) : Type 0 where
   pub there : contains nat_cmp n numbers ≡ true
   pub least : IsLeastAmong county numbers n
-
--- the least choice of a list is the least of all
-abbrev pub HaveLeast : County → List ℕ → Type 0
-HaveLeast county numbers = (n : ℕ) → IsLeastAmong county numbers n → IsLeastBelow county (choices county) n

@@ -1,5 +1,5 @@
--- The small county, which decides how choices compare: the chains at open places, the first fixed chain of each key that those at places
--- that are still open or the kept landmarks have, and these landmarks.
+-- The small county, which decides how choices compare: the chains at open places, the kept landmarks, and the first fixed chain of each key
+-- that these landmarks or the chains at places still open have.
 use Rattle.std.specs.Prelude.{Bool, List, filter, flat_map, length, map, ℕ, ◌++◌, ◌||◌}
 use Rattle.std.specs.List.{range_with_len}
 use Rattle.std.specs.Ordering.{nat_cmp}
@@ -18,13 +18,12 @@ use Rattle.tl_number.specs.NewKeys.{has_new_at}
 use Rattle.tl_number.specs.KeptLandmarks.{kept_landmarks, kept_lands, link_keys_at}
 use Rattle.tl_number.specs.NamesAlong.{chain_feats}
 
--- the keys of the chains at places that are still open
+-- the keys of the chains at places still open
 abbrev pub keys_at_open : {K : Type 0} → (Chain → List K) → County → OrderOfShapes → List K
 keys_at_open keys county shapes =
     grouped (map (group_at (keys_along keys county shapes.by_shape)) (open_among shapes.places (length shapes.by_shape)))
 
--- The wanted keys, whose numbers can differ between the choices that are left: of chains at places that are still open, and of kept
--- landmarks.
+-- The wanted keys, whose numbers can differ between the remaining choices: of chains at places still open, and of kept landmarks.
 abbrev pub wanted_nodes : County → OrderOfShapes → List ℕ
 wanted_nodes county shapes = keys_at_open chain_nodes county shapes
 
@@ -35,7 +34,7 @@ abbrev pub wanted_polygons : County → OrderOfShapes → List PolygonKey
 wanted_polygons county shapes =
     keys_at_open chain_polygons county shapes ++ flat_map (link_keys_at county) (kept_landmarks county shapes)
 
--- whether a place is open in the order of shapes, or has a new key in an arrangement with places that are still open
+-- whether a place is open in the order of shapes, or has a new key in an arrangement with places still open
 abbrev pub is_kept : County → OrderOfShapes → OrderOfShapes → ℕ → Bool
 is_kept county shapes still place = is_open shapes.places place
     || (has_new_at nat_cmp still.places (wanted_nodes county still) (keys_along chain_nodes county still.by_shape) place

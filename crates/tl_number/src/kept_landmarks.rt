@@ -1,7 +1,7 @@
 //! The kept landmarks: those whose LANDs and links can differ between choices.
 //!
 //! Landmarks are ordered by their contents first. So a choice moves only landmarks that have the same contents as one with a polygon that
-//! first appears at a place that is still open. Landmarks are kept by CFCC and LANAME, which all landmarks with the same contents share.
+//! first appears at a place still open. Landmarks are kept by CFCC and LANAME, which all landmarks with the same contents share.
 
 ghost use Rattle.std.specs.List.{list_any, range_with_len};
 ghost use Rattle.std.specs.Prelude.{IfOk, OnOk, filter, length, option_map, option_to_list, ◌++◌, ◌<◌, ◌^◌, ◌≡◌};
@@ -157,7 +157,7 @@ fn places_named<C: Chart>(
     Ok(places)
 }
 
-/// Returns the polygons that first appear at a place that is still open.
+/// Returns the polygons that first appear at a place still open.
 fn opened<C: Chart>(
     alloc: Global,
     chart: &C,
@@ -170,7 +170,7 @@ fn opened<C: Chart>(
     Ok(polygons)
 }
 
-/// Returns the places of the landmarks with the name of one that has a polygon which first appears at a place that is still open.
+/// Returns the places of the landmarks with the name of one that has a polygon which first appears at a place still open.
 fn places_opened<C: Chart>(
     alloc: Global,
     chart: &C,

@@ -1,9 +1,8 @@
 //! The kept chains: comparing only them compares the choices of a county.
 //!
-//! The choices that are left can differ at places that are still open, and in the numbers of nodes, polygons and names that the chains
-//! there have. These keys are wanted. The chains at all open places are kept, and for each wanted key the first chain that has it where all
-//! these choices have the same one. The polygons of kept landmarks are wanted too. Of the names of a kept chain only the wanted ones are
-//! kept.
+//! The remaining choices can differ at places still open, and in the numbers of nodes, polygons and names that the chains there have. These
+//! keys are wanted, and so are the polygons of kept landmarks. The chains at all open places are kept, and for each wanted key the first
+//! chain that has it where all remaining choices have the same chain. Of the names of a kept chain only the wanted ones are kept.
 
 ghost use Rattle.std.specs.Prelude.{IfOk, OnOk, flat_map, length, ◌++◌, ◌+◌, ◌<◌, ◌||◌, ◌≡◌};
 ghost use Rattle.canonical_form.specs.MovedChains.{AreWithin};
@@ -99,7 +98,7 @@ pub(crate) struct Searches {
     pub(crate) names: KeySearch<u32>,
 }
 
-/// Searches for the keys whose numbers can differ between choices that are left, at the first place.
+/// Searches for the keys whose numbers can differ between the remaining choices, at the first place.
 fn searches_for<C: Chart>(
     alloc: Global,
     chart: &C,
@@ -210,7 +209,7 @@ fn kept_chains<C: Chart>(
     both(names_of(searches), tlids)
 }
 
-/// Returns the kept chains and landmarks of a county, given the order of its chains by their shapes and the places that are still open.
+/// Returns the kept chains and landmarks of a county, given the order of its chains by their shapes and the places still open.
 ///
 /// # Errors
 ///

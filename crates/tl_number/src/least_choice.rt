@@ -1,7 +1,7 @@
 //! The choice with the least text.
 //!
-//! Two choices with the least records of type 1 compare as they do in the small county. It has the chains that choices can move, the first
-//! other ones with the nodes, polygons and names of those at places that are still open, and the landmarks that can differ. So the least
+//! Two choices with the least records of type 1 compare as they do in the small county. It has the chains that choices can move, the
+//! landmarks that can differ, and the first other chain with each node, polygon or name of the chains at places still open. So the least
 //! choice is looked for there.
 
 ghost use Rattle.std.specs.Prelude.{IfOk, length, ◌<◌, ◌≤◌};
@@ -39,8 +39,8 @@ fn least_in_part<C: Chart>(alloc: Global, part: &C, numbers: &[u64]) -> Result<u
     least_among_choices(alloc, part, &order, numbers)
 }
 
-/// Returns the number of the choice with the least text, which is among `numbers`. It is searched in a part of the county, made for the
-/// places that are still open.
+/// Returns the number of the choice with the least text, which is among `numbers`. It searches a part of the county, made for the places
+/// still open.
 fn least_number<C: Chart>(
     alloc: Global,
     chart: &C,

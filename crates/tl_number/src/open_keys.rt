@@ -4,7 +4,7 @@ ghost use Rattle.std.specs.Prelude.{IfOk, OnOk, [], cond, ◌++◌, ◌∷◌, �
 ghost use Rattle.ordered_lists.specs.Orders.{contains};
 ghost use Rattle.record_groups.specs.Groups.{grouped};
 ghost use Rattle.canonical_form.specs.Growth.{first_seen, first_seen_after};
-ghost use Rattle.tl_number.specs.KeysAlong.{first_open, is_open, newly_seen};
+ghost use Rattle.tl_number.specs.KeysAlong.{covers, first_open, is_open, newly_seen};
 
 use crate::key_groups::KeyGroups;
 use arranged_county::{Interner, NumericKey, if_done, marks_for};
@@ -15,7 +15,7 @@ use tl_profile::OpenPlace;
 
 /// Checks whether an open place moves a chain to or from a place.
 fn covers(at: OpenPlace, place: usize) -> bool
-    ensures { result ≡ is_open (at ∷ []) place }
+    ensures { result ≡ covers at place }
 {
     let first = at.place as usize;
     first <= place && place < first + at.alike as usize

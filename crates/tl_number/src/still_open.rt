@@ -1,7 +1,7 @@
-//! The places that are still open after records of type 1 have been compared.
+//! The places still open after records of type 1 have been compared.
 //!
-//! For most shapes these records decide the order and the directions of the chains, which then stay there. The choices that are left
-//! differ only at the places of the other shapes.
+//! For most shapes these records decide the order and the directions of the chains, which then stay there. The remaining choices differ
+//! only at the places of the other shapes.
 
 ghost use Rattle.std.specs.Prelude.{IfOk, OnOk, [], length, ◌≡◌};
 ghost use Rattle.canonical_form.specs.MovedChains.{AreWithin};
@@ -14,7 +14,7 @@ use std::alloc::{AllocError, Global};
 use std::marker::Model;
 use tl_profile::ShapeOrder;
 
-/// An arrangement of a county's chains, and the places at which the choices that are left differ from it.
+/// The base arrangement of a county's chains, and the places at which the remaining choices differ from it.
 #[derive(Drop)]
 pub(crate) struct StillOpen {
     chains: Vec<DirectedChain>,
@@ -31,7 +31,7 @@ impl Model for StillOpen {
 }
 
 impl StillOpen {
-    /// Makes the order of shapes, with no place that is still open.
+    /// Makes the order of shapes, with no place still open.
     pub(crate) fn new(alloc: Global, shape_order: &ShapeOrder) -> Result<StillOpen, AllocError>
         ensures chains { IfOk result (λ still. still.by_shape ≡ shape_order.now.by_shape) }
         ensures places { IfOk result (λ still. still.places ≡ []) }
@@ -43,14 +43,14 @@ impl StillOpen {
         })
     }
 
-    /// Returns the arrangement.
+    /// Returns the base arrangement.
     pub(crate) fn by_shape(&self) -> &[DirectedChain]
         ensures { result.now ≡ self.now.by_shape }
     {
         &self.chains
     }
 
-    /// Returns the places that are still open.
+    /// Returns the places still open.
     pub(crate) fn open_places(&self) -> &[OpenPlace]
         ensures { result.now ≡ self.now.places }
     {

@@ -60,7 +60,7 @@ stood-digits turn g w x later i d q below_g below_w =
     λ j. (insert later (last j) (turned_by turn (next j) x), rest j)
 
 -- there are one or two digits
-some_digit : (b : Bool) → 0 < cond b 2 1
+pub some_digit : (b : Bool) → 0 < cond b 2 1
 some_digit true = omega arith
 some_digit false = omega arith
 

@@ -12,6 +12,7 @@ use Rattle.county_chart.specs.Choices.{is_settled, open_place_at, open_places, r
 use Rattle.county_chart.specs.declared.open_place.OpenPlace.{OpenPlace}
 use Rattle.canonical_form.specs.MovedChains.{AreWithin}
 use Rattle.canonical_form.specs.NumberedChoices.{moved}
+use Rattle.canonical_form.proofs.Choices.Choosing.{some_digit}
 use Rattle.tl_number.specs.ShapeDigits.{ArePlacesApart, ways_of}
 use Rattle.tl_number.proofs.Choices.MovedParts.{same_before, same_behind}
 
@@ -37,14 +38,15 @@ product zero b h l = absurd (omega (arith, h))
 product (suc a) zero h l = absurd (omega (arith, l))
 product (suc a) (suc b) h l = omega arith
 
+-- a product with a factor of at least one is no less than the other factor
+pub grown : (a b : ℕ) → 0 < a → b ≤ a * b
+grown zero b h = absurd (omega (arith, h))
+grown (suc a) b h = grind arith
+
 pub some_ways : (count : ℕ) (places : List OpenPlace) → AreWithin count places → 0 < ways_of places
 some_ways count [] within = omega arith
 some_ways count (at ∷ places) within =
-    product (at.alike * ways_at at) (ways_of places) (product at.alike (ways_at at) within.0.some (either at.either_way)) (some_ways count places within.1)
-  where
-    either : (b : Bool) → 0 < cond b 2 1
-    either true = omega arith
-    either false = omega arith
+    product (at.alike * ways_at at) (ways_of places) (product at.alike (ways_at at) within.0.some (some_digit at.either_way)) (some_ways count places within.1)
 
 pub ways_running : {K : Type 0} (cmp : K → K → Ordering) (either : K → Bool) (place : ℕ) (keys : List K)
     → ways_of (open_places cmp either place keys) ≡ running cmp either keys
@@ -89,16 +91,8 @@ fewer_ways count [] within (suc first) = omega arith
 fewer_ways count (at ∷ places) within zero = omega arith
 fewer_ways count (at ∷ places) within (suc first) =
     let rest : ways_of (drop first places) ≤ ways_of places = fewer_ways count places within.1 first in
-    let own : 0 < at.alike * ways_at at = product at.alike (ways_at at) within.0.some (either at.either_way) in
+    let own : 0 < at.alike * ways_at at = product at.alike (ways_at at) within.0.some (some_digit at.either_way) in
     omega (arith, rest, grown (at.alike * ways_at at) (ways_of places) own)
-  where
-    either : (b : Bool) → 0 < cond b 2 1
-    either true = omega arith
-    either false = omega arith
-
-    grown : (a b : ℕ) → 0 < a → b ≤ a * b
-    grown zero b h = absurd (omega (arith, h))
-    grown (suc a) b h = grind arith
 
 -- ---- values by digits
 

@@ -1,6 +1,6 @@
 -- The least of the values of numbers below a bound, number by number, and digit by digit.
 use Rattle.std.specs.List.{AllByRecursion}
-use Rattle.std.proofs.Common.{Bool, Equal, Greater, Less, List, Ordering, [], ap, append-nil, arith, below_more, cond, false, get_or, inl, inr, is_eq, is_gt, length, length-append, map, nat_cmp, refl, subst, sym, true, ℕ, ◌%◌, ◌*◌, ◌++◌, ◌+◌, ◌/◌, ◌<◌, ◌∙◌, ◌∷◌, ◌≡◌, ◌≤◌}
+use Rattle.std.proofs.Common.{Bool, Equal, Greater, Less, List, Ordering, [], ap, append-nil, arith, below_more, cond, false, get_or, inl, inr, is_eq, is_gt, length, length-append, map, mul_comm, nat_cmp, refl, subst, sym, true, ℕ, ◌%◌, ◌*◌, ◌++◌, ◌+◌, ◌/◌, ◌<◌, ◌∙◌, ◌∷◌, ◌≡◌, ◌≤◌}
 use Rattle.std.specs.Cmp.{IsTotalOrder}
 use Rattle.std.proofs.lemmas.Bool.{false≢true, lt-ltb, ltb-true}
 use Rattle.std.specs.Ordering.{ordering_reverse}
@@ -92,10 +92,7 @@ module _ (ways : ℕ) where
   few_combined count bound few digits numbers high low =
       all_weaker (λ digit. digit < count) (λ digit. AllByRecursion (λ number. digit * ways + number < bound) numbers)
       (λ digit h. all_weaker (λ number. number < ways) (λ number. digit * ways + number < bound)
-      (λ number l. omega (arith, mul-add-lt digit ways number count h l, turned ways count, few)) numbers low) digits high
-    where
-      turned : (a b : ℕ) → a * b ≡ b * a
-      turned a b = grind arith
+      (λ number l. omega (arith, mul-add-lt digit ways number count h l, mul_comm ways count, few)) numbers low) digits high
 
 -- the first of some numbers
 pub first_contained : (ns : List ℕ) → 0 < length ns → contains nat_cmp (get_or ns 0 0) ns ≡ true
@@ -215,11 +212,8 @@ module _ {K : Type 0} {cmp : K → K → Ordering} (o : IsTotalOrder cmp) where
           let some : 0 < ways = omega (arith, low) in
           let top : m / ways < count = div_below m ways count some l in
           let rest : m % ways < ways = mod_below m ways some in
-          let whole : (m / ways) * ways + m % ways ≡ m = omega (arith, div-add-mod m ways, turned (m / ways) ways) in
+          let whole : (m / ways) * ways + m % ways ≡ m = omega (arith, div-add-mod m ways, mul_comm ways (m / ways)) in
           subst P whole (each (m / ways) (m % ways) top rest)
-        where
-          turned : (a b : ℕ) → b * a ≡ a * b
-          turned a b = grind arith
 
       bounded : (digit n : ℕ) → digit < count → n < ways → digit * ways + n < count * ways
       bounded digit n l k =

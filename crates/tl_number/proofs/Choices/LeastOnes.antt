@@ -1,7 +1,7 @@
 -- Records of type 1 by the digits of choices, and the least choice among those with the least records of type 1.
-use Rattle.std.specs.Prelude.{Bool, List, drop, false, length, nat_lt, slice_get, suc, take, true, zero, ℕ, ◌*◌, ◌++◌, ◌+◌, ◌-◌, ◌<◌, ◌≡◌, ◌≤◌}
+use Rattle.std.specs.Prelude.{Bool, List, drop, false, length, nat_lt, slice_get, take, true, ℕ, ◌*◌, ◌++◌, ◌+◌, ◌-◌, ◌<◌, ◌≡◌, ◌≤◌}
 use Rattle.std.specs.Ordering.{is_gt}
-use Rattle.std.proofs.Common.{Some, ap, arith, get_or, refl, sym, ◌∙◌}
+use Rattle.std.proofs.Common.{Some, ap, arith, get_or, mul_comm, refl, sym, ◌∙◌}
 use Rattle.std.proofs.lemmas.Bool.{false≢true, ltb-false, ltb-true}
 use Rattle.std.proofs.lemmas.Option.{slice_get-get_or, slice_get_past}
 use Rattle.tl_shape.specs.PointOrder.{points_cmp}
@@ -12,17 +12,17 @@ use Rattle.county_chart.specs.declared.directed_chain.DirectedChain.{DirectedCha
 use Rattle.county_chart.specs.declared.open_place.OpenPlace.{OpenPlace}
 use Rattle.county_chart.proofs.Profile.SameChoices.{choices_stated}
 use Rattle.canonical_form.specs.Arrangement.{arranged}
-use Rattle.canonical_form.specs.LeastNumber.{choice_list}
+use Rattle.canonical_form.specs.LeastNumber.{IsLeastBelow, choice_list}
 use Rattle.canonical_form.specs.MovedChains.{other_way}
 use Rattle.record_groups.specs.RecordOrder.{records_cmp, spelling_cmp}
 use Rattle.record_groups.specs.TypeOneOrder.{one_at, ones_cmp, ones_of}
 use Rattle.record_groups.proofs.Texts.GroupOrders.{records_total}
 use Rattle.record_groups.proofs.Texts.TypeOnes.{length-ones_arranged_by, ones_arranged_by, same_one}
 use Rattle.tl_layout.specs.RecordText.{text_of}
-use Rattle.tl_number.specs.LeastOnes.{HaveLeast, HaveLeastOnes, HaveSameOnes, IsDigitApart, ones_in}
+use Rattle.tl_number.specs.LeastOnes.{HaveLeastOnes, HaveSameOnes, IsDigitApart, IsLeastAmong, ones_in}
 use Rattle.tl_number.specs.ShapeDigits.{ArePlacesApart, ways_of}
 use Rattle.tl_number.proofs.Choices.ChoiceSteps.{ones_decide}
-use Rattle.tl_number.proofs.Choices.DigitsApart.{digits_apart, fewer_ways, some_ways, ways_running, ways_taken}
+use Rattle.tl_number.proofs.Choices.DigitsApart.{digits_apart, fewer_ways, grown, some_ways, ways_running, ways_taken}
 use Rattle.tl_number.proofs.Choices.LeastBelow.{least_leads, least_tie}
 use Rattle.tl_number.proofs.Ties.ComparedChoices.{ComparedChoices, OrderedCounty, all_choices, choice, count_in, directed_in, stated, whole_in}
 
@@ -55,12 +55,9 @@ module _ (c : OrderedCounty) where
         arith,
         ways_taken c.shapes.places first end l,
         few_ways first,
-        grown (ways_of (take (end - first) (drop first c.shapes.places))) (ways_of (drop end c.shapes.places)) behind,
+        grown (ways_of (drop end c.shapes.places)) (ways_of (take (end - first) (drop first c.shapes.places))) behind,
+        mul_comm (ways_of (drop end c.shapes.places)) (ways_of (take (end - first) (drop first c.shapes.places))),
       )
-    where
-      grown : (a b : ℕ) → 0 < b → a ≤ a * b
-      grown a zero h = absurd (omega (arith, h))
-      grown a (suc b) h = grind arith
 
   abbrev all : ComparedChoices
   all = all_choices c
@@ -109,7 +106,8 @@ module _ (c : OrderedCounty) where
   least_same bound numbers are = least_tie records_total (ones_in c.county) bound numbers are
 
   -- The least of the choices with the least records of type 1 is the least of all.
-  pub least_of_these : (numbers : List ℕ) → HaveLeastOnes c.county (choices c.county) numbers → HaveLeast c.county numbers
+  pub least_of_these : (numbers : List ℕ) → HaveLeastOnes c.county (choices c.county) numbers
+      → (n : ℕ) → IsLeastAmong c.county numbers n → IsLeastBelow c.county (choices c.county) n
   least_of_these numbers are =
       least_leads records_total (ones_in c.county) (choices c.county) numbers are bytes_keys.total (λ n. text_of (choice_list c.county n))
       (λ m k greater. ap is_gt (ones_decide c.county c.is c.within c.known.sides m k

@@ -1,5 +1,5 @@
 -- Moves at open places in two parts: the later places take the last digits of a number, and the earlier places the others.
-use Rattle.std.proofs.Common.{Bool, List, None, Some, [], ap, append_assoc, arith, cond, drop, false, length, length-drop, length-take, map, refl, slice_get, subst, suc, sym, take, take-append-drop, true, zero, ℕ, ◌%◌, ◌*◌, ◌++◌, ◌+◌, ◌-◌, ◌/◌, ◌<◌, ◌∙◌, ◌∷◌, ◌≡◌, ◌≤◌}
+use Rattle.std.proofs.Common.{List, None, Some, [], ap, append_assoc, arith, drop, length, length-drop, length-take, map, mul_comm, refl, slice_get, subst, suc, sym, take, take-append-drop, zero, ℕ, ◌%◌, ◌*◌, ◌++◌, ◌+◌, ◌-◌, ◌/◌, ◌<◌, ◌∙◌, ◌∷◌, ◌≡◌, ◌≤◌}
 use Rattle.std.specs.List.{AllByRecursion}
 use Rattle.std.proofs.lemmas.Nat.{div_below, mod_below}
 use Rattle.std.proofs.Math.Nat.{div-add-mod}
@@ -9,7 +9,7 @@ use Rattle.county_chart.specs.Choices.{ways_at}
 use Rattle.county_chart.specs.declared.open_place.OpenPlace.{OpenPlace}
 use Rattle.canonical_form.specs.MovedChains.{AreWithin, IsApart}
 use Rattle.canonical_form.specs.NumberedChoices.{first_stood, moved, moved_at, stood, turned_by}
-use Rattle.canonical_form.proofs.Choices.Choosing.{stood-digits}
+use Rattle.canonical_form.proofs.Choices.Choosing.{some_digit, stood-digits}
 use Rattle.canonical_form.proofs.Choices.FixedPlaces.{moved_apart, moved_count}
 use Rattle.tl_number.specs.ShapeDigits.{ways_of}
 
@@ -56,11 +56,7 @@ module _ {X : Type 0} (turn : X → X) where
   first_zero at some (x ∷ xs) =
       let none : (0 * ways_at at + 0) * at.alike + 0 ≡ 0 = omega arith in
       ap (λ n. stood turn at.alike (ways_at at) x (xs, n)) (sym none)
-      ∙ stood-digits turn at.alike (ways_at at) x xs 0 0 0 some (either at.either_way)
-    where
-      either : (b : Bool) → 0 < cond b 2 1
-      either true = omega arith
-      either false = omega arith
+      ∙ stood-digits turn at.alike (ways_at at) x xs 0 0 0 some (some_digit at.either_way)
 
   pub moved-zero : (places : List OpenPlace) (xs : List X) → AreWithin (length xs) places → moved turn places (xs, 0) ≡ (xs, 0)
   moved-zero [] xs within = refl
@@ -87,8 +83,8 @@ module _ {X : Type 0} (turn : X → X) where
       let i : ℕ = n % g in
       let d : ℕ = n / g in
       let low : i < g = mod_below n g some in
-      let high : d < w = div_below n g w some (omega (arith, l, turned g w)) in
-      let parts : d * g + i ≡ n = omega (arith, div-add-mod n g, turned d g) in
+      let high : d < w = div_below n g w some (omega (arith, l, mul_comm g w)) in
+      let parts : d * g + i ≡ n = omega (arith, div-add-mod n g, mul_comm d g) in
       let whole : (digit * w + d) * g + i ≡ digit * (g * w) + n = omega (arith, spread digit w d g, parts) in
       let plain : (0 * w + d) * g + i ≡ n = omega (arith, spread 0 w d g, parts) in
       let all = stood-digits turn g w x xs i d digit low high in
@@ -96,9 +92,6 @@ module _ {X : Type 0} (turn : X → X) where
       ap (λ m. stood turn g w x (xs, m)) (sym whole) ∙ all
       ∙ ap (λ ys. (ys, digit)) (sym (ap (λ r. r.0) one) ∙ ap (λ m. (stood turn g w x (xs, m)).0) plain)
     where
-      turned : (a b : ℕ) → a * b ≡ b * a
-      turned a b = grind arith
-
       spread : (q w d g : ℕ) → (q * w + d) * g ≡ q * (g * w) + d * g
       spread q w d g = grind arith
 
@@ -117,7 +110,7 @@ module _ {X : Type 0} (turn : X → X) where
       let s : ℕ = n % later in
       let low : s < later = mod_below n later some in
       let high : q < own = div_below n later own some l in
-      let parts : q * later + s ≡ n = omega (arith, div-add-mod n later, turned q later) in
+      let parts : q * later + s ≡ n = omega (arith, div-add-mod n later, mul_comm later q) in
       let whole : (digit * own + q) * later + s ≡ digit * (own * later) + n = omega (arith, spread digit own q later, parts) in
       let rest : List X = (moved turn places (xs, s)).0 in
       let all : moved turn places (xs, digit * (own * later) + n) ≡ (rest, digit * own + q) =
@@ -132,9 +125,6 @@ module _ {X : Type 0} (turn : X → X) where
       ))
       ∙ ap (λ ys. (ys, digit)) (sym (ap (λ r. (moved_at turn at r).0) one))
     where
-      turned : (a b : ℕ) → b * a ≡ a * b
-      turned a b = grind arith
-
       spread : (d o q w : ℕ) → (d * o + q) * w ≡ d * (o * w) + q * w
       spread d o q w = grind arith
 

@@ -1,7 +1,6 @@
--- The places that are still open, shape by shape.
-use Rattle.std.proofs.Common.{Bool, List, [], ap, arith, cond, false, get_or, length, map, refl, subst, sym, true, ℕ, ◌&&◌, ◌*◌, ◌++◌, ◌+◌, ◌<◌, ◌==◌, ◌||◌, ◌∙◌, ◌∷◌, ◌≡◌, ◌≤◌}
+-- The places still open, shape by shape.
+use Rattle.std.proofs.Common.{Bool, List, [], ap, arith, cond, false, get_or, length, map, mul_comm, refl, subst, sym, true, ℕ, ◌*◌, ◌++◌, ◌+◌, ◌<◌, ◌==◌, ◌||◌, ◌∙◌, ◌∷◌, ◌≡◌, ◌≤◌}
 use Rattle.std.specs.List.{AllByRecursion}
-use Rattle.std.specs.Prelude.{nat_le, nat_lt}
 use Rattle.std.proofs.lemmas.Bool.{eqb-true, or_right}
 use Rattle.std.proofs.lemmas.Nat.{mul-add-lt}
 use Rattle.ordered_lists.proofs.Lists.Elements.{all_append, all_joined, all_left, all_map, all_right, all_weaker}
@@ -11,30 +10,26 @@ use Rattle.county_chart.specs.declared.open_place.OpenPlace.{OpenPlace}
 use Rattle.canonical_form.specs.MovedChains.{AreWithin, other_way}
 use Rattle.canonical_form.specs.NumberedChoices.{moved}
 use Rattle.canonical_form.proofs.Choices.FixedPlaces.{moved_count}
-use Rattle.tl_number.specs.KeysAlong.{is_open}
+use Rattle.tl_number.specs.KeysAlong.{covers, is_open}
 use Rattle.tl_number.specs.ShapeDigits.{combined, ways_of}
 use Rattle.tl_number.specs.StillOpen.{IsChoiceLeft, LeavesOpen, settled, still_open}
 use Rattle.tl_number.proofs.Choices.DigitsApart.{some_ways, ways-append}
 use Rattle.tl_number.proofs.Choices.MovedParts.{moved-append, moved-digits, moved-either, moved-zero}
 
--- The places that are still open are among these.
+-- The places still open are among these.
 pub record AreAmong (count : ℕ) (places still : List OpenPlace) : Type 0 where
   pub within : AreWithin count still
   pub begins : (edge : ℕ) → AllByRecursion (λ at. edge ≤ at.place) places → AllByRecursion (λ at. edge ≤ at.place) still
   pub opened : (place : ℕ) → is_open still place ≡ true → is_open places place ≡ true
 
--- whether an open place covers a place
-abbrev covers : ℕ → OpenPlace → Bool
-covers place at = nat_le at.place place && nat_lt place (at.place + at.alike)
-
 open_behind : (group back : List OpenPlace) (place : ℕ) → is_open back place ≡ true → is_open (group ++ back) place ≡ true
 open_behind [] back place e = e
-open_behind (at ∷ group) back place e = or_right (covers place at) (is_open (group ++ back) place) (open_behind group back place e)
+open_behind (at ∷ group) back place e = or_right (covers at place) (is_open (group ++ back) place) (open_behind group back place e)
 
 open_both : (group still back : List OpenPlace) (place : ℕ) → (is_open still place ≡ true → is_open back place ≡ true)
     → is_open (group ++ still) place ≡ true → is_open (group ++ back) place ≡ true
 open_both [] still back place h e = h e
-open_both (at ∷ group) still back place h e = go (covers place at) e (open_both group still back place h)
+open_both (at ∷ group) still back place h e = go (covers at place) e (open_both group still back place h)
   where
     go : (b : Bool) → (b || is_open (group ++ still) place) ≡ true → (is_open (group ++ still) place ≡ true → is_open (group ++ back) place ≡ true)
         → (b || is_open (group ++ back) place) ≡ true
@@ -97,21 +92,10 @@ module _ (by_shape : List DirectedChain) where
     abbrev put : ℕ → ℕ → ℕ
     put digit n = digit * ways_of back + n
 
-    few : (digit n : ℕ) → digit < ways_of group → n < ways_of back → put digit n < ways_of (group ++ back)
-    few digit n h l = omega (arith, mul-add-lt digit (ways_of back) n (ways_of group) h l, ways-append group back, turned (ways_of back) (ways_of group))
-      where
-        turned : (a b : ℕ) → a * b ≡ b * a
-        turned a b = grind arith
-
-    few_still : (digit n : ℕ) → digit < ways_of group → n < ways_of still.places → digit * ways_of still.places + n < ways_of (group ++ still.places)
-    few_still digit n h l = omega (
-      arith,
-      mul-add-lt digit (ways_of still.places) n (ways_of group) h l,
-      ways-append group still.places,
-      turned (ways_of still.places) (ways_of group),
-    ) where
-      turned : (a b : ℕ) → a * b ≡ b * a
-      turned a b = grind arith
+    -- a digit before a number that later places leave
+    few : (later : List OpenPlace) (digit n : ℕ) → digit < ways_of group → n < ways_of later → digit * ways_of later + n < ways_of (group ++ later)
+    few later digit n h l =
+        omega (arith, mul-add-lt digit (ways_of later) n (ways_of group) h l, ways-append group later, mul_comm (ways_of later) (ways_of group))
 
     -- a choice's chains, the digit's shape last
     in_turn : (digit n : ℕ) → n < ways_of back
@@ -158,7 +142,7 @@ module _ (by_shape : List DirectedChain) where
         one_open digit n h l left =
             let whole = digit * ways_of still.places + left.0 in (
               whole,
-              subst (λ places. whole < ways_of places) (sym more) (few_still digit left.0 h left.1),
+              subst (λ places. whole < ways_of places) (sym more) (few still.places digit left.0 h left.1),
               in_turn digit n l ∙ ap (λ chains. (moved other_way group (chains, digit)).0) left.2
                   ∙ sym (ap (λ r. r.0) (moved-append other_way group still.places (still.by_shape, whole)
                   ∙ ap (moved other_way group) (moved-digits other_way still.places still.by_shape within_still digit left.0 left.1)))
@@ -188,7 +172,7 @@ module _ (by_shape : List DirectedChain) where
               let same : next.places ≡ still.places = places ∙ ap (λ b. cond b still.places (group ++ still.places)) e in
               record {
                 base = put digit leaves.base;
-                below = few digit leaves.base below leaves.below;
+                below = few back digit leaves.base below leaves.below;
                 based = decided_based digit below edge inside ends begins is same;
                 choices = all_left_by (λ d. d ≡ digit)
                     (λ d n at l left. subst (λ d. IsChoiceLeft by_shape (group ++ back) next (put d n)) (sym at)
@@ -201,7 +185,7 @@ module _ (by_shape : List DirectedChain) where
               let more : next.places ≡ group ++ still.places = places ∙ ap (λ b. cond b still.places (group ++ still.places)) e in
               record {
                 base = put 0 leaves.base;
-                below = few 0 leaves.base (some_ways (length by_shape) group within) leaves.below;
+                below = few back 0 leaves.base (some_ways (length by_shape) group within) leaves.below;
                 based = open_based is more;
                 choices = all_left_by (λ d. d < ways_of group) (one_open is more) digits high low;
               }

@@ -1,4 +1,4 @@
--- The choices that records of type 1 leave: in a part of the county, made for the places that are still open, they are in the same order.
+-- The remaining choices are in the same order in a part of the county, made for the places still open.
 use Rattle.tl_number.proofs.Common.{AllByRecursion, County, Equal, List, OrderOfShapes, [], ap, choices_cmp, contains, false, is_gt, nat_cmp, numbered_arrangement, ones_cmp, other_way, subst, suc, sym, wanted_feats, zero, ℕ, ◌∙◌, ◌∷◌, ◌≡◌}
 use Rattle.tl_number.proofs.Choices.LeastBelow.{contained_all}
 use Rattle.tl_number.proofs.Choices.MovedParts.{moved-zero}
@@ -19,7 +19,7 @@ module _ (c : OrderedCounty) (numbers : List ℕ) (still : OrderOfShapes) (leave
   abbrev IsLeft : ℕ → Type 0
   IsLeft n = IsChoiceLeft c.shapes.by_shape c.shapes.places still n
 
-  -- the choice from which the others differ
+  -- the choice that is the base arrangement
   abbrev pub base_choice : ComparedChoices
   base_choice = record {
     county = c.county;
@@ -37,7 +37,7 @@ module _ (c : OrderedCounty) (numbers : List ℕ) (still : OrderOfShapes) (leave
     stand = λ i. ap (λ r. r.0) (moved-zero other_way still.places still.by_shape are.within) ∙ leaves.based;
   }
 
-  -- two choices that are left
+  -- two remaining choices
   abbrev two : (n m : ℕ) → IsLeft n → IsLeft m → ComparedChoices
   two n m p q = record base_choice { number = either n m; digits = either p.0 q.0; stand = stands }
     where

@@ -1,4 +1,4 @@
--- Choices of a county, which differ at places that are still open.
+-- The remaining choices of a county, which differ at places still open.
 use Rattle.tl_number.proofs.Common.{AgreeApart, AgreeButOpen, AllKeysContained, Among, AreSame, AreWhole, AreWithin, Arrangement, Arranges, Bool, Chain, County, DirectedChain, Fields8, HasChainsOf, IsCounty, IsTrue, IsWithinLimits, Known, LeavesChoices, List, None, Option, OrderOfShapes, PolygonKey, Renumbering, Some, agree_both, all_among, ap, arranged, arrangement_carries, arrangement_of, arrangement_of_number, arrangement_of_number_once, arrangement_of_number_there, arranges, at_places, bodies_read, chains, chains_arranged, choices_same, contains, directed_chain, false, few_chains, filter, image, image-keeps, is_open, kept_entry, key_cmp, key_keys, known_all, length, link_key, ltb-true, map, most_records, moved_apart, moved_count, numbered_arrangement, numbered_choice, numbered_from, option_map, other_way, polygon_keys, polygons_along, range_with_len, read_length, refl, renaming_of, slice_get, slice_get-map, subst, sym, times, true, whole_arrangement, ℕ, ◌∙◌, ◌≡◌}
 use Rattle.tl_number.proofs.Choices.MovedParts.{moved-zero}
 use Rattle.tl_number.proofs.Ties.Places.{closed_apart}
@@ -12,18 +12,20 @@ pub record OrderedCounty : Type 0 where
   pub is : IsCounty county
   pub within : IsWithinLimits most_records county
 
--- Choices of a county, by their numbers. They differ from one choice at places that are still open.
+-- Choices of a county, each made from the base arrangement by moves at the places still open.
 pub record ComparedChoices : Type 0 where
   pub county : County
   pub shapes : OrderOfShapes
   pub known : LeavesChoices county shapes
   pub is : IsCounty county
   pub within : IsWithinLimits most_records county
+  -- the base arrangement with the places still open, and the number of the choice that it is
   pub still : OrderOfShapes
   pub base : ℕ
   pub based : still.by_shape ≡ numbered_arrangement shapes base
   pub inside : AreWithin (length still.by_shape) still.places
   pub opened : (place : ℕ) → is_open still.places place ≡ true → is_open shapes.places place ≡ true
+  -- each choice's number, and the number of the moves that make it
   pub number : ℕ → ℕ
   pub digits : ℕ → ℕ
   pub stand : (i : ℕ) → numbered_arrangement still (digits i) ≡ numbered_arrangement shapes (number i)
@@ -50,7 +52,7 @@ choices_with c number = record {
 abbrev pub all_choices : OrderedCounty → ComparedChoices
 all_choices c = choices_with c (λ i. i)
 
--- the arrangement from which they differ
+-- the base arrangement
 module _ (c : ComparedChoices) where
   pub base_count : length c.still.by_shape ≡ length c.shapes.by_shape
   base_count = ap length c.based ∙ moved_count other_way c.shapes.places c.shapes.by_shape c.base c.known.within
@@ -94,7 +96,7 @@ module _ (c : ComparedChoices) (i : ℕ) where
   stated = arrangement_of_number c.county c.is c.shapes.by_shape c.known.order.by_shape c.shapes.places (c.known.order.places c.known.few)
       directed_in (c.number i) (c.stand i)
 
-  -- at a place that isn't open any more each choice has one directed chain
+  -- at a place no longer open each choice has the directed chain of the base arrangement
   pub fixed_there : (place : ℕ) → is_open c.still.places place ≡ false → slice_get directed_in place ≡ slice_get c.still.by_shape place
   fixed_there place fixed = moved_apart other_way c.still.places c.still.by_shape (c.digits i) c.inside place (closed_apart place c.still.places fixed)
 
@@ -133,7 +135,7 @@ agree_in c n k = record {
   apart : (i : ℕ) → AgreeApart c.shapes.places (numbered_arrangement c.shapes i) c.shapes.by_shape
   apart i = moved_apart other_way c.shapes.places c.shapes.by_shape i c.known.within
 
--- where no place is open any more, there is one chain in all these choices
+-- at a place no longer open all these choices have one chain
 pub same_at : (c : ComparedChoices) (n k place : ℕ) → is_open c.still.places place ≡ false
     → slice_get (chains_at c n) place ≡ slice_get (chains_at c k) place
 same_at c n k place fixed = both (slice_get (chains_at c n) place) (slice_get (chains_at c k) place)

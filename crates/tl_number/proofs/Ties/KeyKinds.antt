@@ -39,7 +39,7 @@ module _ (c : ComparedChoices) (i : ℕ) {K : Type 0} (keys : Chain → List K) 
   pub group_chain : (place : ℕ) (x : Chain) → slice_get (chains_at c i) place ≡ Some x → group_at along_in place ≡ keys x ++ []
   group_chain place x e = group_read place ∙ ap (λ o. unwrap_or (option_map keys_of_chain o) []) e
 
-  -- at a fixed place they are those in the arrangement from which choices differ
+  -- at a fixed place they are those in the base arrangement
   pub group_fixed : (place : ℕ) → is_open c.still.places place ≡ false
       → group_at along_in place ≡ group_at (keys_along keys c.county c.still.by_shape) place
   group_fixed place fixed = ap (λ (g : Option (List K)). unwrap_or g []) (slice_get-map keys_of (directed_in c i) place
@@ -263,7 +263,7 @@ module _ {K : Type 0} {cmp : K → K → Ordering} (kind : KeyKind cmp) (c : Com
   read_all : (n : ℕ) → tested (λ p. true) (directed_in c n) ≡ grouped (along_in c n kind.keys)
   read_all n = all_kept keys_of 0 (directed_in c n) ∙ sym (grouped_map keys_of (directed_in c n))
 
-  -- those at places that are still open
+  -- those at places still open
   read_open : tested opens by_shape ≡ keys_at_open kind.keys c.county c.still
   read_open = read_at opens by_shape ∙ sym (grouped_map (keys_there by_shape) _)
 
@@ -293,7 +293,7 @@ module _ {K : Type 0} {cmp : K → K → Ordering} (kind : KeyKind cmp) (c : Com
         (subst (λ ks. Known cmp ks k) (sym (read_at keep by_shape)) (among_known kind.order k (flat_map along (filter keep places))
         (among-pieces along there.0 k (filter keep places) (to_filter keep there.0 places place.0 (open_kept there.0 place.1)) there.2))))
 
-  -- A key that doesn't first appear at a place that is still open has one place in all choices.
+  -- A key that doesn't first appear at a place still open has one place in all choices.
   pub unopened_stays : (n m : ℕ) (k : K) → contains cmp k (first_open cmp c.still.places (keys_along kind.keys c.county by_shape)) ≡ false
       → place_in cmp (seen_in cmp kind.keys c n) k ≡ place_in cmp (seen_in cmp kind.keys c m) k
   unopened_stays n m k e =

@@ -30,7 +30,7 @@ pub grouped_filter : {X : Type 0} (test : X → Bool) (groups : List (List X)) �
 grouped_filter test [] = refl
 grouped_filter test (group ∷ groups) = ap (λ xs. filter test group ++ xs) (grouped_filter test groups) ∙ sym (filter-append test group (grouped groups))
 
--- the county with only the names that chains at places that are still open have; it has the same order of shapes
+-- the county with only the names that chains at places still open have; it has the same order of shapes
 module _ (c : ComparedChoices) where
   abbrev pub is_wanted : ℕ → Bool
   is_wanted feat = contains nat_cmp feat (wanted_feats c.county c.still)

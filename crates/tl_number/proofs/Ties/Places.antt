@@ -1,13 +1,9 @@
 -- The places that open places cover, and elements at some places of a list.
-use Rattle.tl_number.proofs.Common.{AllByRecursion, AreReadAt, Bool, IsApart, IsKeyOrder, List, None, OpenPlace, Option, Ordering, Some, [], all_filter, among-get, among_known, and_cases, and_from, ap, arith, at_places, cond, contains, contains-filter, false, filter, flat_map, inl, inr, is_open, le-leb, leb-false, length, lt-ltb, ltb-false, map, map-at_places, nat_le, nat_lt, option_map, or_left, or_parts, or_right, place_in, range_with_len, refl, same_Some, same_somes, slice_get, slice_get-map, sym, true, ℕ, ◌&&◌, ◌++◌, ◌+◌, ◌<◌, ◌∙◌, ◌∷◌, ◌≡◌, ◌≤◌, ◌⊎◌}
+use Rattle.tl_number.proofs.Common.{AllByRecursion, AreReadAt, Bool, IsApart, IsKeyOrder, List, None, OpenPlace, Option, Ordering, Some, [], all_filter, among-get, among_known, and_cases, and_from, ap, arith, at_places, cond, contains, contains-filter, covers, false, filter, flat_map, inl, inr, is_open, le-leb, leb-false, length, lt-ltb, ltb-false, map, map-at_places, nat_le, nat_lt, option_map, or_left, or_parts, or_right, place_in, range_with_len, refl, same_Some, same_somes, slice_get, slice_get-map, sym, true, ℕ, ◌++◌, ◌+◌, ◌<◌, ◌∙◌, ◌∷◌, ◌≡◌, ◌≤◌, ◌⊎◌}
 use Rattle.tl_number.proofs.Ties.Keys.{found_there}
 use Rattle.arranged_county.proofs.Landmarks.LandmarkLinks.{listed}
 use Rattle.arranged_county.proofs.Names.NameOrder.{filter_map_all}
 use Rattle.canonical_form.specs.MovedChains.{IsApart as IsApartFrom}
-
--- whether an open place covers a place
-abbrev covers : OpenPlace → ℕ → Bool
-covers at place = nat_le at.place place && nat_lt place (at.place + at.alike)
 
 -- a place that isn't open is apart from each open place
 pub closed_apart : (place : ℕ) (places : List OpenPlace) → is_open places place ≡ false → AllByRecursion (IsApartFrom place) places

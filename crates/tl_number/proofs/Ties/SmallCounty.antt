@@ -23,7 +23,7 @@ module _ (c : ComparedChoices) where
   abbrev is : IsCounty county
   is = c.is
 
-  -- the chains in the order of shapes, and in the arrangement from which choices differ
+  -- the chains in the order of shapes, and in the base arrangement
   abbrev by_shape : List DirectedChain
   by_shape = c.shapes.by_shape
 
@@ -84,7 +84,7 @@ module _ (c : ComparedChoices) where
       places_are = c.known.order.places c.known.few
           ∙ ap (open_places points_cmp is_either_way 0) (shapes_of_order county by_shape c.known.order.by_shape ∙ sym (shapes_ascending county is))
 
-  -- A choice keeps chains at the same places, and so does the arrangement from which choices differ.
+  -- A choice keeps chains at the same places, and so does the base arrangement.
   standing_by_choice : {X : Type 0} (f : ℕ × Bool → X)
       → map f (numbered_choice county c.base) ≡ map (λ directed. f (tlid_of directed, directed.turned)) standing
   standing_by_choice f = ap (map f) (sym (base_stated c)) ∙ map-map f (λ (directed : DirectedChain). (tlid_of directed, directed.turned)) standing

@@ -22,7 +22,7 @@ find_kept-requires-clause-within g c = c.requires.still.within
 pub part_tables-requires : goal.part_tables-requires
 part_tables-requires g c = c.requires.known.sides
 
--- the county with its order of shapes, and the choices that are left
+-- the county with its order of shapes, and the remaining choices
 abbrev ordered : (g : Over) (c : In_ok-tables g) → OrderedCounty
 ordered g c = record {
   county = g.C.Chart.county c.args.chart.now;

@@ -1,4 +1,4 @@
-use Rattle.std.proofs.Common.{List, [], ap, ap₂, arith, drop, drop-drop, get_or, length, subst, sym, take, take-append-drop, ℕ, ◌*◌, ◌++◌, ◌+◌, ◌-◌, ◌<◌, ◌∙◌, ◌≡◌, ◌≤◌}
+use Rattle.std.proofs.Common.{List, [], ap, ap₂, arith, drop, drop-drop, get_or, length, mul_comm, subst, sym, take, take-append-drop, ℕ, ◌*◌, ◌++◌, ◌+◌, ◌-◌, ◌<◌, ◌∙◌, ◌≡◌, ◌≤◌}
 use Rattle.std.proofs.Math.Seq.{drop-length}
 use Rattle.std.proofs.lemmas.List.{drop-take}
 use Rattle.std.specs.List.{AllByRecursion}
@@ -20,9 +20,6 @@ use Rattle.tl_number.proofs.Ties.ComparedChoices.{OrderedCounty}
 use Rattle.tl_number.proofs.type_1_choices.least_by_type_1.Given.{Over}
 use Rattle.tl_number.proofs.type_1_choices.least_by_type_1.Goals.{After-least-in-loop-end-1}
 use Rattle.tl_number.proofs.type_1_choices.least_by_type_1.Goals as goal
-
-turned : (a b : ℕ) → a * b ≡ b * a
-turned a b = grind arith
 
 pub loop-end-init : goal.loop-end-init
 loop-end-init g c =
@@ -118,7 +115,7 @@ add_digit-requires-clause-apart g c =
 pub overflow_mul-ways : goal.overflow_mul-ways
 overflow_mul-ways g c =
     let few : c.count_ways-count.result * c.loop-end.ways ≤ most_choices = few_counted g (goal.at.overflow_mul-ways g c).After-least-in-loop-end-1 in
-    omega (arith, few, turned c.loop-end.ways c.count_ways-count.result)
+    omega (arith, few, mul_comm c.loop-end.ways c.count_ways-count.result)
 
 -- the places of the shape, and all those from its first one on
 abbrev shape_places : (g : Over) (c : After-least-in-loop-end-1 g) → List OpenPlace
@@ -171,7 +168,7 @@ loop-end-preserved g c =
     let digits = c.in_ok-digits.digits.items in
     let next = c.settle.new.self in
     let swapped : c.loop-end.ways * c.count_ways-count.result ≡ c.count_ways-count.result * c.loop-end.ways =
-    turned c.loop-end.ways c.count_ways-count.result in
+    mul_comm c.loop-end.ways c.count_ways-count.result in
     let least = subst (λ count. AreLeastChoices county c.args.shape_order.now count c.add_digit.new.least) (sym swapped) c.in_ok-digits.ensures.least in
     let numbers : c.add_digit.new.least.numbers.items ≡ combined (ways_of behind) digits old.numbers.items =
     c.in_ok-digits.ensures.numbers ∙ ap (λ ways. combined ways digits old.numbers.items) before.ways in
