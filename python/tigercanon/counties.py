@@ -124,9 +124,24 @@ class Finder:
             return
         county = county_in(folder, entry, folded(path) in self.listed)
         if county:
-            yield county
+            listed = self.by_key(folder).get(key_of(entry.name), [])
+            yield self.alone(county, folder, [each for each in listed if not self.is_excluded(joined(folder, each.name))])
         else:
             self.skipped.setdefault(real(path), path)
+
+    def alone(self, county: County, folder: str, listed: Iterable[Entry]) -> County:
+        """Returns the county of one file with all records. If another one's name differs only in case, it is one county that fails."""
+        alike = [
+            entry
+            for entry in listed
+            for path in [joined(folder, entry.name)]
+            if folded(path) == folded(county.stem) and not entry.is_folder and real(path) not in self.own_files
+            if path == county.stem or county_in(folder, entry)
+        ]
+        first, *others = [joined(folder, entry.name) for entry in alike] or [county.stem]
+        if all(real(path) == real(first) for path in others):
+            return county
+        return County(first, whole=File(real(first), None), trouble=wholes_in([entry.name for entry in alike]))
 
     def of_glob(self, pattern: str) -> Iterator[County]:
         """Yields the counties that a glob matches: folders with all that is in them, zips and files."""
@@ -196,7 +211,7 @@ class Finder:
         if kind_of(name) and exact:
             return County(path, trouble="isn't one of a county's nine files")
         if exact and (exact[0].trouble or not exact[0].is_folder):
-            return whole_county(folder, exact[0])
+            return self.alone(whole_county(folder, exact[0]), folder, alike)
         county = None if kind_of(name) else rewritten(path, names, by_key.get(key_of(name), []))
         if county:
             return county
@@ -302,8 +317,7 @@ def rewritten(path: str, names: dict[str, Names], listed: Iterable[Entry]) -> Co
         return county_of(folder, names[key_of(name)])
     wholes = wholes_among(folder, listed)
     if len(wholes) > 1:
-        listing = ", ".join(parted(county.stem)[1] for county in wholes)
-        return County(path, trouble=f"there are {len(wholes)} files with all records: {listing}")
+        return County(path, trouble=wholes_in([parted(county.stem)[1] for county in wholes]))
     return wholes[0] if wholes else None
 
 
@@ -348,6 +362,11 @@ def trouble_of(kind: str, listed: Sequence[Entry]) -> str:
 
 def listing(listed: Iterable[Entry]) -> str:
     return ", ".join(entry.name for entry in listed)
+
+
+def wholes_in(names: Sequence[str]) -> str:
+    """Returns what is wrong with several files with all records, of which one is meant."""
+    return f"there are {len(names)} files with all records: {', '.join(names)}"
 
 
 def doubles_among(counties: Sequence[County]) -> dict[str, str]:
