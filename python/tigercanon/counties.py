@@ -45,8 +45,7 @@ class Finder:
         stems: dict[tuple[str, ...], str] = {}
         known: set[str] = set()
         for county in sorted(counties, key=lambda county: folded(county.stem) not in self.listed):
-            # The names that its files have whichever links lead to them. Links that lead nowhere may lead to one name.
-            places = () if county.trouble else tuple(real(file.place) for file in county.places)
+            places = () if county.trouble else county.real_places  # links that lead nowhere may lead to one name
             first = stems.setdefault(places, county.stem) if places else county.stem
             if is_known(county):
                 known.add(county.stem)

@@ -19,7 +19,7 @@ from .faults import Fault, faults_of
 from .hints import hint
 from .layout import TYPES, file_name
 from .resources import Resources, remove_stale_folders
-from .storage import NO_ROOM, PIECE, fetch, is_packed, is_url, members_of, opened_zip, pieces_of, stamp, unpacked
+from .storage import NO_ROOM, PIECE, fetch, is_packed, is_url, members_of, opened_zip, pieces_of, real, stamp, unpacked
 
 ANSWERS = {"fingerprint": re.compile(rb"[0-9a-f]{64}\n"), "check": re.compile(b"accepted\n")}
 """What the program prints for a county that it accepts."""
@@ -56,6 +56,11 @@ class County:
     @property
     def places(self) -> list[File]:
         return [file for file in (self.zip, self.whole, *self.files.values()) if file]
+
+    @property
+    def real_places(self) -> tuple[str, ...]:
+        """The names that its files have whichever links lead to them."""
+        return tuple(real(file.place) for file in self.places)
 
     @property
     def sources(self) -> str:

@@ -162,9 +162,9 @@ class Verification:
             finder.of_folder(name) if line.is_folder else finder.of_name(name) for line, name in zip(self.lines, names)
         ]
         self.finder = Finder([manifest], excluded, {*map(folded, names)})
-        places = {file.place for county in self.counties for file in county.places}
+        there = {county.real_places for county in self.counties if county.places}
         new, _ = self.finder.counties(sources, lambda county: folded(county.stem) in self.finder.listed)
-        self.new = [county for county in new if not any(file.place in places for file in county.places)]
+        self.new = [county for county in new if county.real_places not in there]
         self.absent = [county for county in self.new if county.is_absent]
         self.firsts = {stem: self.line_of(first) for stem, first in doubles_among([*self.counties, *self.new]).items()}
         self.new = [county for county in self.new if not self.is_noted(county)]
