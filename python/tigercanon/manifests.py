@@ -39,6 +39,7 @@ TELLING = re.compile(r"[0-9]+ [^- ]\S*(?:, [0-9]+ [^- ]\S*)*")  # sizes and time
 UNKNOWN = "? -"  # the size and the time of files that nothing is known of
 UNCHECKED = "failed: not checked yet"  # a county that a run has found and not reached
 STARTED_LINE = re.compile(rb"[0-9a-f]{0,64}|[0-9a-f]{64} ( [^\n]*)?|#[^\n]*")
+CUT_OFF = "its last line has no line ending, so it may be cut off"
 LOCK_LINE = re.compile(rb"process [0-9]* on ")
 PATIENCE_FOR_LOCK = 0.2
 
@@ -198,7 +199,7 @@ def loaded(name: str) -> tuple[Flags | None, list[Line]]:
     flags, lines, rest = parsed(name)
     if rest:
         why = "let the run that writes it finish first, or add the line ending if the line is whole"
-        raise Failure(f"{name}: its last line has no line ending, so it may be cut off: {why}")
+        raise Failure(f"{name}: {CUT_OFF}: {why}")
     if not lines:
         raise Failure(f"{name}: the manifest is empty")
     return flags, lines
@@ -224,7 +225,10 @@ class Manifest:
         self.lines: list[Line] = []
         self.is_shorter = False
         if os.path.lexists(self.place):
-            before, self.lines, _ = parsed(name, is_written=True)
+            before, self.lines, rest = parsed(name, is_written=True)
+            last = parsed_line(rest)
+            if last and (last.fingerprint or last.refusal):
+                raise Failure(f"{name}: {CUT_OFF}: add the line ending if the line is whole, or remove the line")
             agreed(name, before, flags)
             with reported(name):
                 open(self.place, "ab").close()
