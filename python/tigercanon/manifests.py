@@ -33,7 +33,9 @@ FLAG_SETS = ((), FLAGS[:1], FLAGS[1:], FLAGS)
 OTHER_FORM = re.compile(rb"# tigercanon form .*")
 UNPROVED = "unproved"  # comes before the flags if the program isn't proved
 LINE = re.compile(rb"([0-9a-fA-F]{64})  ([^\n]+)")
-COMMENT = re.compile(rb"# ([0-9?]+ [^ \n]+(?:, [0-9?]+ [^ \n]+)*)  (?:(refused [0-9A-Za-z ]+|failed: (?:(?!  )[^\n])+)  )?([^\n]+)")
+COMMENT = re.compile(
+    rb"# ([0-9?]+ [^ \n]+(?:, [0-9?]+ [^ \n]+)*)  (?:(refused(?: [0-9A-Za-z]+)+|failed: (?:(?!  )[^\n])+)  )?([^\n]+)"
+)
 LASTING = re.compile(r"refused (?:[1-7]|1[1-9]|2[0-9]) ")  # refusals that a county gets again as long as its files are the same
 TELLING = re.compile(r"[0-9]+ [^- ]\S*(?:, [0-9]+ [^- ]\S*)*")  # sizes and times of files that show a change on disk
 UNKNOWN = "? -"  # the size and the time of files that nothing is known of
@@ -99,10 +101,12 @@ class Line(NamedTuple):
 
     @property
     def entry(self) -> str:
-        """The lines of a county in a manifest. For sha256sum those that begin with # are comments."""
+        """The lines of a county in a manifest. For sha256sum those that begin with # are comments. The sources are left out if the name
+        would be read as a reason and another name."""
         if self.refusal:
             return f"# {self.sources or UNKNOWN}  {self.refusal}  {self.stem}\n"
-        return f"# {self.sources}  {self.stem}\n{self}\n" if self.sources else f"{self}\n"
+        comment = f"# {self.sources}  {self.stem}"
+        return f"{comment}\n{self}\n" if parsed_line(os.fsencode(comment)) == self._replace(fingerprint="") else f"{self}\n"
 
 
 def text_of(name: str, is_written: bool = False) -> bytes:
