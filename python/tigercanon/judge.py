@@ -215,7 +215,7 @@ def prepared(county: County, order: Order, notes: list[str], resources: Resource
     if "" in pieces:
         return prepared_whole(county.stem, copied(pieces[""], size, resources, order), order, notes, resources)
     note_files(sizes, order, notes)
-    if county.readable_stem is not None and is_plain(county.readable_stem):
+    if county.readable_stem is not None and is_plain(county.readable_stem) and not has_others(county, county.readable_stem):
         return Source(county.stem, county.readable_stem, is_stem=True)
     stem = resources.place(size)
     for kind, each in pieces.items():
@@ -251,6 +251,11 @@ def copied(pieces: Iterator[bytes], size: int, resources: Resources, order: Orde
             if left < 0:
                 raise Unreadable(f"it unpacks to more than --largest {order.largest} bytes")
     return place
+
+
+def has_others(county: County, stem: str) -> bool:
+    """Returns whether a stem has files that the county leaves out."""
+    return any(os.path.lexists(file_name(stem, kind)) for kind in TYPES if kind not in county.files)
 
 
 def is_plain(path: str) -> bool:
