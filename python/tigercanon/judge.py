@@ -168,6 +168,7 @@ def judge(county: County, order: Order, resources: Resources) -> Answer:
             if source.is_empty:
                 return Answer(Kind.FAILED, "it is empty, so it has no records", county.notes)
             ended = source.run(order.program, order.job, order.flags, part, order.memory, order.seconds)
+            look_again(county)
             return answer_of(source, ended, order, notes)
         except Rejected as rejected:
             return Answer(Kind.REFUSED, str(rejected), tuple(notes))
@@ -256,6 +257,16 @@ def copied(pieces: Iterator[bytes], size: int, resources: Resources, order: Orde
 def has_others(county: County, stem: str) -> bool:
     """Returns whether a stem has files that the county leaves out."""
     return any(os.path.lexists(file_name(stem, kind)) for kind in TYPES if kind not in county.files)
+
+
+def look_again(county: County) -> None:
+    """Raises Unreadable if a single file has vanished: the program takes it for one that was never there."""
+    for file in county.files.values():
+        try:
+            if not is_url(file.place):
+                os.stat(file.place)
+        except OSError as error:
+            raise Unreadable(f"{os.path.basename(file.place)} can't be read: {reason(error)}") from None
 
 
 def is_plain(path: str) -> bool:
