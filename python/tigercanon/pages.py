@@ -205,9 +205,10 @@ def index(folder: Path, changes: Sequence[Change], reasons: dict[str, str]) -> I
         cells = cells or f'<td class="why" colspan="{len(SUBJECTS)}">{html.escape(reasons.get(change.page, "no page"))}</td>'
         name = html.escape(printable(change.county))
         link = f'<a href="{html.escape(quote(os.fsencode(change.page)))}">{name}</a>' if carried else name
-        yield f"<tr><td>{link}</td><td>{html.escape(' to '.join(change.editions))}</td>{cells}</tr>\n"
+        yield f"<tr><td>{link}</td><td>{html.escape(printable(' to '.join(change.editions)))}</td>{cells}</tr>\n"
     yield "</tbody>\n</table>\n"
-    others = [f'<a href="{html.escape(quote(name))}">{html.escape(name)}</a>' for name in other_pages(folder, changes)]
+    names = other_pages(folder, changes)
+    others = [f'<a href="{html.escape(quote(os.fsencode(name)))}">{html.escape(printable(name))}</a>' for name in names]
     if others:
         yield f"<p>Of other manifests: {', '.join(others)}</p>\n"
     yield "</body>\n</html>\n"
