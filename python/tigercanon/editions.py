@@ -8,6 +8,7 @@ from typing import Iterable, NamedTuple, Optional, Sequence
 from .errors import Failure
 from .layout import Name, key_of
 from .manifests import Flags, Line, loaded, named, without_mark
+from .storage import tidy
 
 KINDS = ("same", "changed", "added", "removed", "renamed", "refused", "failed", "unchecked", "accepted")
 Lines = dict[str, Line]
@@ -134,9 +135,9 @@ def editions_of(names: Sequence[str], folders: Sequence[str] = ()) -> tuple[list
 def parted(name: str, lines: list[Line], folders: Sequence[str]) -> list[Edition]:
     """Returns the editions of one manifest: the counties below each of the folders, or else below the folders where their names begin to
     differ."""
-    roots = [folder.rstrip("/") for folder in folders]
+    roots = [tidy(folder) for folder in folders]
     if not roots:
-        parts = [line.stem.split("/")[:-1] for line in lines]
+        parts = [line.name().split("/")[:-1] for line in lines]
         depth = len(os.path.commonprefix(parts))
         roots = sorted({"/".join(part[: depth + 1]) for part in parts})
         if any(len(part) <= depth for part in parts):
@@ -153,7 +154,7 @@ def parted(name: str, lines: list[Line], folders: Sequence[str]) -> list[Edition
 
 def is_below(line: Line, root: str) -> bool:
     """Returns whether a line is of an edition below this folder. A folder that couldn't be listed may also be around it."""
-    return line.stem.startswith(root) or line.is_folder and root.startswith(line.stem)
+    return line.name().startswith(root) or line.is_folder and root.startswith(line.name())
 
 
 def edition_of(label: str, name: str, lines: Iterable[Line]) -> Edition:
