@@ -64,7 +64,7 @@ class Finder:
         looks like a glob, the name finds it too."""
         path = tidy(source) or ("/" if source.startswith("/") else "")
         try:
-            if not kind_of(path) and is_folder(path or "."):
+            if not (kind_of(path) and is_url(path)) and is_folder(path or "."):
                 walked: set[str] = set()
                 counties = list(self.below(path, set(), walked))
                 self.walked |= walked if any(not county.trouble for county in counties) else set()
