@@ -98,7 +98,8 @@ class Finder:
             return
         walked.add(folder)
         for names in names_among(listed).values():
-            yield county_of(folder, names)
+            county = county_of(folder, names)
+            yield self.noted(county, folder, self.alike(folder, parted(county.stem)[1]))
         for entry in listed:
             if not entry.is_folder and kind_of(entry.name) not in KINDS:
                 yield from self.whole(folder, entry)
@@ -122,25 +123,37 @@ class Finder:
         if real(path) in self.own_files:
             return
         county = county_in(folder, entry, folded(path) in self.listed)
-        if county:
-            listed = self.by_key(folder).get(key_of(entry.name), [])
-            yield self.alone(county, folder, [each for each in listed if not self.is_excluded(joined(folder, each.name))])
-        else:
+        if not county:
             self.skipped.setdefault(real(path), path)
+            return
+        alike = self.alike(folder, entry.name)
+        names = names_among(alike).get(folded(entry.name))
+        yield self.noted(county_of(folder, names), folder, alike) if names else self.alone(county, folder, alike)
 
-    def alone(self, county: County, folder: str, listed: Iterable[Entry]) -> County:
+    def alike(self, folder: str, name: str) -> list[Entry]:
+        """Returns the entries of a folder whose names differ from this one only in case or ending, without those that are left out."""
+        keys = dict.fromkeys((folded(stem_of(name)), key_of(name)))
+        listed = [entry for key in keys for entry in self.by_key(folder).get(key, [])]
+        return [entry for entry in listed if not (is_left_out(entry) or self.is_excluded(joined(folder, entry.name)))]
+
+    def wholes_of(self, county: County, folder: str, alike: Iterable[Entry]) -> list[str]:
+        """Returns the names of files with all records that are the name of a county but for their case."""
+        named = [(entry, joined(folder, entry.name)) for entry in alike if not entry.is_folder]
+        named = [(entry, path) for entry, path in named if folded(path) == folded(county.stem) and real(path) not in self.own_files]
+        return [entry.name for entry, path in named if county.whole and path == county.stem or county_in(folder, entry)]
+
+    def noted(self, county: County, folder: str, alike: Iterable[Entry]) -> County:
+        """Returns the county of a zip or single files. A file of its name without an ending isn't read: a manifest can't have both."""
+        notes = [f"the file {name} beside it isn't read" for name in self.wholes_of(county, folder, alike)]
+        return replace(county, notes=(*county.notes, *notes))
+
+    def alone(self, county: County, folder: str, alike: Iterable[Entry]) -> County:
         """Returns the county of one file with all records. If another one's name differs only in case, it is one county that fails."""
-        alike = [
-            entry
-            for entry in listed
-            for path in [joined(folder, entry.name)]
-            if folded(path) == folded(county.stem) and not entry.is_folder and real(path) not in self.own_files
-            if path == county.stem or county_in(folder, entry)
-        ]
-        first, *others = [joined(folder, entry.name) for entry in alike] or [county.stem]
-        if all(real(path) == real(first) for path in others):
+        names = self.wholes_of(county, folder, alike)
+        first, *others = [real(joined(folder, name)) for name in names] or [""]
+        if all(other == first for other in others):
             return county
-        return County(first, whole=File(real(first), None), trouble=wholes_in([entry.name for entry in alike]))
+        return County(joined(folder, names[0]), whole=File(first, None), trouble=wholes_in(names))
 
     def of_glob(self, pattern: str) -> Iterator[County]:
         """Yields the counties that a glob matches: folders with all that is in them, zips and files."""
@@ -206,7 +219,8 @@ class Finder:
         exact = [entry for entry in alike if entry.name == name]
         names = names_among(exact if is_exact and kind_of(name) == "ZIP" and exact else alike)
         if folded(stem_of(name)) in names:
-            return county_of(folder, names[folded(stem_of(name))])
+            named = county_of(folder, names[folded(stem_of(name))])
+            return named if is_exact else self.noted(named, folder, alike)
         if kind_of(name) and exact:
             return County(path, trouble="isn't one of a county's nine files")
         if exact and (exact[0].trouble or not exact[0].is_folder):
