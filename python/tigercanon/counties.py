@@ -192,11 +192,12 @@ class Finder:
     def has_walked(self, stem: str) -> bool:
         """Returns whether a county of this name would have been found: its folder was listed, or isn't there any more below one
         that was; or it was listed under another name."""
-        folder = parted(stem)[0]
+        folder, is_excluded = parted(stem)[0], self.is_excluded(stem)
         while folder not in self.walked and folder and not (is_url(folder) or os.path.lexists(folder)):
+            is_excluded |= self.is_excluded(folder)
             folder = parted(folder)[0]
         is_behind_link = any(stem.startswith(f"{link}/") for link in self.passed)
-        return (folder in self.walked or is_behind_link) and not self.is_excluded(stem)
+        return (folder in self.walked or is_behind_link) and not is_excluded
 
     def is_named(self, path: str) -> bool:
         """Returns whether a path with the letters of a glob is the name of something that is there."""
