@@ -236,7 +236,7 @@ class NewFile:
             refuse_other_files([name])
         self.name, self.place, self.inputs = name, os.path.realpath(name), inputs
         folder, base = os.path.split(self.place)
-        self.stem = os.path.join(folder, f".{base[:200]}")
+        self.stem = os.path.join(folder, f".{os.fsdecode(os.fsencode(base)[:200])}")
         self.path = f"{self.stem}.{secrets.token_hex(4)}.part"
         self.mode: int | None = None
         with reported(name), suppress(FileNotFoundError):
