@@ -19,7 +19,21 @@ from .faults import Fault, faults_of
 from .hints import hint
 from .layout import TYPES, file_name
 from .resources import Resources, remove_stale_folders
-from .storage import NO_ROOM, PIECE, fetch, is_packed, is_url, members_of, opened_zip, pieces_of, real, stamp, unpacked
+from .storage import (
+    NO_ROOM,
+    PIECE,
+    fetch,
+    is_packed,
+    is_url,
+    joined,
+    members_of,
+    opened_zip,
+    parted,
+    pieces_of,
+    real,
+    stamp,
+    unpacked,
+)
 
 ANSWERS = {"fingerprint": re.compile(rb"[0-9a-f]{64}\n"), "check": re.compile(b"accepted\n")}
 """What the program prints for a county that it accepts."""
@@ -111,11 +125,13 @@ class Rejected(Exception):
 
 @dataclass(frozen=True)
 class Source:
-    """A set as the program reads it: a file, or the stem of a county's nine files in capitals. name is the user's."""
+    """A set as the program reads it: a file, or the stem of a county's nine files in capitals. The name is the user's, and the shown names
+    are those of the nine files."""
 
     name: str
     place: str
     is_stem: bool
+    shown: tuple[str, ...] = ()
 
     @property
     def files(self) -> list[str]:
@@ -125,7 +141,7 @@ class Source:
     @property
     def names(self) -> list[str]:
         """The user's names of the files."""
-        return [file_name(self.name, kind) for kind in TYPES] if self.is_stem else [self.name]
+        return [*self.shown] if self.is_stem else [self.name]
 
     @property
     def is_empty(self) -> bool:
@@ -217,7 +233,7 @@ def prepared(county: County, order: Order, notes: list[str], resources: Resource
         return prepared_whole(county.stem, copied(pieces[""], size, resources, order), order, notes, resources)
     note_files(sizes, order, notes)
     if county.readable_stem is not None and is_plain(county.readable_stem) and not has_others(county, county.readable_stem):
-        return Source(county.stem, county.readable_stem, is_stem=True)
+        return Source(county.stem, county.readable_stem, True, shown_names(county))
     stem = resources.place(size)
     for kind, each in pieces.items():
         with open(file_name(stem, kind), "wb") as target:
@@ -227,7 +243,7 @@ def prepared(county: County, order: Order, notes: list[str], resources: Resource
             fetch(file.place, file.size, file_name(stem, kind))
         else:
             os.symlink(file.place, file_name(stem, kind))
-    return Source(county.stem, stem, is_stem=True)
+    return Source(county.stem, stem, True, shown_names(county))
 
 
 def prepared_whole(name: str, path: str, order: Order, notes: list[str], resources: Resources) -> Source:
@@ -252,6 +268,13 @@ def copied(pieces: Iterator[bytes], size: int, resources: Resources, order: Orde
             if left < 0:
                 raise Unreadable(f"it unpacks to more than --largest {order.largest} bytes")
     return place
+
+
+def shown_names(county: County) -> tuple[str, ...]:
+    """Returns the names of a county's nine files. One that isn't there, or is in a zip, has that of its type."""
+    folder = parted(county.stem)[0]
+    names = {kind: joined(folder, parted(file.place)[1]) for kind, file in county.files.items()}
+    return tuple(names.get(kind, file_name(county.stem, kind)) for kind in TYPES)
 
 
 def has_others(county: County, stem: str) -> bool:
