@@ -109,13 +109,15 @@ function largeNumbers(numbers, extra) {
 export async function membersOf(blob) {
   const entries = (await entriesOf(blob)).filter(({ name }) => !isLeftOut(name));
   const singles = entries.filter(({ name }) => [...TYPES].includes(kindOf(name)));
-  const counties = singles.length ? groupedBy(singles, ({ name }) => stemOf(name).toUpperCase()) : await wholesAmong(blob, entries);
-  if (counties.size > 1) {
-    const names = [...counties.keys()].sort().slice(0, 3).join(", ");
-    throw new Unreadable(`the zip has ${counties.size} counties in it: ${names}`);
+  const { wholes, trouble } = await wholesAmong(blob, entries);
+  const counties = [...groupedBy(singles, ({ name }) => stemOf(name).toUpperCase()), ...wholes.map((entry) => [entry.name, [entry]])];
+  if (!counties.length) throw trouble;
+  if (counties.length > 1) {
+    const names = counties.map(([name]) => name).sort().slice(0, 3).join(", ");
+    throw new Unreadable(`the zip has ${counties.length} counties in it: ${names}`);
   }
   const members = new Map();
-  for (const [kind, found] of groupedBy([...counties.values()][0], ({ name }) => kindOf(name))) {
+  for (const [kind, found] of groupedBy(counties[0][1], ({ name }) => kindOf(name))) {
     if (found.length > 1) throw new Unreadable(`the zip has ${found.length} files .RT${kind}`);
     if (found[0].flags & LOCKED) throw locked();
     members.set(kind, found[0]);
@@ -124,18 +126,16 @@ export async function membersOf(blob) {
   return members;
 }
 
-// The files of a zip that begin with a record. If there is none, what can't be read may have been one.
+// The files of a zip that begin with a record, and why there may be none: the first one that can't be read, if any.
 async function wholesAmong(blob, entries) {
-  const found = new Map();
-  let trouble = new Unreadable("the zip has no county in it");
+  const found = { wholes: [], trouble: new Unreadable("the zip has no county in it") };
   for (const entry of entries.filter(({ name }) => !name.endsWith("/") && !kindOf(name)).reverse()) {
     try {
-      if (await beginsWithRecordIn(blob, entry)) found.set(entry.name, [entry]);
+      if (await beginsWithRecordIn(blob, entry)) found.wholes.push(entry);
     } catch (error) {
-      trouble = error;
+      found.trouble = error;
     }
   }
-  if (!found.size) throw trouble;
   return found;
 }
 

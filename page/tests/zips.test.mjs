@@ -136,6 +136,7 @@ test("a zip with one file of all records is that file", async () => {
   }
   const two = await outcome(zipOf([["b.txt", all], ["a.txt", all]]));
   assert.equal(two.sentence, "the zip has 2 counties in it: a.txt, b.txt");
+  assert.equal((await outcome(zipOf([["TGR01001", all], [name, "1"]]))).sentence, "the zip has 2 counties in it: TGR01001, TGR01001");
   assert.equal((await outcome(zipOf([["read.me", "nothing"]]))).sentence, "the zip has no county in it");
 });
 

@@ -93,6 +93,7 @@ def zips_with_other_contents() -> Zips:
     return {
         "two": (packed({**COUNTY, **members("tgr00003", TEXT)}), f"{two} TGR00001, TGR00003"),
         "folders": (packed({**members("a/TGR00001", TEXT), "b/TGR00001.RT2": b""}), f"{two} A/TGR00001, B/TGR00001"),
+        "beside": (packed({**COUNTY, "TGR00001": RECORD}), f"{two} TGR00001, TGR00001"),
         "none": (packed({"TGR00001.RTA": b"A", "read.me": b""}), "the zip has no county in it"),
         "twice": (packed({**COUNTY, "tgr00001.rt2": b""}), "the zip has 2 files .RT2"),
         "large": (packed(large), too_large),

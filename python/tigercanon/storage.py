@@ -242,20 +242,22 @@ def members_of(archive: zipfile.ZipFile) -> dict[str, zipfile.ZipInfo]:
         kind = kind_of(member.filename)
         if kind in [*TYPES]:
             counties.setdefault(stem_of(member.filename).upper(), {}).setdefault(kind, []).append(member)
-    if not counties:
-        counties = {member.filename: {"": [member]} for member in whole_members(archive, members)}
-    if len(counties) > 1:
-        names = ", ".join(sorted(ascii(name)[1:-1] for name in counties)[:3])
-        raise Unreadable(f"the zip has {len(counties)} counties in it: {names}")
-    county = counties.popitem()[1]
+    wholes, trouble = whole_members(archive, members)
+    names = [*counties, *(member.filename for member in wholes)]
+    if not names:
+        raise trouble
+    if len(names) > 1:
+        listing = ", ".join(sorted(ascii(name)[1:-1] for name in names)[:3])
+        raise Unreadable(f"the zip has {len(names)} counties in it: {listing}")
+    county = counties.get(names[0], {"": wholes})
     for kind, entries in county.items():
         if len(entries) > 1:
             raise Unreadable(f"the zip has {len(entries)} files .RT{kind}")
     return {kind: county[kind][0] for kind in ["", *TYPES] if kind in county}
 
 
-def whole_members(archive: zipfile.ZipFile, members: list[zipfile.ZipInfo]) -> list[zipfile.ZipInfo]:
-    """Returns the files in a zip that begin with a record. Raises Unreadable if there is none, with the reason if one can't be read."""
+def whole_members(archive: zipfile.ZipFile, members: list[zipfile.ZipInfo]) -> tuple[list[zipfile.ZipInfo], Unreadable]:
+    """Returns the files in a zip that begin with a record, and why there may be none: the first one that can't be read, if any."""
     wholes, troubles = [], [Unreadable("the zip has no county in it")]
     for member in members:
         if not (member.is_dir() or kind_of(member.filename)):
@@ -264,9 +266,7 @@ def whole_members(archive: zipfile.ZipFile, members: list[zipfile.ZipInfo]) -> l
                 wholes += [member] if is_record(line) else []
             except Unreadable as trouble:
                 troubles.insert(-1, trouble)
-    if not wholes:
-        raise troubles[0]
-    return wholes
+    return wholes, troubles[0]
 
 
 def pieces_of(archive: zipfile.ZipFile, member: zipfile.ZipInfo) -> Iterator[bytes]:
