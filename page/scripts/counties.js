@@ -24,9 +24,11 @@ export async function sortedOut(files) {
   const found = { counties: [], manifests: [], skipped: [] };
   const named = files.filter(({ path }) => !isLeftOut(path));
   const isOfNine = ({ path }) => FILE_KINDS.includes(kindOf(path));
-  for (const group of groupedBy(named.filter(isOfNine), ({ path }) => foldedName(stemOf(path))).values()) found.counties.push(countyOf(group));
   for (const [kind, each] of await eachOf(named.filter((given) => !isOfNine(given)), decided)) found[kind].push(each);
-  found.counties = [...groupedBy(found.counties.map(nameable), ({ stem }) => stem).values()].map(firstOf);
+  const ofNine = groupedBy(named.filter(isOfNine), ({ path }) => foldedName(stemOf(path)));
+  const wholes = groupedBy(found.counties, ({ stem }) => foldedName(stem));
+  const counties = [...[...ofNine.values()].map(countyOf), ...[...wholes.values()].map(aloneOf)].map(nameable);
+  found.counties = [...groupedBy(counties, ({ stem }) => stem).values()].map(firstOf);
   found.counties.sort((one, other) => byBytes(one.stem, other.stem));
   return found;
 }
@@ -62,6 +64,13 @@ const failing = (stem, trouble, isNamed = false) => ({ stem, trouble, isNamed, n
 
 // A line of a manifest can't have a name with a line break.
 const nameable = (county) => (county.stem.includes("\n") ? failing(county.stem, "its name has a line break in it") : county);
+
+// Files with all records whose names differ only in case are one county, which fails.
+function aloneOf(counties) {
+  const [first, ...others] = counties.map(({ stem }) => stem).sort(byBytes);
+  const names = [first, ...others].map(baseOf).join(", ");
+  return others.length ? failing(first, `there are ${counties.length} files with all records: ${names}`, true) : counties[0];
+}
 
 // Of a zip or single files and a file with all records of the same name without an ending the former.
 const firstOf = ([county, other]) => (other ? { ...county, notes: [...county.notes, `the file ${baseOf(county.stem)} beside it isn't read`] } : county);

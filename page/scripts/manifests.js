@@ -7,7 +7,7 @@ import { FLAGS, FORM, IS_PROVED, UNPROVED } from "./tables.js";
 import { Unreadable } from "./unreadable.js";
 
 const LINE = /^([0-9a-fA-F]{64}) {2}([^\n]+)$/;
-const COMMENT = /^# [0-9?]+ [^ \n]+(?:, [0-9?]+ [^ \n]+)* {2}(?:(refused [0-9A-Za-z ]+|failed: (?:(?! {2})[^\n])+) {2})?([^\n]+)$/;
+const COMMENT = /^# [0-9?]+ [^ \n]+(?:, [0-9?]+ [^ \n]+)* {2}(?:(refused(?: [0-9A-Za-z]+)+|failed: (?:(?! {2})[^\n])+) {2})?([^\n]+)$/;
 const OTHER_FORM = /^# tigercanon form /;
 
 // The flags of two masks, as command lines have them.

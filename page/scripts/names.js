@@ -33,8 +33,8 @@ export function isLeftOut(path) {
   return isInHidden || /^\._|^\.DS_Store$/.test(baseOf(path)) || folders.some((name) => FOLDERS_LEFT_OUT.includes(name));
 }
 
-// The name by which counties of two manifests are matched: without folder, case and ending.
-export const keyOf = (stem) => baseOf(stem).replace(/\.gz$/i, "").replace(/(?<=.)\.[^.]*$/, "").toUpperCase();
+// The name by which counties of two manifests are matched: without folder, case and ending. An ending has no blank in it.
+export const keyOf = (stem) => baseOf(stem).replace(/\.gz$/i, "").replace(/(?<=.)\.[^. ]*$/, "").toUpperCase();
 
 // The ending under which a skipped file is counted.
 export const endingOf = (path) => (/\.tar\.gz$/i.test(path) ? ".tar.gz" : (/[^./]+(\.[^./]*)$/.exec(path)?.[1] ?? "without an ending"));

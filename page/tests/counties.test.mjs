@@ -85,6 +85,11 @@ test("a county whose name has a line break in it fails", async () => {
   assert.deepEqual((await found("a\nb.RT1")).counties, { "a\nb": "its name has a line break in it" });
 });
 
+test("files with all records whose names differ only in case are one county, which fails", async () => {
+  const { counties } = await found(given("in/a.txt", record), given("in/A.txt", record), given("in/b.txt", record), given("other/a.txt", record));
+  assert.deepEqual(counties, { "in/A.txt": "there are 2 files with all records: A.txt, a.txt", "in/b.txt": "whole", "other/a.txt": "whole" });
+});
+
 test("of single files or a zip and a file of the same name without an ending the former are read, and a note says so", async () => {
   const { counties } = await sortedOut([given("in/A", record), given("in/A.ZIP")]);
   assert.deepEqual(counties.map(({ stem, zip, notes }) => [stem, zip.name, notes]), [["in/A", "A.ZIP", ["the file A beside it isn't read"]]]);
@@ -143,7 +148,7 @@ test("of a stream no more is read than its first line, or than the length of a r
 test("names for files to save, keys and endings", () => {
   assert.deepEqual(["in/a.txt", "b", "…/"].map(plainName), ["a", "b", "county"]);
   assert.deepEqual(["in/a.txt", "b"].map(canonicalName), ["a-canonical.txt", "b.txt"]);
-  assert.deepEqual(["x/tgr01001", "TGR01001.txt", "tgr01001.txt.gz", ".b", "a.b.c"].map(keyOf), ["TGR01001", "TGR01001", "TGR01001", ".B", "A.B"]);
+  assert.deepEqual(["x/tgr01001", "TGR01001.txt", "tgr01001.txt.gz", ".b", "a.b.c", "St. Clair"].map(keyOf), ["TGR01001", "TGR01001", "TGR01001", ".B", "A.B", "ST. CLAIR"]);
   assert.deepEqual(["a.TAR.GZ", "a.b.c", ".b", "in.x/b", "b."].map(endingOf), [".tar.gz", ".c", "without an ending", "without an ending", "."]);
   assert.deepEqual(["b", "a\u{10000}", "a\uffff", "a", "B"].sort(byBytes), ["B", "a", "a\uffff", "a\u{10000}", "b"]);
 });

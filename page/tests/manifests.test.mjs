@@ -51,6 +51,7 @@ test("of several lines for a county the last one counts, and a later refusal tak
   const fingerprints = Object.fromEntries(counties.map(({ stem, fingerprint }) => [stem, fingerprint]));
   assert.deepEqual(fingerprints, { a: print("2"), b: "", "c d": print("3") });
   assert.deepEqual(readManifest(HEAD + refused + line("A", "b")).counties, [{ fingerprint: print("a"), stem: "b" }]);
+  assert.deepEqual(readManifest(HEAD + refused.replace("  b", "  b  c")).counties.map(({ stem }) => stem), ["b  c"]);
 });
 
 test("what isn't a manifest", () => {
