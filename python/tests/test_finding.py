@@ -10,7 +10,7 @@ from support import packed, put
 
 from tigercanon.counties import Finder
 from tigercanon.judge import County, File
-from tigercanon.layout import TYPES, stem_of
+from tigercanon.layout import TYPES, key_of, stem_of
 from tigercanon.storage import joined, members_of, opened_zip, parted, tidy
 
 ENDINGS = [f".RT{kind}" for kind in TYPES]
@@ -152,12 +152,25 @@ def test_paths(folder: str, name: str) -> None:
 
 TIDY = "./a a", "a//b/ a/b", ". ", "/ /", "/./a/. /a", "a/../b a/../b", "s3://a//b/ s3://a//b"
 STEMS = "a.RT1 a", "a.rtZ a", "a.b.ZiP a.b", "a.txt a.txt", ".RT1 .RT1", "x/a.RT12 x/a.RT12"
+KEYS = {
+    "x/tgr01001": "TGR01001",
+    "a.txt": "A",
+    "a.txt.gz": "A",
+    ".b": ".B",
+    "a.b.c": "A.B",
+    "St. Clair": "ST. CLAIR",
+    "St. Clair.rt1": "ST. CLAIR",
+}
 
 
 @pytest.mark.parametrize("function, row", [*product([tidy], TIDY), *product([stem_of], STEMS)])
 def test_tidy_paths_and_stems(function: Callable[[str], str], row: str) -> None:
     path, wanted = row.split(" ")
     assert function(path) == wanted
+
+
+def test_names_that_two_editions_have() -> None:
+    assert {path: key_of(path) for path in KEYS} == KEYS
 
 
 @pytest.mark.cluster

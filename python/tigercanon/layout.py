@@ -35,10 +35,11 @@ def folded(path: str) -> str:
 
 
 def key_of(path: str) -> str:
-    """Returns the name of a county without folder, case and ending, as another edition has it too."""
+    """Returns the name of a county without folder, case and ending, as another edition has it too. An ending has no blank in it."""
     name = path.rpartition("/")[2].upper()
     name = name[:-3] if name.endswith(".GZ") else name
-    return stem_of(name) if kind_of(name) else os.path.splitext(name)[0]
+    stem, ending = (stem_of(name), "") if kind_of(name) else os.path.splitext(name)
+    return name if " " in ending else stem
 
 
 @dataclass(frozen=True)

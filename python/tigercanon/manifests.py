@@ -176,11 +176,6 @@ def parsed_line(text: bytes) -> Line | None:
     return Line("", os.fsdecode(comment[3]), comment[1].decode(), os.fsdecode(comment[2] or b"")) if comment else None
 
 
-def only_form(stem: str) -> str:
-    """Returns what the names have in common of which a manifest has one. One with a slash at its end would be that of a folder."""
-    return folded(tidy(stem)) + ("/" if stem.endswith("/") else "")
-
-
 def names_in(name: str) -> set[str]:
     """Returns the names of the counties that a manifest lists, folded; none if it can't be read as one."""
     with suppress(Failure):
@@ -257,15 +252,15 @@ class Manifest:
                 raise
             self.lines.append(line)
 
-    def drop(self, stem: str) -> None:
+    def drop(self, name: str) -> None:
         """Takes a county out: its lines go when the manifest is put in order."""
-        self.lines = [line for line in self.lines if only_form(line.stem) != only_form(stem)]
+        self.lines = [line for line in self.lines if folded(line.name()) != folded(name)]
         self.is_shorter = True
 
     def put_in_order(self) -> None:
         """Puts the counties in order by a copy, which takes the manifest's place once it is whole. Of a county the last line stays."""
         if self.lines or self.is_shorter:
-            self.lines = [*{only_form(line.stem): line for line in self.lines}.values()]
+            self.lines = [*{folded(line.name()): line for line in self.lines}.values()]
             self.lines.sort(key=lambda line: (os.fsencode(line.stem), line.fingerprint))
             with new_files([self.name], self.inputs, self.resources, is_forced=True) as files:
                 files[self.name].write(os.fsencode("".join([f"{heading(self.flags)}\n", *(line.entry for line in self.lines)])))

@@ -210,12 +210,12 @@ class Survey:
             if place:
                 self.moved[line.stem] = place
             if self.manifest and (place or self.choice.prune):
-                self.manifest.drop(line.stem)
+                self.manifest.drop(line.name())
         self.gone = [line for line in self.gone if line.stem not in self.moved]
         for line in self.listed.values():
             is_listed = line.is_folder and self.finder.has_walked(joined(tidy(line.stem), ""))
             if self.manifest and is_listed and not self.judging.left:
-                self.manifest.drop(line.stem)
+                self.manifest.drop(line.name())
 
 
 def refusal_in(text: str) -> str:
