@@ -139,7 +139,10 @@ def test_what_is_left_out() -> None:
     assert sorted(county.stem for county in finder.all(["in"])) == [stem for stem in ALL if not stem.startswith("in/deep")]
     assert [*finder.skipped.values()] == ["in/b.RTA"]
     assert stems("in/**/*.ZIP", "in/.git/*") == ["in/.git/x", "in/a"]
-    put("in/deep/mac.ZIP", packed({"__MACOSX/._TGR01001.RT1": b"", "TGR01001.RT1": b"1\n", "._TGR01001.RT2": b""}))
+    put(
+        "in/deep/mac.ZIP",
+        packed({"__MACOSX/._TGR01001.RT1": b"", "lost+found/TGR01001.RT2": b"", "TGR01001.RT1": b"1\n", "._TGR01001.RT2": b""}),
+    )
     with opened_zip("in/deep/mac.ZIP") as archive:
         assert {kind: member.filename for kind, member in members_of(archive).items()} == {"1": "TGR01001.RT1"}
 

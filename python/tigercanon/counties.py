@@ -137,13 +137,13 @@ class Finder:
         return [entry for entry in listed if not (is_left_out(entry) or self.is_excluded(joined(folder, entry.name)))]
 
     def wholes_of(self, county: County, folder: str, alike: Iterable[Entry]) -> list[str]:
-        """Returns the names of files with all records that are the name of a county but for their case."""
+        """Returns the names of the files with all records whose names differ from a county's at most in case."""
         named = [(entry, joined(folder, entry.name)) for entry in alike if not entry.is_folder]
         named = [(entry, path) for entry, path in named if folded(path) == folded(county.stem) and real(path) not in self.own_files]
         return [entry.name for entry, path in named if county.whole and path == county.stem or county_in(folder, entry)]
 
     def noted(self, county: County, folder: str, alike: Iterable[Entry]) -> County:
-        """Returns the county of a zip or single files. A file of its name without an ending isn't read: a manifest can't have both."""
+        """Returns the county of a zip or single files, with a note for a file of its name without an ending: a manifest can't have both."""
         notes = [f"the file {name} beside it isn't read" for name in self.wholes_of(county, folder, alike)]
         return replace(county, notes=(*county.notes, *notes))
 
@@ -277,7 +277,7 @@ def names_among(listed: Iterable[Entry]) -> dict[str, Names]:
 
 
 def is_left_out(entry: Entry) -> bool:
-    """Returns whether an entry of a folder is a leftover of a Mac, a hidden folder, or one for what a repair of the disk finds."""
+    """Returns whether an entry of a folder is a leftover of a Mac, a hidden folder, or lost+found."""
     if entry.is_folder:
         return entry.name.startswith(".") or entry.name in ("__MACOSX", "lost+found")
     return entry.name.startswith(("._", ".DS_Store"))
@@ -379,7 +379,7 @@ def listing(listed: Iterable[Entry]) -> str:
 
 
 def wholes_in(names: Sequence[str]) -> str:
-    """Returns what is wrong with several files with all records, of which one is meant."""
+    """Returns what is wrong with a name that several files with all records have."""
     return f"there are {len(names)} files with all records: {', '.join(names)}"
 
 

@@ -23,7 +23,7 @@ class Edition(NamedTuple):
 
     @property
     def absent(self) -> Line | None:
-        """What it has in place of a county that it doesn't list: the first folder that the county may be in, or None."""
+        """What it has in place of a county that it doesn't list: the line of a folder that the county may be in, or None."""
         return self.folders[0] if self.folders else None
 
 
@@ -181,8 +181,8 @@ def by_key(name: str, lines: Iterable[Line]) -> Lines:
 
 def histories(editions: Sequence[Edition]) -> list[History]:
     """Returns the counties of all editions through these, in the order of their last names. A county that is gone and one that
-    is new in the same edition are one, renamed, if they have the same map. In a folder that couldn't be listed none is gone or new.
-    """
+    is new in the same edition are one, renamed, if they have the same map. None is gone or new if it may be in a folder
+    that couldn't be listed."""
     tracks: list[list[Line | None]] = []
     for place, edition in enumerate(editions):
         here = dict(edition.counties)

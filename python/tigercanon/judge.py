@@ -125,8 +125,8 @@ class Rejected(Exception):
 
 @dataclass(frozen=True)
 class Source:
-    """A set as the program reads it: a file, or the stem of a county's nine files in capitals. The name is the user's, and the shown names
-    are those of the nine files."""
+    """A set as the program reads it: a file, or the stem of a county's nine files in capitals. name is the user's, and shown are
+    the user's names of the nine files."""
 
     name: str
     place: str
@@ -271,7 +271,7 @@ def copied(pieces: Iterator[bytes], size: int, resources: Resources, order: Orde
 
 
 def shown_names(county: County) -> tuple[str, ...]:
-    """Returns the names of a county's nine files. One that isn't there, or is in a zip, has that of its type."""
+    """Returns the user's names of a county's nine files. A file that isn't there or is in a zip is named by its type."""
     folder = parted(county.stem)[0]
     names = {kind: joined(folder, parted(file.place)[1]) for kind, file in county.files.items()}
     return tuple(names.get(kind, file_name(county.stem, kind)) for kind in TYPES)

@@ -67,8 +67,8 @@ HEADINGS.update({f"# {' '.join(flags)}".encode(): flags for flags in FLAG_SETS i
 
 class Line(NamedTuple):
     """A county of a manifest. One that was refused or has failed has the refusal, or the reason after `failed: `, and no fingerprint. The
-    sources are the size and the time of each of its files, if the manifest has them. A folder that couldn't be listed has a line like a
-    failed county, and a stem that ends with a slash."""
+    sources are the size and the time of each of its files, if the manifest has them. A folder that couldn't be listed has a line like
+    that of a failed county, with a slash at the end of its stem."""
 
     fingerprint: str
     stem: str
@@ -90,7 +90,7 @@ class Line(NamedTuple):
         return bool(self.refusal) and self.stem.endswith("/")
 
     def name(self, root: str = "") -> str:
-        """Returns its name below a folder, in its only form: that of a folder ends with a slash."""
+        """Returns its name as names are compared, below a folder if one is given. The name of a folder ends with a slash."""
         name = tidy(joined(root, self.stem))
         return joined(name or ".", "") if self.is_folder else name
 
@@ -102,7 +102,7 @@ class Line(NamedTuple):
     @property
     def entry(self) -> str:
         """The lines of a county in a manifest. For sha256sum those that begin with # are comments. The sources are left out if the name
-        would be read as a reason and another name."""
+        would be taken for a reason and another name."""
         if self.refusal:
             return f"# {self.sources or UNKNOWN}  {self.refusal}  {self.stem}\n"
         comment = f"# {self.sources}  {self.stem}"

@@ -28,7 +28,7 @@ PIECE = 1 << 20
 GZIP = b"\x1f\x8b"
 LONGEST_LINE = 240
 MOST_OF_A_LINE = 400
-LEFT_BY_A_MAC = re.compile(r"(?:.*/)?(?:__MACOSX/|\._|\.DS_Store$)")  # members of a zip
+LEFT_OUT = re.compile(r"(?:.*/)?(?:__MACOSX/|lost\+found/|\._|\.DS_Store$)")  # members of a zip
 
 
 @dataclass(frozen=True)
@@ -157,7 +157,7 @@ def local_entry(item: os.DirEntry[str]) -> Entry:
         is_folder = item.is_dir()
         trouble = "" if is_folder or item.is_file() else "isn't a regular file"
         return Entry(item.name, is_folder, item.stat().st_size, trouble)
-    except OSError as error:  # a folder that may be listed, and not entered, still tells which names in it are folders
+    except OSError as error:  # a folder that can be listed but not entered still tells which names are folders
         return Entry(item.name, is_folder, None, f"can't be read: {reason(error)}")
 
 
@@ -237,7 +237,7 @@ def members_of(archive: zipfile.ZipFile) -> dict[str, zipfile.ZipInfo]:
     """Returns the files of the one county in a zip by their types, in either case of their names; or the one file with all
     records, by no type. Raises Unreadable."""
     counties: dict[str, dict[str, list[zipfile.ZipInfo]]] = {}
-    members = [member for member in archive.infolist() if not LEFT_BY_A_MAC.match(member.filename)]
+    members = [member for member in archive.infolist() if not LEFT_OUT.match(member.filename)]
     for member in members:
         kind = kind_of(member.filename)
         if kind in [*TYPES]:
